@@ -1,0 +1,87 @@
+-- Document 01, "The requests": the few changes of a queue, of the sequence and of the field that requests are made of.
+use mathlib.Core.Bool.{Bool, true, false, cond}
+use mathlib.Core.List.{List, [], _∷_, _++_, map}
+use Prim.Native.Nat.{ℕ, zero, suc, _+_, _-_}
+use lib.Dec.{eqb, ltb}
+use lib.ListN.{length, drop, take, set}
+use lib.Ieee.{Float}
+use Rattle.leg.specs.Progress.{progressAfter}
+use Rattle.field.specs.declared.Aircraft.{Aircraft}
+use Rattle.field.specs.declared.Zone.{Zone}
+use Rattle.field.specs.declared.Sequence.{Sequence}
+use Rattle.field.specs.declared.Legs.{Legs}
+use Rattle.field.specs.declared.Field.{Field}
+use Rattle.field.specs.Boxes.{nobody, orderOf, isFlyingZone, legOf, withProgress}
+
+-- ---- a queue
+
+-- the head taken off: those behind it move up by one place; an empty queue stays as it is
+unfoldable pub withoutHead : Zone → Zone
+withoutHead q =
+    cond (eqb (q .length) 0) q
+    (record { aircraft = drop 1 (q .aircraft) ++ (nobody ∷ []); length = q .length - 1 })
+
+-- an aircraft put at the tail; a full queue stays as it is
+unfoldable pub withTail : Zone → Aircraft → Zone
+withTail q a =
+    cond (ltb (q .length) 4)
+    (record { aircraft = set (q .aircraft) (q .length) a; length = q .length + 1 })
+    q
+
+-- ---- the sequence
+
+-- a number appended; a full sequence stays as it is
+unfoldable pub appended : Sequence → ℕ → Sequence
+appended s number =
+    cond (ltb (s .length) 4)
+    (record { numbers = set (s .numbers) (s .length) number; length = s .length + 1 })
+    s
+
+-- how many stand before a number in a list; the list's length where it is absent
+abbrev pub before : ℕ → List ℕ → ℕ
+before number [] = 0
+before number (n ∷ ns) = cond (eqb n number) 0 (suc (before number ns))
+
+-- a number removed, the first where it stands twice: those behind it move up by one place; where it is absent the sequence stays
+-- as it is
+unfoldable pub removed : Sequence → ℕ → Sequence
+removed s number =
+    let k = before number (orderOf s) in
+    cond (ltb k (length (orderOf s)))
+    (record { numbers = take k (s .numbers) ++ drop (suc k) (s .numbers) ++ (0 ∷ []); length = s .length - 1 })
+    s
+
+-- ---- the field
+
+-- the list with x at place z, from 1; what is no place leaves it as it is
+abbrev pub setFromOne {ℓ} : {A : Type ℓ} → List A → ℕ → A → List A
+setFromOne xs zero x = xs
+setFromOne xs (suc i) x = set xs i x
+
+-- the field with another zone z; what is no zone leaves it as it is
+unfoldable pub withZone : Field → ℕ → Zone → Field
+withZone f z q = record { zones = setFromOne (f .zones) z q; sequence = f .sequence; next = f .next; legs = f .legs }
+
+-- the field with another sequence and next fix
+unfoldable pub withSequence : Field → Sequence → ℕ → Field
+withSequence f s next = record { zones = f .zones; sequence = s; next = next; legs = f .legs }
+
+-- ---- a tick
+
+-- an aircraft of a zone with this leg after a tick
+unfoldable pub tickedAircraft : Float → ℕ → Aircraft → Aircraft
+tickedAircraft leg amount a = withProgress a (progressAfter (a .progress) (a .speed) amount leg)
+
+-- a zone with this leg after a tick
+unfoldable pub tickedZone : Float → ℕ → Zone → Zone
+tickedZone leg amount q = record { aircraft = map (tickedAircraft leg amount) (q .aircraft); length = q .length }
+
+-- the zones after a tick, the first of them zone z: those that are flown in, and the others as they were
+abbrev pub tickedFrom : Legs → ℕ → ℕ → List Zone → List Zone
+tickedFrom legs amount z [] = []
+tickedFrom legs amount z (q ∷ qs) = cond (isFlyingZone z) (tickedZone (legOf legs z) amount q) q ∷ tickedFrom legs amount (suc z) qs
+
+-- "everyone flying advances"
+unfoldable pub ticked : Field → ℕ → Field
+ticked f amount =
+    record { zones = tickedFrom (f .legs) amount 1 (f .zones); sequence = f .sequence; next = f .next; legs = f .legs }

@@ -1,0 +1,5 @@
+pub mod Boxes
+pub mod Counts
+pub mod Find
+pub mod Bounds
+pub mod Edits

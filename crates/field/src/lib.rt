@@ -1,0 +1,45 @@
+// The landing field: thirteen zones, the landing sequence, the next fix and the legs, by value.
+use leg::Progress;
+
+// Document 01's aircraft: a number (never 0), a fix (the side for its missed approach), a speed in 64ths of a mile
+// per minute, and a progress.
+pub struct Aircraft {
+    pub number: u16,
+    pub fix: u8,
+    pub speed: u16,
+    pub progress: Progress,
+}
+
+// Document 01's zone: a first-in first-out queue kept as a fixed array with its length, the head at place 0.
+pub struct Zone {
+    pub aircraft: [Aircraft; 4],
+    pub length: usize,
+}
+
+// Document 01's landing sequence: the numbers of everyone in the operation area in order, first to land first.
+pub struct Sequence {
+    pub numbers: [u16; 4],
+    pub length: usize,
+}
+
+// Document 01's leg lengths in miles, both sides alike.
+pub struct Legs {
+    pub missed: f64,
+    pub base: f64,
+    pub intermediate: f64,
+    pub final_approach: f64,
+}
+
+// Document 01's field. Zone 1 stands at index 0 of `zones`, zone 13 at index 12.
+pub struct Field {
+    pub zones: [Zone; 13],
+    pub sequence: Sequence,
+    pub next: u8,
+    pub legs: Legs,
+}
+
+// Where an aircraft is: its zone, and its place in the zone's queue from 1. Zone 0 and place 0 where it is not on the field.
+pub struct Place {
+    pub zone: usize,
+    pub place: usize,
+}
