@@ -1,0 +1,134 @@
+-- Document 01, "Played by hand": the marked cases, each a list of requests from the empty field, with the answer to the last of them
+-- and, where the paper says more, a test of the field after it.
+use mathlib.Core.Bool.{Bool, true, false, _&&_}
+use mathlib.Core.List.{List, [], _∷_}
+use Prim.Native.Nat.{ℕ}
+use lib.Dec.{eqb}
+use Rattle.leg.specs.Progress.{whole, sixtyFourths, flownOut}
+use Rattle.request.specs.declared.Request.{Request}
+use Rattle.field.specs.declared.Legs.{Legs}
+use Rattle.field.specs.declared.Field.{Field}
+use Rattle.field.specs.Boxes.{emptyField, orderOf}
+use Rattle.field.specs.Find.{placeOf, aircraftAt}
+use Rattle.rules.specs.declared.Answer.{Answer}
+use Rattle.rules.specs.Step.{numberAndZeros}
+use Rattle.rules.specs.Play.{fieldAfter, played}
+
+-- a request by its four parts
+abbrev pub ask : ℕ → ℕ → ℕ → ℕ → Request
+ask kind side number amount = record { kind = kind; side = side; number = number; amount = amount }
+
+-- an answer by its parts after the number 0
+abbrev pub says : ℕ → ℕ → ℕ → ℕ → ℕ → Answer
+says aircraft zone fix leader along = record { number = 0; aircraft = aircraft; zone = zone; fix = fix; leader = leader; along = along }
+
+-- four legs of so many 64ths of a mile
+abbrev pub allLegs : ℕ → Legs
+allLegs k = record { missed = sixtyFourths k; base = sixtyFourths k; intermediate = sixtyFourths k; «final_approach» = sixtyFourths k }
+
+pub record Case : Type 0 where
+  pub leg : ℕ
+  pub requests : List Request
+  pub answer : Answer
+  pub after : Field → Bool
+
+-- ---- tests of the field
+abbrev pub anyField : Field → Bool
+anyField f = true
+
+abbrev pub sameNumbers : List ℕ → List ℕ → Bool
+sameNumbers [] [] = true
+sameNumbers [] (n ∷ ns) = false
+sameNumbers (m ∷ ms) [] = false
+sameNumbers (m ∷ ms) (n ∷ ns) = eqb m n && sameNumbers ms ns
+
+abbrev pub inOrder : List ℕ → Field → Bool
+inOrder ns f = sameNumbers (orderOf (f .sequence)) ns
+
+abbrev pub stands : ℕ → ℕ → Field → Bool
+stands number zone f = eqb (placeOf f number .zone) zone
+
+abbrev pub hasFlown : ℕ → ℕ → Field → Bool
+hasFlown zone miles f = flownOut (aircraftAt f zone 1 .progress) (whole miles)
+
+-- ---- the way to final and back, by aircraft 7 and others on legs of one mile at one mile a minute
+
+-- from 3000 or 2000 to base
+abbrev pub toBase : ℕ → List Request → List Request
+toBase n rest = ask 3 0 n 0 ∷ ask 4 0 n 0 ∷ rest
+
+-- from base to final, each leg flown out by a tick
+abbrev pub toFinal : ℕ → List Request → List Request
+toFinal n rest = ask 12 0 0 64 ∷ ask 5 0 n 0 ∷ ask 12 0 0 64 ∷ ask 6 0 n 0 ∷ rest
+
+abbrev pub marked : List Case
+marked =
+    -- "Empty field, vertical right: zone 1, fix 1."
+    record { leg = 64; requests = ask 1 1 7 64 ∷ []; answer = says 7 1 1 0 0; after = anyField }
+    -- "A second aircraft to the right: 20."
+    ∷ record { leg = 64; requests = ask 1 1 7 64 ∷ ask 1 1 8 64 ∷ []; answer = numberAndZeros 20; after = anyField }
+    -- "Left instead: zone 2, fix 2, leader the first."
+    ∷ record { leg = 64; requests = ask 1 1 7 64 ∷ ask 1 2 8 64 ∷ []; answer = says 8 2 2 7 0; after = anyField }
+    -- "Same number again: 11."
+    ∷ record { leg = 64; requests = ask 1 1 7 64 ∷ ask 1 2 7 64 ∷ []; answer = numberAndZeros 11; after = anyField }
+    -- "Lateral right on empty: zone 5."
+    ∷ record { leg = 64; requests = ask 2 1 7 64 ∷ []; answer = says 7 5 1 0 0; after = anyField }
+    -- "Vertical right after it: 19; lateral right after it: 16."
+    ∷ record { leg = 64; requests = ask 2 1 7 64 ∷ ask 1 1 8 64 ∷ []; answer = numberAndZeros 19; after = anyField }
+    ∷ record { leg = 64; requests = ask 2 1 7 64 ∷ ask 2 1 8 64 ∷ []; answer = numberAndZeros 16; after = anyField }
+    -- "Its approach when alone: zone 9."
+    ∷ record { leg = 64; requests = ask 2 1 7 64 ∷ ask 4 0 7 0 ∷ []; answer = says 7 9 1 0 0; after = anyField }
+    -- "Alone on final, fix 1, miss: zone 7, fix 1."
+    ∷ record {
+      leg = 64;
+      requests = ask 1 1 7 64 ∷ toBase 7 (toFinal 7 (ask 10 0 7 0 ∷ []));
+      answer = says 7 7 1 0 0;
+      after = anyField;
+    }
+    -- "Two in sequence, fixes 1, 2, the first misses: zone 7, fix 1 and last."
+    ∷ record {
+      leg = 64;
+      requests = ask 1 1 7 64 ∷ ask 1 2 8 64 ∷ toBase 7 (toFinal 7 (ask 10 0 7 0 ∷ []));
+      answer = says 7 7 1 8 0;
+      after = inOrder (8 ∷ 7 ∷ []);
+    }
+    -- "Hold with 3000 taken and 2000 free: both move, `along` set."
+    ∷ record {
+      leg = 64;
+      requests = ask 1 1 7 64 ∷ ask 3 0 7 0 ∷ ask 1 1 8 64 ∷ ask 4 0 7 0 ∷ toFinal 7 (ask 10 0 7 0 ∷ ask 12 0 0 64 ∷ ask 11 0 7 0 ∷ []);
+      answer = says 7 1 1 8 8;
+      after = λ f. stands 7 1 f && stands 8 3 f;
+    }
+    -- "Three in sequence: first and second on base left, third at 2000 right, approach: 23."
+    ∷ record {
+      leg = 64;
+      requests = ask 1 2 7 64 ∷ ask 3 0 7 0 ∷ ask 1 2 8 64 ∷ ask 4 0 7 0 ∷ ask 1 1 9 64 ∷ toBase 8 (toBase 9 []);
+      answer = numberAndZeros 23;
+      after = λ f. stands 7 10 f && stands 8 10 f && stands 9 3 f;
+    }
+    -- "Speed 512, tick 64, leg 4096: 8 miles."
+    ∷ record {
+      leg = 4096;
+      requests = ask 1 1 7 512 ∷ toBase 7 (ask 12 0 0 64 ∷ []);
+      answer = numberAndZeros 0;
+      after = hasFlown 9 8;
+    }
+    ∷ []
+
+-- ---- the test of the table
+
+abbrev pub sameAnswer : Answer → Answer → Bool
+sameAnswer a b =
+    eqb (a .number) (b .number) && eqb (a .aircraft) (b .aircraft) && eqb (a .zone) (b .zone) && eqb (a .fix) (b .fix)
+    && eqb (a .leader) (b .leader) && eqb (a .along) (b .along)
+
+-- whether the last answer of a played list is this one
+abbrev pub endsWith : Answer → List (Request × Answer) → Bool
+endsWith a [] = false
+endsWith a (p ∷ []) = sameAnswer (p .1) a
+endsWith a (p ∷ q ∷ ps) = endsWith a (q ∷ ps)
+
+abbrev pub caseHolds : Case → Bool
+caseHolds c =
+    endsWith (c .answer) (played (emptyField (allLegs (c .leg))) (c .requests))
+    && c .after (fieldAfter (emptyField (allLegs (c .leg))) (c .requests))

@@ -1,0 +1,5 @@
+pub mod Kinds
+pub mod Step
+pub mod Play
+pub mod Demand
+pub mod Cases

@@ -1,0 +1,49 @@
+-- Document 01, "Any list of requests": playing a list, and the counts over its requests and answers.
+use mathlib.Core.Bool.{Bool, true, false, cond, not, _&&_, _||_}
+use mathlib.Core.List.{List, [], _∷_}
+use Prim.Native.Nat.{ℕ, _+_}
+use lib.Dec.{eqb}
+use Rattle.request.specs.Input.{within, isEntry}
+use Rattle.request.specs.declared.Request.{Request}
+use Rattle.field.specs.declared.Field.{Field}
+use Rattle.rules.specs.declared.Answer.{Answer}
+use Rattle.rules.specs.Step.{stepOf}
+
+-- "Each request gets the field that the one before returned": the field after the list
+abbrev pub fieldAfter : Field → List Request → Field
+fieldAfter f [] = f
+fieldAfter f (r ∷ rs) = fieldAfter (stepOf f r .field) rs
+
+-- each request of the list with its answer
+abbrev pub played : Field → List Request → List (Request × Answer)
+played f [] = []
+played f (r ∷ rs) = (r, stepOf f r .answer) ∷ played (stepOf f r .field) rs
+
+-- whether an answer accepts its request, one of the kinds
+abbrev pub isAccepted : (ℕ → Bool) → Request × Answer → Bool
+isAccepted kinds p = eqb (p .1 .number) 0 && kinds (p .0 .kind)
+
+-- the answers with number 0 to requests of the kinds
+abbrev pub accepted : (ℕ → Bool) → List (Request × Answer) → ℕ
+accepted kinds [] = 0
+accepted kinds (p ∷ ps) = cond (isAccepted kinds p) 1 0 + accepted kinds ps
+
+-- "Let in: the answers with number 0 to kinds 1 and 2 of the list."
+abbrev pub letIn : List (Request × Answer) → ℕ
+letIn = accepted isEntry
+
+-- "Taxied off: those to kind 8."
+abbrev pub taxiedOff : List (Request × Answer) → ℕ
+taxiedOff = accepted (λ kind. eqb kind 8)
+
+-- "Exited: those to kind 9."
+abbrev pub exitedFrom : List (Request × Answer) → ℕ
+exitedFrom = accepted (λ kind. eqb kind 9)
+
+-- "misses are the answers with number 0 to kind 10"
+abbrev pub misses : List (Request × Answer) → ℕ
+misses = accepted (λ kind. eqb kind 10)
+
+-- "A move is an accepted request of kinds 3 to 11."
+abbrev pub moves : List (Request × Answer) → ℕ
+moves = accepted (within 3 11)

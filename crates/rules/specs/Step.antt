@@ -1,0 +1,93 @@
+-- Document 01, "The requests" and "Turned away by the field": the step of any request on any field.
+use mathlib.Core.Bool.{Bool, true, false, cond, not, _&&_, _||_}
+use mathlib.Core.List.{List, [], _∷_, _++_}
+use Prim.Native.Nat.{ℕ, _+_}
+use lib.Dec.{eqb, leb}
+use Rattle.request.specs.Input.{firstRefused, inputNumber}
+use Rattle.request.specs.declared.Request.{Request}
+use Rattle.field.specs.declared.Field.{Field}
+use Rattle.field.specs.Boxes.{at3000, at2000, lateral, intermediate, finalApproach, runway, progressInto}
+use Rattle.field.specs.Find.{placeOf, fixOf, leaderOf}
+use Rattle.field.specs.Bounds.{withinBounds}
+use Rattle.field.specs.Edits.{ticked}
+use Rattle.rules.specs.declared.Answer.{Answer}
+use Rattle.rules.specs.declared.Stepped.{Stepped}
+use Rattle.rules.specs.Kinds.{zoneBefore, headChecks, verticalChecks, lateralChecks, descendChecks, approachChecks, mergeChecks, flownOutChecks, landChecks, exitChecks, moved, headGone, entered, approached, landed, exited, missedApproach, held, heldAlong}
+
+-- the entry of the twelve, for kinds 1 to 12, that belongs to the kind; the last for any other number
+abbrev pub byKind {ℓ} : {A : Type ℓ} → ℕ → A → A → A → A → A → A → A → A → A → A → A → A → A
+byKind kind k1 k2 k3 k4 k5 k6 k7 k8 k9 k10 k11 k12 =
+    cond (eqb kind 1) k1 (cond (eqb kind 2) k2 (cond (eqb kind 3) k3 (cond (eqb kind 4) k4 (cond (eqb kind 5) k5 (cond (eqb kind 6) k6
+    (cond (eqb kind 7) k7 (cond (eqb kind 8) k8 (cond (eqb kind 9) k9 (cond (eqb kind 10) k10 (cond (eqb kind 11) k11 k12))))))))))
+
+-- what each kind needs of the field, in order
+unfoldable pub checksOf : Field → Request → List (ℕ × Bool)
+checksOf f r =
+    byKind (r .kind)
+    (verticalChecks f r)
+    (lateralChecks f r)
+    (descendChecks f r)
+    (approachChecks f r)
+    (mergeChecks f r)
+    (flownOutChecks f r)
+    (landChecks f r)
+    (headChecks f r)
+    (exitChecks f r)
+    (headChecks f r)
+    (flownOutChecks f r)
+    []
+
+-- what each kind does to the field
+unfoldable pub effectOf : Field → Request → Field
+effectOf f r =
+    byKind (r .kind)
+    (entered f r (at3000 (r .side)))
+    (entered f r (lateral (r .side)))
+    (moved f (zoneBefore f r) (at2000 (zoneBefore f r)))
+    (approached f r)
+    (moved f (zoneBefore f r) intermediate)
+    (moved f intermediate finalApproach)
+    (landed f r)
+    (headGone f runway)
+    (exited f r)
+    (missedApproach f r)
+    (held f r)
+    (ticked f (r .amount))
+
+-- the number of a request on a field: 0 where it is accepted, else the first of "Turned away by the request" and then of "Turned away
+-- by the field", in order: "10 the field handed in breaks a bound", what the kind needs, "25 the field after the step would break a bound"
+unfoldable pub numberOf : Field → Request → ℕ
+numberOf f r =
+    cond (eqb (inputNumber r) 0)
+    (firstRefused ((10, withinBounds f) ∷ checksOf f r ++ ((25, withinBounds (effectOf f r)) ∷ [])))
+    (inputNumber r)
+
+-- "A refusal answers its number and zeros"
+unfoldable pub numberAndZeros : ℕ → Answer
+numberAndZeros number = record { number = number; aircraft = 0; zone = 0; fix = 0; leader = 0; along = 0 }
+
+-- "An accepted answer has number 0, then the aircraft, its zone, fix and leader after the step (0 if none), and in `along` the other
+-- aircraft that a hold moved (0 if none)": of an aircraft on the field after the step
+unfoldable pub acceptance : Field → ℕ → ℕ → Answer
+acceptance f number along =
+    record {
+      number = 0;
+      aircraft = number;
+      zone = placeOf f number .zone;
+      fix = fixOf f number;
+      leader = leaderOf (f .sequence) number;
+      along = along;
+    }
+
+-- the answer to an accepted request: "A tick answers zeros."
+unfoldable pub answerOf : Field → Request → Answer
+answerOf f r =
+    cond (eqb (r .kind) 12) (numberAndZeros 0)
+    (acceptance (effectOf f r) (r .number) (cond (eqb (r .kind) 11) (heldAlong f r) 0))
+
+-- the step: "A refusal answers its number and zeros; the field is the one handed in."
+unfoldable pub stepOf : Field → Request → Stepped
+stepOf f r =
+    cond (eqb (numberOf f r) 0)
+    (record { answer = answerOf f r; field = effectOf f r })
+    (record { answer = numberAndZeros (numberOf f r); field = f })
