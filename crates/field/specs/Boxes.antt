@@ -1,7 +1,7 @@
 -- Document 01, "The boxes": sides, zones, queues, aircraft and the empty field.
 use mathlib.Core.Bool.{Bool, true, false, cond, not, _&&_, _||_}
 use mathlib.Core.List.{List, [], _∷_, _++_, map}
-use Prim.Native.Nat.{ℕ, zero, suc, _+_}
+use Prim.Native.Nat.{ℕ, zero, suc, _+_, _%_}
 use lib.Dec.{eqb, leb}
 use lib.ListN.{getD, take, replicate}
 use lib.Ieee.{Float}
@@ -55,6 +55,10 @@ finalApproach = 12
 
 abbrev pub runway : ℕ
 runway = 13
+
+-- the side of a holding, lateral, missed or base zone
+unfoldable pub sideOf : ℕ → ℕ
+sideOf z = cond (eqb (z % 2) 1) right left
 
 -- n zones in the order of their numbers, z first
 abbrev pub zonesFrom : ℕ → ℕ → List ℕ

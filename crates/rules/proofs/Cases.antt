@@ -5,12 +5,12 @@ use lib.Dec.{T}
 use lib.Ieee.{add, mul, div, ofInt, round, lt, le, eq}
 use Rattle.leg.specs.Progress.{advanced}
 use Rattle.request.specs.Input.{kindAllowed, sideAllowed, numberAllowed, amountAllowed, inputNumber}
-use Rattle.field.specs.Boxes.{isSide, opposite, isFlyingZone, zoneOf, queueOf, inZone, orderOf, progressInto, entering, withProgress, withFix, legOf, flownOutIn, emptyField}
+use Rattle.field.specs.Boxes.{isSide, sideOf, opposite, isFlyingZone, zoneOf, queueOf, inZone, orderOf, progressInto, entering, withProgress, withFix, legOf, flownOutIn, emptyField}
 use Rattle.field.specs.Counts.{howMany, howManyWithFix, presentOn, inOperation, inArea, perFix, approachHolds, countedFor, potentialOf}
 use Rattle.field.specs.Find.{findIn, placeOf, aircraftAt, fixOf, isFirst, leaderOf, leaderZone}
 use Rattle.field.specs.Bounds.{every, boundA, boundB, lateralRule, boundC, boundD, numbersDiffer, sequenceExact, finalFirst, isNobody, zoneKept, sequenceKept, boundE, boundF, fitsZone, legalLegs, boundG, withinBounds}
 use Rattle.field.specs.Edits.{withoutHead, withTail, appended, removed, withZone, withSequence, tickedAircraft, tickedZone, ticked}
-use Rattle.rules.specs.Kinds.{sideOf, startsFrom, mayApproach, baseFree, verticalChecks, lateralChecks, descendChecks, approachChecks, mergeChecks, flownOutChecks, landChecks, exitChecks, moved, headGone, outOfSequence, fixTaken, entered, approached, landed, exited, fixAfterMiss, missedApproach, held, heldAlong}
+use Rattle.rules.specs.Kinds.{startsFrom, mayApproach, baseFree, verticalChecks, lateralChecks, descendChecks, approachChecks, mergeChecks, flownOutChecks, landChecks, exitChecks, moved, headGone, outOfSequence, fixTaken, entered, approached, landed, exited, fixAfterMiss, missedApproach, held, heldAlong}
 use Rattle.rules.specs.Step.{checksOf, effectOf, numberOf, numberAndZeros, acceptance, answerOf, stepOf}
 use Rattle.rules.specs.Cases.{marked, caseHolds}
 

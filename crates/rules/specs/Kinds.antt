@@ -1,7 +1,7 @@
 -- Document 01, "The requests" and "Turned away by the field": what each kind of request needs and does.
 use mathlib.Core.Bool.{Bool, true, false, cond, not, _&&_, _||_}
 use mathlib.Core.List.{List, [], _∷_, _++_}
-use Prim.Native.Nat.{ℕ, _+_, _-_, _%_}
+use Prim.Native.Nat.{ℕ, _+_, _-_}
 use lib.Dec.{eqb, leb, ltb}
 use lib.ListN.{length}
 use Rattle.request.specs.Input.{within}
@@ -9,7 +9,7 @@ use Rattle.request.specs.declared.Request.{Request}
 use Rattle.field.specs.declared.Aircraft.{Aircraft}
 use Rattle.field.specs.declared.Sequence.{Sequence}
 use Rattle.field.specs.declared.Field.{Field}
-use Rattle.field.specs.Boxes.{right, left, opposite, at3000, at2000, lateral, missed, base, intermediate, finalApproach, runway, zoneOf, orderOf, progressInto, entering, withProgress, withFix, flownOutIn}
+use Rattle.field.specs.Boxes.{opposite, sideOf, at3000, at2000, lateral, missed, base, intermediate, finalApproach, runway, zoneOf, orderOf, progressInto, entering, withProgress, withFix, flownOutIn}
 use Rattle.field.specs.Counts.{howMany, approachHolds, potentialOf}
 use Rattle.field.specs.Find.{placeOf, aircraftAt, isFirst, leaderZone}
 use Rattle.field.specs.Bounds.{isEmpty}
@@ -20,10 +20,6 @@ use Rattle.field.specs.Edits.{withoutHead, withTail, appended, removed, withZon
 -- the zone of a request's aircraft; 0 where it is not on the field
 abbrev pub zoneBefore : Field → Request → ℕ
 zoneBefore f r = placeOf f (r .number) .zone
-
--- the side of a holding, lateral, missed or base zone
-unfoldable pub sideOf : ℕ → ℕ
-sideOf z = cond (eqb (z % 2) 1) right left
 
 -- the zones that each kind starts from
 unfoldable pub startsFrom : ℕ → ℕ → Bool
