@@ -13,7 +13,8 @@ pub enum Progress {
 pub fn advance(miles: f64, speed: u16, amount: u16, leg: f64) -> f64
     ensures { λ r. ⌜ r ≡ advanced miles speed amount leg ⌝ }
 {
-    let sum = miles + (speed as f64 / 64.0) * (amount as f64 / 64.0);
+    let step = (speed as f64 / 64.0) * (amount as f64 / 64.0);
+    let sum = miles + step;
     if sum < leg { sum } else { leg }
 }
 
