@@ -17,7 +17,7 @@ use Rattle.leg.proofs.Floats.{Worth, lt-false, lt→le, le-self, le-up,
 use Rattle.leg.proofs.Grid.{whole-value, sixtyFourths-value, parts, parts-value, upTo-yes, upTo-no, step-pos, advanced-is}
 
 -- ---- a legal leg is finite and above zero, and no more than 64 miles
-pub legal-low : (leg : Float) → T (legalLeg leg) → T (le (sixtyFourths 1) leg)
+legal-low : (leg : Float) → T (legalLeg leg) → T (le (sixtyFourths 1) leg)
 legal-low leg l = and-l (le (sixtyFourths 1) leg) (le leg (whole 64)) l
 
 pub legal-high : (leg : Float) → T (legalLeg leg) → T (le leg (whole 64))

@@ -24,7 +24,7 @@ parts n = round binary64 false n 4096
 pub parts-value : (n : ℕ) → n < 2 ^ 53 → HasValue (parts n) false n 4096
 parts-value n h = dyadic 12 n (lit≤ tt) h
 
-pub parts-mono : (m n : ℕ) → m ≤ n → T (le (parts m) (parts n))
+parts-mono : (m n : ℕ) → m ≤ n → T (le (parts m) (parts n))
 parts-mono m n h = round-mono binary64 m 4096 n 4096 (lit< tt) (lit< tt) (mul-le-mul-right 4096 h)
 
 -- ---- whole numbers, and n / 64
@@ -41,7 +41,7 @@ pub sixtyFourths-value : (n : ℕ) → n ≤ 4096 → HasValue (sixtyFourths n) 
 sixtyFourths-value n h = subst (λ (x : Float). HasValue x false n 64) (sym (sixtyFourths-is n h)) (dyadic 6 n (lit≤ tt) (lt-of-le-of-lt h (lit< tt)))
 
 -- a leg of k / 64 miles is on the grid
-pub leg-on-grid : (k : ℕ) → k ≤ 4096 → sixtyFourths k ≡ parts (64 * k)
+leg-on-grid : (k : ℕ) → k ≤ 4096 → sixtyFourths k ≡ parts (64 * k)
 leg-on-grid k h = sixtyFourths-is k h ∙ round-same binary64 false k 64 (64 * k) 4096 (lit< tt) (lit< tt) (omega arith)
 
 -- ---- the clamp
@@ -75,7 +75,7 @@ module _ {speed amount : ℕ} (s : Between 1 512 speed) (a : Between 1 64 amount
   pub step-pos : 0 < speed * amount
   step-pos = mul-pos (s .least) (a .least)
 
-  pub step-small : speed * amount ≤ 32768
+  step-small : speed * amount ≤ 32768
   step-small = mul-le-mul (s .most) (a .most)
 
   -- from b / c miles: the sum b / c + speed * amount / 4096 is rounded once
