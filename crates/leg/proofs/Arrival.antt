@@ -51,11 +51,20 @@ along-tick leg n x {speed} {amount} l s a w (inr h) = subst (Along leg (n + spee
     is : advanced x speed amount leg ≡ upTo leg y
     is = advanced-is s a x leg (num x) (den x) (den-pos x) worth
 
+    behind : n * den x ≤ num x * 4096
+    behind = worth-of-le (parts n) x n 4096 (num x) (den x) (parts-value n (omega arith)) worth (h .1)
+
     on : T (le (parts (n + speed * amount)) y)
-    on = round-mono binary64 (n + speed * amount) 4096 (num x * 4096 + speed * amount * den x) (den x * 4096) (lit< tt) (mul-pos (den-pos x) (lit< tt)) (ahead n (speed * amount) (num x) (den x) (worth-of-le (parts n) x n 4096 (num x) (den x) (parts-value n (omega arith)) worth (h .1)))
+    on =
+        round-mono binary64 (n + speed * amount) 4096 (num x * 4096 + speed * amount * den x) (den x * 4096) (lit< tt) (mul-pos (den-pos x) (lit< tt))
+        (ahead n (speed * amount) (num x) (den x) behind)
+
+    -- had the ticks flown 64 miles, y would not be below the leg
+    short : lt y leg ≡ true → n + speed * amount < 262144
+    short e = lt-of-not-le (λ (g : 262144 ≤ n + speed * amount). true≢false (sym e ∙ lt-false y leg p (le-up leg (parts (n + speed * amount)) y p (far leg l (n + speed * amount) g) on)))
 
     go : (b : Bool) → lt y leg ≡ b → Along leg (n + speed * amount) (upTo leg y)
-    go true e = inr (lt-of-not-le (λ (g : 262144 ≤ n + speed * amount). true≢false (sym e ∙ lt-false y leg p (le-up leg (parts (n + speed * amount)) y p (far leg l (n + speed * amount) g) on))), rw (upTo-yes leg y e) on)
+    go true e = inr (short e, rw (upTo-yes leg y e) on)
     go false e = inl (rw (upTo-no leg y e) (eq-self leg p))
 
 none : (n s : ℕ) → n ≡ n + s * 0
