@@ -1,5 +1,6 @@
-// An aircraft's progress along a leg, in miles as an `f64`. A tick of `amount` 64ths of a minute at
+// An aircraft's progress along one leg, in miles as an `f64`. A tick of `amount` 64ths of a minute at
 // `speed` 64ths of a mile a minute adds (speed / 64) * (amount / 64) miles, and stops at the leg's length.
+// Every function is total: on every `u16`, and on every `f64`, NaN and the infinities included.
 ghost use mathlib.Core.Path.{_≡_};
 ghost use Rattle.leg.specs.Progress.{advanced, progressAfter, flownOut, withinLeg, legalLeg, sixtyFourths};
 
@@ -9,15 +10,16 @@ pub enum Progress {
     Flying(f64),
 }
 
-// The miles flown after a tick: the product is rounded once, the sum once, and no more than the leg.
+// The miles flown after a tick: the product rounded once, the sum rounded once, and no more than the leg.
 pub fn advance(miles: f64, speed: u16, amount: u16, leg: f64) -> f64
     ensures { λ r. ⌜ r ≡ advanced miles speed amount leg ⌝ }
 {
-    let sum = miles + (speed as f64 / 64.0) * (amount as f64 / 64.0);
+    let step = (speed as f64 / 64.0) * (amount as f64 / 64.0);
+    let sum = miles + step;
     if sum < leg { sum } else { leg }
 }
 
-// The progress after a tick: one who waits goes on waiting.
+// The progress after a tick: an aircraft that waits goes on waiting.
 pub fn progress_after(p: Progress, speed: u16, amount: u16, leg: f64) -> Progress
     ensures { λ r. ⌜ r ≡ progressAfter p speed amount leg ⌝ }
 {
@@ -27,7 +29,7 @@ pub fn progress_after(p: Progress, speed: u16, amount: u16, leg: f64) -> Progres
     }
 }
 
-// Whether the whole leg is flown.
+// Whether the leg is flown out: the miles equal its length.
 pub fn flown_out(p: Progress, leg: f64) -> bool
     ensures { λ r. ⌜ r ≡ flownOut p leg ⌝ }
 {
@@ -37,7 +39,7 @@ pub fn flown_out(p: Progress, leg: f64) -> bool
     }
 }
 
-// Whether the miles flown lie from 0 to the leg's length.
+// Whether the miles flown, if any, lie from 0 to the leg's length.
 pub fn within(p: Progress, leg: f64) -> bool
     ensures { λ r. ⌜ r ≡ withinLeg p leg ⌝ }
 {

@@ -1,6 +1,6 @@
 -- `leg::advance` meets its contract. Each arm returns what `upTo` picks where the test `sum < leg` is as the arm found it. Assumes nothing.
 use mathlib.Core.Path.{_≡_, refl, sym, ap, _∙_}
-use mathlib.Core.Bool.{Bool, true, false, cond}
+use mathlib.Core.Bool.{Bool, cond}
 use Prim.Native.Nat.{ℕ}
 use lib.IntN.{pos}
 use lib.Ieee.{Float, binary64, add, mul, div, ofInt, ofBits, lt}
@@ -20,11 +20,11 @@ as-written : (miles : Float) (speed amount : ℕ) (leg : Float)
 unfolding advanced ofBits ofInt
 as-written miles speed amount leg = refl
 
-int-to-float-sum : tie.Need-int-to-float-sum
-int-to-float-sum c = search needs
+int-to-float-step : tie.Need-int-to-float-step
+int-to-float-step c = search needs
 
-int-to-float-sum-2 : tie.Need-int-to-float-sum-2
-int-to-float-sum-2 c = search needs
+int-to-float-step-2 : tie.Need-int-to-float-step-2
+int-to-float-step-2 c = search needs
 
 returns : tie.Need-returns
 returns c =
@@ -39,4 +39,4 @@ returns-2 c =
     sym (as-written (a .miles) (a .speed) (a .amount) (a .leg) ∙ ap (λ (t : Bool). cond t sum (a .leg)) (c .if1 .left))
 
 pub advance-spec : {M : Type 1} → statement M
-advance-spec = tie.close (tie.spec int-to-float-sum int-to-float-sum-2 returns returns-2)
+advance-spec = tie.close (tie.spec int-to-float-step int-to-float-step-2 returns returns-2)

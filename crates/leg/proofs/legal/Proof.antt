@@ -1,5 +1,5 @@
 -- `leg::legal` meets its contract: each arm returns what the definition gives where the first test is as the arm found it. Assumes nothing.
-use mathlib.Core.Path.{_≡_, sym, ap, _∙_}
+use mathlib.Core.Path.{_≡_, sym, ap}
 use mathlib.Core.Bool.{Bool, _&&_}
 use lib.Ieee.{Float, binary64, le, div, ofBits, ofInt}
 use Rattle.leg.specs.Progress.{legalLeg, whole}

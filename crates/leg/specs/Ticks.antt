@@ -1,0 +1,45 @@
+-- What the theorems of `proofs/Theorems.antt` speak of besides `Progress.antt`: ranges of whole numbers, lists of ticks, and miles that are exactly a whole number of 4096ths. Definitions only.
+use Prim.Native.Nat.{ℕ, _+_, _≤_}
+use mathlib.Core.List.{List, [], _∷_}
+use mathlib.Core.Bool.{Bool, true, false}
+use lib.Ieee.{Float}
+use lib.Ieee.Exact.{HasValue}
+use lib.Ieee.Scale.{finite}
+use Rattle.leg.specs.declared.Progress.{Progress}
+use Rattle.leg.specs.declared.Progress.the-variants.{Waiting, Flying}
+use Rattle.leg.specs.Progress.{progressAfter}
+
+-- n is from low to high
+pub record Between (low high n : ℕ) : Type 0 where
+  pub least : low ≤ n
+  pub most : n ≤ high
+
+-- "4 amount: 1 to 64 for a tick", of each tick of a list
+abbrev pub TickAmounts : List ℕ → Type 0
+TickAmounts [] = Unit
+TickAmounts (amount ∷ amounts) = Between 1 64 amount × TickAmounts amounts
+
+-- "the tick amounts added up"
+abbrev pub total : List ℕ → ℕ
+total [] = 0
+total (amount ∷ amounts) = amount + total amounts
+
+-- the progress after ticks of these amounts, one after the other
+abbrev pub afterTicks : Progress → ℕ → List ℕ → Float → Progress
+afterTicks p speed [] leg = p
+afterTicks p speed (amount ∷ amounts) leg = afterTicks (progressAfter p speed amount leg) speed amounts leg
+
+-- "the miles times 4096 are exactly" n: the aircraft flies, and its miles are the fraction n / 4096 and not below zero
+abbrev pub FlownExactly : Progress → ℕ → Type 0
+FlownExactly Waiting n = ⊥
+FlownExactly (Flying miles) n = HasValue miles false n 4096
+
+-- the miles, if it flies, are neither a NaN nor an infinity
+abbrev pub finiteMiles : Progress → Bool
+finiteMiles Waiting = true
+finiteMiles (Flying miles) = finite miles
+
+-- whether it flies
+abbrev pub flying : Progress → Bool
+flying Waiting = false
+flying (Flying miles) = true
