@@ -1,0 +1,125 @@
+-- Laws of lists of numbers: who is in a list, what is all different, and what stands before a number. Assumes nothing.
+use mathlib.Core.Path.{_≡_, refl, sym, ap, _∙_, subst}
+use mathlib.Core.Logic.{_⊎_, inl, inr}
+use mathlib.Core.Bool.{Bool, true, false, cond, not, _&&_, _||_, true≢false}
+use mathlib.Core.List.{List, [], _∷_, _++_, map}
+use Prim.Native.Nat.{ℕ, zero, suc, _+_, _≤_, _<_}
+use native.Mathlib.Omega.{arith}
+use lib.Dec.{T, eqb}
+use lib.ListN.{length}
+use lib.Ieee.Fits.{and-i, and-l, and-r}
+use Rattle.field.specs.Counts.{isIn}
+use Rattle.field.specs.Find.{isHead, aheadOf}
+use Rattle.field.specs.Bounds.{every, allDifferent}
+use Rattle.order.specs.Model.{lastOr, isNil}
+use Rattle.rules.proofs.Tests.{passed, pass, failed, fail, if-true, if-false, same, flip-eqb}
+
+pub map-append {ℓ ℓ′} : {A : Type ℓ} {B : Type ℓ′} (g : A → B) (xs ys : List A) → map g (xs ++ ys) ≡ map g xs ++ map g ys
+map-append g [] ys = refl
+map-append g (x ∷ xs) ys = ap (λ l. g x ∷ l) (map-append g xs ys)
+
+-- the last element apart
+pub data Ends {A : Type 0} : List A → Type 0 where
+  nothing : Ends []
+  with-last : (xs : List A) (x : A) → Ends (xs ++ (x ∷ []))
+
+pub ends : {A : Type 0} (xs : List A) → Ends xs
+ends [] = nothing
+ends {A} (x ∷ xs) = go (ends xs)
+  where
+    go : {ys : List A} → Ends ys → Ends (x ∷ ys)
+    go nothing = with-last [] x
+    go (with-last ys y) = with-last (x ∷ ys) y
+
+-- ---- either
+pub or-false-left : (a b : Bool) → (a || b) ≡ false → a ≡ false
+or-false-left true b e = e
+or-false-left false b e = refl
+
+pub or-false-right : (a b : Bool) → (a || b) ≡ false → b ≡ false
+or-false-right true b e = absurd (true≢false e)
+or-false-right false b e = e
+
+pub or-false : {a b : Bool} → a ≡ false → b ≡ false → (a || b) ≡ false
+or-false {a} {b} p q = ap (λ (t : Bool). t || b) p ∙ q
+
+-- ---- who is in a list
+pub in-append : (n : ℕ) (xs ys : List ℕ) → isIn n (xs ++ ys) ≡ (isIn n xs || isIn n ys)
+in-append n [] ys = refl
+in-append n (x ∷ xs) ys = ap (λ (b : Bool). eqb x n || b) (in-append n xs ys) ∙ sym (assoc (eqb x n) (isIn n xs) (isIn n ys))
+  where
+    assoc : (a b c : Bool) → (a || b || c) ≡ (a || (b || c))
+    assoc true b c = refl
+    assoc false b c = refl
+
+pub absent-left : (n : ℕ) (xs ys : List ℕ) → isIn n (xs ++ ys) ≡ false → isIn n xs ≡ false
+absent-left n xs ys e = or-false-left (isIn n xs) (isIn n ys) (sym (in-append n xs ys) ∙ e)
+
+pub absent-right : (n : ℕ) (xs ys : List ℕ) → isIn n (xs ++ ys) ≡ false → isIn n ys ≡ false
+absent-right n xs ys e = or-false-right (isIn n xs) (isIn n ys) (sym (in-append n xs ys) ∙ e)
+
+pub absent-both : (n : ℕ) (xs ys : List ℕ) → isIn n xs ≡ false → isIn n ys ≡ false → isIn n (xs ++ ys) ≡ false
+absent-both n xs ys p q = in-append n xs ys ∙ or-false p q
+
+-- ---- all different
+-- one of a list of different numbers is not among the others
+pub record Alone (n : ℕ) (xs ys : List ℕ) : Type 0 where
+  pub ahead : isIn n xs ≡ false
+  pub behind : isIn n ys ≡ false
+
+pub alone : (xs : List ℕ) (n : ℕ) (ys : List ℕ) → T (allDifferent (xs ++ n ∷ ys)) → Alone n xs ys
+alone [] n ys t = record { ahead = refl; behind = failed (and-l (not (isIn n ys)) (allDifferent ys) t) }
+alone (x ∷ xs) n ys t =
+    let rest = xs ++ n ∷ ys in
+    let i = alone xs n ys (and-r (not (isIn x rest)) (allDifferent rest) t) in
+    let o = absent-right x xs (n ∷ ys) (failed (and-l (not (isIn x rest)) (allDifferent rest) t)) in
+    record { ahead = or-false (flip-eqb n x (or-false-left (eqb n x) (isIn x ys) o)) (i .ahead); behind = i .behind }
+
+-- fewer are all different too
+pub different-without : (xs : List ℕ) (n : ℕ) (ys : List ℕ) → T (allDifferent (xs ++ n ∷ ys)) → T (allDifferent (xs ++ ys))
+different-without [] n ys t = and-r (not (isIn n ys)) (allDifferent ys) t
+different-without (x ∷ xs) n ys t =
+    let rest = xs ++ n ∷ ys in
+    let o = failed (and-l (not (isIn x rest)) (allDifferent rest) t) in
+    and-i (not (isIn x (xs ++ ys))) (allDifferent (xs ++ ys))
+    (fail (absent-both x xs ys (absent-left x xs (n ∷ ys) o) (or-false-right (eqb n x) (isIn x ys) (absent-right x xs (n ∷ ys) o))))
+    (different-without xs n ys (and-r (not (isIn x rest)) (allDifferent rest) t))
+
+-- a new number among different ones
+pub different-with : (xs : List ℕ) (n : ℕ) (ys : List ℕ) → isIn n (xs ++ ys) ≡ false → T (allDifferent (xs ++ ys)) → T (allDifferent (xs ++ n ∷ ys))
+different-with [] n ys e t = and-i (not (isIn n ys)) (allDifferent ys) (fail e) t
+different-with (x ∷ xs) n ys e t =
+    let o = failed (and-l (not (isIn x (xs ++ ys))) (allDifferent (xs ++ ys)) t) in
+    and-i (not (isIn x (xs ++ n ∷ ys))) (allDifferent (xs ++ n ∷ ys))
+    (fail (absent-both x xs (n ∷ ys) (absent-left x xs ys o) (or-false (flip-eqb x n (or-false-left (eqb x n) (isIn n (xs ++ ys)) e)) (absent-right x xs ys o))))
+    (different-with xs n ys (or-false-right (eqb x n) (isIn n (xs ++ ys)) e) (and-r (not (isIn x (xs ++ ys))) (allDifferent (xs ++ ys)) t))
+
+-- ---- the first, and the one just ahead
+pub head-is : (n : ℕ) (xs ys : List ℕ) → isIn n xs ≡ false → isHead n (xs ++ n ∷ ys) ≡ isNil xs
+head-is n [] ys e = same n
+head-is n (x ∷ xs) ys e = or-false-left (eqb x n) (isIn n xs) e
+
+pub ahead-is : (d n : ℕ) (xs ys : List ℕ) → isIn n xs ≡ false → aheadOf d n (xs ++ n ∷ ys) ≡ lastOr d xs
+ahead-is d n [] ys e = if-true d (aheadOf n n ys) (same n)
+ahead-is d n (x ∷ xs) ys e = if-false d (aheadOf x n (xs ++ n ∷ ys)) (or-false-left (eqb x n) (isIn n xs) e) ∙ ahead-is x n xs ys (or-false-right (eqb x n) (isIn n xs) e)
+
+pub ahead-absent : (d n : ℕ) (xs : List ℕ) → isIn n xs ≡ false → aheadOf d n xs ≡ 0
+ahead-absent d n [] e = refl
+ahead-absent d n (x ∷ xs) e = if-false d (aheadOf x n xs) (or-false-left (eqb x n) (isIn n xs) e) ∙ ahead-absent x n xs (or-false-right (eqb x n) (isIn n xs) e)
+
+pub last-is : (d : ℕ) (xs : List ℕ) (x : ℕ) → lastOr d (xs ++ (x ∷ [])) ≡ x
+last-is d [] x = refl
+last-is d (y ∷ xs) x = last-is y xs x
+
+-- ---- every
+pub every-append {ℓ} : {A : Type ℓ} (p : A → Bool) (xs ys : List A) → T (every p xs) → T (every p ys) → T (every p (xs ++ ys))
+every-append p [] ys t u = u
+every-append p (x ∷ xs) ys t u = and-i (p x) (every p (xs ++ ys)) (and-l (p x) (every p xs) t) (every-append p xs ys (and-r (p x) (every p xs) t) u)
+
+pub every-left {ℓ} : {A : Type ℓ} (p : A → Bool) (xs ys : List A) → T (every p (xs ++ ys)) → T (every p xs)
+every-left p [] ys t = tt
+every-left p (x ∷ xs) ys t = and-i (p x) (every p xs) (and-l (p x) (every p (xs ++ ys)) t) (every-left p xs ys (and-r (p x) (every p (xs ++ ys)) t))
+
+pub every-right {ℓ} : {A : Type ℓ} (p : A → Bool) (xs ys : List A) → T (every p (xs ++ ys)) → T (every p ys)
+every-right p [] ys t = t
+every-right p (x ∷ xs) ys t = every-right p xs ys (and-r (p x) (every p (xs ++ ys)) t)
