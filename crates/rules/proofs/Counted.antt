@@ -71,13 +71,13 @@ fixes-inside f s z (e ∷ line) a = go (eqb (e .zone) z) (fixes-inside (opp f) s
     go false h = let n = neither (eqb (num f) s) in omega arith
 
 -- ---- zones of the field
-lower : (z : ℕ) → T (between 1 12 z) → T (between 1 13 z)
+pub lower : (z : ℕ) → T (between 1 12 z) → T (between 1 13 z)
 lower z t =
     let a = leb→le 1 z (and-l (leb 1 z) (leb z 12) t) in
     let b = leb→le z 12 (and-r (leb 1 z) (leb z 12) t) in
     and-i (leb 1 z) (leb z 13) (le→leb 1 z a) (le→leb z 13 (omega arith))
 
-not-13 : (z : ℕ) → T (between 1 12 z) → eqb z 13 ≡ false
+pub not-13 : (z : ℕ) → T (between 1 12 z) → eqb z 13 ≡ false
 not-13 z t = ne-eqb z 13 (λ e. let b = leb→le z 12 (and-r (leb 1 z) (leb z 12) t) in omega arith)
 
 module _ (f : Side) (line : List Placed) (runway : List Aircraft) (legs : Legs) where
@@ -156,7 +156,7 @@ one-each z t =
     ((λ u. refl), ((λ u. refl), ((λ u. refl), ((λ u. refl), ((λ u. refl), ((λ u. refl), ((λ u. refl), ((λ u. refl), ((λ u. refl), ((λ u. refl), ((λ u. refl), ((λ u. refl), ((λ u. absurd u), tt)))))))))))))
     z (lower z t) t
 
-total-add : (g h : ℕ → ℕ) (zs : List ℕ) → total (λ z. g z + h z) zs ≡ total g zs + total h zs
+pub total-add : (g h : ℕ → ℕ) (zs : List ℕ) → total (λ z. g z + h z) zs ≡ total g zs + total h zs
 total-add g h [] = refl
 total-add g h (z ∷ zs) = let e = total-add g h zs in omega arith
 

@@ -5,3 +5,7 @@ pub mod Line
 pub mod Counted
 pub mod Located
 pub mod Leaders
+pub mod Members
+pub mod Orderly
+pub mod Within
+pub mod Moves
