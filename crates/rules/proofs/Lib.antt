@@ -9,3 +9,7 @@ pub mod Members
 pub mod Orderly
 pub mod Within
 pub mod Moves
+pub mod Leaves
+pub mod Enters
+pub mod Ticking
+pub mod Kept
