@@ -1,101 +1,111 @@
 -- Claims about okay sequences, and about one or two places in them: a computed test of each, and what a passed test says. Assumes
 -- nothing.
-use mathlib.Core.Path.{_≡_, sym, subst}
 use mathlib.Core.Bool.{Bool, true, false, _&&_}
 use mathlib.Core.List.{List, [], _∷_, _++_, append-nil, append-assoc}
-use Prim.Native.Nat.{ℕ}
+use Prim.Native.Nat.{ℕ, zero, suc}
 use lib.Dec.{T}
+use lib.ListN.{getD}
 use lib.Ieee.Fits.{and-l, and-r}
 use Rattle.order.specs.Model.{Side, okay}
-use Rattle.order.proofs.Sweep.{everyOkay, every-okay-at}
+use Rattle.order.proofs.Sweep.{if-at, everyOkay, every-okay-at}
 
--- ---- lists of tests
-
--- all the tests hold
-abbrev pub allHold : List Bool → Bool
+-- all the listed tests hold
+abbrev allHold : List Bool → Bool
 allHold [] = true
 allHold (c ∷ cs) = c && allHold cs
 
-abbrev pub All : List Bool → Type 0
-All [] = Unit {0}
-All (c ∷ cs) = T c × All cs
+-- test number i of the list holds, counted from 0
+abbrev pub Each : List Bool → Type 0
+Each cs = (i : ℕ) → T (getD cs i true)
 
-all-hold-at : (cs : List Bool) → T (allHold cs) → All cs
-all-hold-at [] t = tt
-all-hold-at (c ∷ cs) t = (and-l c (allHold cs) t, all-hold-at cs (and-r c (allHold cs) t))
+-- where all the listed tests hold, each holds
+all-hold-at : (cs : List Bool) → T (allHold cs) → Each cs
+all-hold-at [] t i = tt
+all-hold-at (c ∷ cs) t zero = and-l c (allHold cs) t
+all-hold-at (c ∷ cs) t (suc i) = all-hold-at cs (and-r c (allHold cs) t) i
 
--- ---- splits of a list
-
--- p holds of every one of zs, with those ahead of it, zs₁ and the earlier ones of zs, and those behind it
-abbrev pub everySplit : (List ℕ → ℕ → List ℕ → Bool) → List ℕ → List ℕ → Bool
-everySplit p zs₁ [] = true
-everySplit p zs₁ (z ∷ zs₂) = p zs₁ z zs₂ && everySplit p (zs₁ ++ (z ∷ [])) zs₂
-
-every-split-at : (p : List ℕ → ℕ → List ℕ → Bool) (zs₀ zs₁ : List ℕ) (z : ℕ) (zs₂ : List ℕ)
-    → T (everySplit p zs₀ (zs₁ ++ z ∷ zs₂)) → T (p (zs₀ ++ zs₁) z zs₂)
-every-split-at p zs₀ [] z zs₂ t = rw append-nil (and-l (p zs₀ z zs₂) (everySplit p (zs₀ ++ (z ∷ [])) zs₂) t)
-every-split-at p zs₀ (y ∷ zs₁) z zs₂ t =
-    rw append-assoc at
-    (every-split-at p (zs₀ ++ (y ∷ [])) zs₁ z zs₂
-    (and-r (p zs₀ y (zs₁ ++ z ∷ zs₂)) (everySplit p (zs₀ ++ (y ∷ [])) (zs₁ ++ z ∷ zs₂)) t))
-
--- ---- claims
-
--- what is claimed of the places of a sequence whose first has fix f: where the one test holds, the others hold
+-- what is claimed of a place in a sequence whose first has fix f: where the one test holds, the listed ones hold
 pub record Claim (Place : Type 0) : Type 0 where
   pub given : Side → Place → Bool
   pub shown : Side → Place → List Bool
 
--- the claim at one place
-abbrev pub holds : {Place : Type 0} → Claim Place → Side → Place → Bool
-holds c f x = elim (c .given f x) [ true ↦ allHold (c .shown f x) | false ↦ true ]
+module _ {Place : Type 0} (c : Claim Place) where
+  -- the claim, tested at one place
+  abbrev holds : Side → Place → Bool
+  holds f x = elim (c .given f x) [ true ↦ allHold (c .shown f x) | false ↦ true ]
 
-holds-at : {Place : Type 0} (c : Claim Place) (f : Side) (x : Place) → T (holds c f x) → T (c .given f x) → All (c .shown f x)
-holds-at c f x t u = go (c .given f x) t u
-  where
-    go : (b : Bool) → T (elim b [ true ↦ allHold (c .shown f x) | false ↦ true ]) → T b → All (c .shown f x)
-    go true t u = all-hold-at (c .shown f x) t
-    go false t u = absurd u
+  -- where the test is passed and what is given holds, so does what is shown
+  holds-at : (f : Side) (x : Place) → T (holds f x) → T (c .given f x) → Each (c .shown f x)
+  holds-at f x t g = all-hold-at (c .shown f x) (if-at (c .given f x) (allHold (c .shown f x)) t g)
 
--- ---- of a whole sequence
+-- ---- the whole sequence
+
+-- the claim, tested of every okay sequence
 abbrev pub ofSequences : Claim (List ℕ) → Bool
 ofSequences c = everyOkay (holds c)
 
-pub of-sequence : (c : Claim (List ℕ)) → T (ofSequences c)
-    → (f : Side) (zs : List ℕ) → T (okay f zs) → T (c .given f zs) → All (c .shown f zs)
-of-sequence c t f zs o u = holds-at c f zs (every-okay-at (holds c) t f zs o) u
+-- a claim that passed holds of each
+pub of-sequence : (c : Claim (List ℕ)) → T (ofSequences c) → (f : Side) (zs : List ℕ) → T (okay f zs) → T (c .given f zs) → Each (c .shown f zs)
+of-sequence c t f zs o g = holds-at c f zs (every-okay-at (holds c) t f zs o) g
 
--- ---- of one in a sequence: those ahead, its zone, those behind
+-- ---- one in a sequence
+
+-- the test of each of zs₂, with those ahead of it, zs₁ first, and those behind it
+abbrev everySplit : (List ℕ → ℕ → List ℕ → Bool) → List ℕ → List ℕ → Bool
+everySplit test zs₁ [] = true
+everySplit test zs₁ (z ∷ zs₂) = test zs₁ z zs₂ && everySplit test (zs₁ ++ (z ∷ [])) zs₂
+
+-- a passed test of each holds of any one
+every-split-at : (test : List ℕ → ℕ → List ℕ → Bool) (zs₀ zs₁ : List ℕ) (z : ℕ) (zs₂ : List ℕ)
+    → T (everySplit test zs₀ (zs₁ ++ z ∷ zs₂)) → T (test (zs₀ ++ zs₁) z zs₂)
+every-split-at test zs₀ [] z zs₂ t = rw append-nil (and-l (test zs₀ z zs₂) (everySplit test (zs₀ ++ (z ∷ [])) zs₂) t)
+every-split-at test zs₀ (y ∷ zs₁) z zs₂ t =
+    rw append-assoc at
+    (every-split-at test (zs₀ ++ (y ∷ [])) zs₁ z zs₂
+    (and-r (test zs₀ y (zs₁ ++ z ∷ zs₂)) (everySplit test (zs₀ ++ (y ∷ [])) (zs₁ ++ z ∷ zs₂)) t))
+
+-- those ahead of it, its zone, those behind it
 abbrev pub One : Type 0
 One = List ℕ × ℕ × List ℕ
 
-abbrev everyOne : Claim One → Side → List ℕ → Bool
-everyOne c f zs = everySplit (λ zs₁ z zs₂. holds c f (zs₁, z, zs₂)) [] zs
+-- the claim, tested of each one of zs
+abbrev eachOne : Claim One → Side → List ℕ → Bool
+eachOne c f zs = everySplit (λ zs₁ z zs₂. holds c f (zs₁, z, zs₂)) [] zs
 
+-- the claim, tested of each one in every okay sequence
 abbrev pub ofOnes : Claim One → Bool
-ofOnes c = everyOkay (everyOne c)
+ofOnes c = everyOkay (eachOne c)
 
-pub of-one : (c : Claim One) → T (ofOnes c)
-    → (f : Side) (zs₁ : List ℕ) (z : ℕ) (zs₂ : List ℕ) → T (okay f (zs₁ ++ z ∷ zs₂)) → T (c .given f (zs₁, z, zs₂)) → All (c .shown f (zs₁, z, zs₂))
-of-one c t f zs₁ z zs₂ o u =
+-- a claim that passed holds of any one
+pub of-one : (c : Claim One) → T (ofOnes c) → (f : Side) (zs₁ : List ℕ) (z : ℕ) (zs₂ : List ℕ) → T (okay f (zs₁ ++ z ∷ zs₂))
+    → T (c .given f (zs₁, z, zs₂)) → Each (c .shown f (zs₁, z, zs₂))
+of-one c t f zs₁ z zs₂ o g =
     holds-at c f (zs₁, z, zs₂)
-    (every-split-at (λ xs y ys. holds c f (xs, y, ys)) [] zs₁ z zs₂ (every-okay-at (everyOne c) t f (zs₁ ++ z ∷ zs₂) o)) u
+    (every-split-at (λ xs y ys. holds c f (xs, y, ys)) [] zs₁ z zs₂ (every-okay-at (eachOne c) t f (zs₁ ++ z ∷ zs₂) o)) g
 
--- ---- of two in a sequence: those ahead of both, the zone of the first, those between, the zone of the second, those behind both
+-- ---- two in a sequence
+
+-- those ahead of both, the zone of the first, those between, the zone of the second, those behind both
 abbrev pub Two : Type 0
 Two = List ℕ × ℕ × List ℕ × ℕ × List ℕ
 
-abbrev everyTwo : Claim Two → Side → List ℕ → Bool
-everyTwo c f zs = everySplit (λ zs₁ y ys. everySplit (λ zs₂ z zs₃. holds c f (zs₁, y, zs₂, z, zs₃)) [] ys) [] zs
+-- the claim, tested of the one in zone y with each one behind it
+abbrev eachSecond : Claim Two → Side → List ℕ → ℕ → List ℕ → Bool
+eachSecond c f zs₁ y zs = everySplit (λ zs₂ z zs₃. holds c f (zs₁, y, zs₂, z, zs₃)) [] zs
 
+-- the claim, tested of each two of zs
+abbrev eachTwo : Claim Two → Side → List ℕ → Bool
+eachTwo c f zs = everySplit (eachSecond c f) [] zs
+
+-- the claim, tested of each two in every okay sequence
 abbrev pub ofTwos : Claim Two → Bool
-ofTwos c = everyOkay (everyTwo c)
+ofTwos c = everyOkay (eachTwo c)
 
-pub of-two : (c : Claim Two) → T (ofTwos c)
-    → (f : Side) (zs₁ : List ℕ) (y : ℕ) (zs₂ : List ℕ) (z : ℕ) (zs₃ : List ℕ)
-    → T (okay f (zs₁ ++ y ∷ (zs₂ ++ z ∷ zs₃))) → T (c .given f (zs₁, y, zs₂, z, zs₃)) → All (c .shown f (zs₁, y, zs₂, z, zs₃))
-of-two c t f zs₁ y zs₂ z zs₃ o u =
+-- a claim that passed holds of any two
+pub of-two : (c : Claim Two) → T (ofTwos c) → (f : Side) (zs₁ : List ℕ) (y : ℕ) (zs₂ : List ℕ) (z : ℕ) (zs₃ : List ℕ)
+    → T (okay f (zs₁ ++ y ∷ (zs₂ ++ z ∷ zs₃))) → T (c .given f (zs₁, y, zs₂, z, zs₃)) → Each (c .shown f (zs₁, y, zs₂, z, zs₃))
+of-two c t f zs₁ y zs₂ z zs₃ o g =
+    let zs = zs₂ ++ z ∷ zs₃ in
     holds-at c f (zs₁, y, zs₂, z, zs₃)
     (every-split-at (λ xs x ys. holds c f (zs₁, y, xs, x, ys)) [] zs₂ z zs₃
-    (every-split-at (λ xs x ys. everySplit (λ us v ws. holds c f (xs, x, us, v, ws)) [] ys) [] zs₁ y (zs₂ ++ z ∷ zs₃)
-    (every-okay-at (everyTwo c) t f (zs₁ ++ y ∷ (zs₂ ++ z ∷ zs₃)) o))) u
+    (every-split-at (eachSecond c f) [] zs₁ y zs (every-okay-at (eachTwo c) t f (zs₁ ++ y ∷ zs) o))) g

@@ -1,7 +1,7 @@
--- What holds of every okay sequence: its bounds, and that entries and moves lead to okay sequences again. Each claim is tested of all of
--- them by computation. Assumes nothing.
+-- What holds of every okay sequence: its bounds, that entries and moves lead to okay sequences again, and that the first can always go on.
+-- A claim, such as `entered`, is tested of all okay sequences by computation (`entered-holds`), and the fact is read off. Assumes nothing.
 use mathlib.Core.Path.{_≡_, refl}
-use mathlib.Core.Bool.{Bool, true, false, not, _&&_, _||_}
+use mathlib.Core.Bool.{Bool, true, false, cond, not, _&&_, _||_}
 use mathlib.Core.List.{List, [], _∷_, _++_}
 use Prim.Native.Nat.{ℕ, zero, suc, _+_, _≤_, _<_}
 use lib.Dec.{T, leb, ltb, eqb, leb→le, ltb→lt, eqb-refl}
@@ -11,30 +11,39 @@ use Rattle.field.specs.Boxes.{opposite, sideOf, at3000, at2000, lateral, missed
 use Rattle.field.specs.Counts.{total}
 use Rattle.field.specs.Bounds.{every}
 use Rattle.order.specs.Model.{Side, right, left, opp, num, between, count, countFix, free, isNil, Kind, descend, approaching, merge, final, hold, needs, target, mayEnter, mayEnterLateral, firstFix, all, okay, weight, weights}
-use Rattle.order.proofs.Claims.{Claim, One, Two, ofSequences, of-sequence, ofOnes, of-one, ofTwos, of-two}
+use Rattle.order.proofs.Claims.{Each, Claim, One, Two, ofSequences, of-sequence, ofOnes, of-one, ofTwos, of-two}
 
 -- ---- the sequence as a whole
 
+-- nobody yet
 pub okay-empty : (f : Side) → T (okay f [])
 unfolding okay
 okay-empty f = tt
 
-abbrev small : Claim (List ℕ)
-small = record { given = λ f zs. true; shown = λ f zs. leb (length zs) 4 ∷ all (between 1 12) zs ∷ leb (weights zs) 28 ∷ [] }
+-- the bounds that name no side
+abbrev fitting : Claim (List ℕ)
+fitting =
+    record {
+      given = λ f zs. true;
+      shown = λ f zs. leb (length zs) 4 ∷ all (between 1 12) zs ∷ leb (weights zs) 28 ∷ every (λ z. leb (count zs z) 1) (zonesFrom 1 6) ∷ [];
+    }
 
-small-holds : T (ofSequences small)
-small-holds = tt
+fitting-holds : T (ofSequences fitting)
+fitting-holds = tt
 
+-- at most four in the sequence
 pub okay-length : (f : Side) (zs : List ℕ) → T (okay f zs) → length zs ≤ 4
-okay-length f zs o = leb→le (length zs) 4 (of-sequence small small-holds f zs o tt .0)
+okay-length f zs o = leb→le (length zs) 4 (of-sequence fitting fitting-holds f zs o tt 0)
 
+-- all of them in zones 1 to 12
 pub okay-zones : (f : Side) (zs : List ℕ) → T (okay f zs) → T (all (between 1 12) zs)
-okay-zones f zs o = of-sequence small small-holds f zs o tt .1 .0
+okay-zones f zs o = of-sequence fitting fitting-holds f zs o tt 1
 
+-- their weights add up to at most 28
 pub weights-small : (f : Side) (zs : List ℕ) → T (okay f zs) → weights zs ≤ 28
-weights-small f zs o = leb→le (weights zs) 28 (of-sequence small small-holds f zs o tt .1 .1 .0)
+weights-small f zs o = leb→le (weights zs) 28 (of-sequence fitting fitting-holds f zs o tt 2)
 
--- bounds b, c and d
+-- bounds b, c and d of document 01, said of the sequence
 pub record Bounds (f : Side) (zs : List ℕ) : Type 0 where
   -- "At most two in each side's area."
   pub areas : (s : Side) → total (count zs) (area (num s)) ≤ 2
@@ -45,14 +54,9 @@ pub record Bounds (f : Side) (zs : List ℕ) : Type 0 where
   -- "At most two in the operation area per fix."
   pub fixes : (s : Side) → total (countFix f zs (num s)) operation ≤ 2
 
-abbrev singles : Claim (List ℕ)
-singles = record { given = λ f zs. true; shown = λ f zs. every (λ z. leb (count zs z) 1) (zonesFrom 1 6) ∷ [] }
-
-singles-hold : T (ofSequences singles)
-singles-hold = tt
-
-abbrev bounded : Side → Claim (List ℕ)
-bounded s =
+-- the bounds of side s
+abbrev fittingSide : Side → Claim (List ℕ)
+fittingSide s =
     record {
       given = λ f zs. true;
       shown =
@@ -63,17 +67,19 @@ bounded s =
           ∷ [];
     }
 
-bounded-holds : (s : Side) → T (ofSequences (bounded s))
-bounded-holds right = tt
-bounded-holds left = tt
+fitting-side-holds : (s : Side) → T (ofSequences (fittingSide s))
+fitting-side-holds right = tt
+fitting-side-holds left = tt
 
+-- bounds b, c and d hold
 pub okay-bounds : (f : Side) (zs : List ℕ) → T (okay f zs) → Bounds f zs
 okay-bounds f zs o =
+    let of-side : (s : Side) → Each (fittingSide s .shown f zs) = λ s. of-sequence (fittingSide s) (fitting-side-holds s) f zs o tt in
     record {
-      areas = λ s. leb→le (total (count zs) (area (num s))) 2 (of-sequence (bounded s) (bounded-holds s) f zs o tt .0);
-      single = of-sequence singles singles-hold f zs o tt .0;
-      lateral-alone = λ s. of-sequence (bounded s) (bounded-holds s) f zs o tt .1 .0;
-      fixes = λ s. leb→le (total (countFix f zs (num s)) operation) 2 (of-sequence (bounded s) (bounded-holds s) f zs o tt .1 .1 .0);
+      areas = λ s. leb→le (total (count zs) (area (num s))) 2 (of-side s 0);
+      single = of-sequence fitting fitting-holds f zs o tt 3;
+      lateral-alone = λ s. of-side s 1;
+      fixes = λ s. leb→le (total (countFix f zs (num s)) operation) 2 (of-side s 2);
     }
 
 -- ---- entries
@@ -87,8 +93,9 @@ unfolding okay
 entered-holds right = tt
 entered-holds left = tt
 
+-- an entry to 3000 leads to an okay sequence
 pub enter : (f s : Side) (zs : List ℕ) → T (okay f zs) → T (mayEnter f zs (num s)) → T (okay (firstFix s f zs) (zs ++ (at3000 (num s) ∷ [])))
-enter f s zs o u = of-sequence (entered s) (entered-holds s) f zs o u .0
+enter f s zs o u = of-sequence (entered s) (entered-holds s) f zs o u 0
 
 -- lateral entry on side s
 abbrev enteredLateral : Side → Claim (List ℕ)
@@ -100,5 +107,206 @@ unfolding okay
 entered-lateral-holds right = tt
 entered-lateral-holds left = tt
 
+-- a lateral entry leads to an okay sequence
 pub enter-lateral : (f s : Side) (zs : List ℕ) → T (okay f zs) → T (mayEnterLateral f zs (num s)) → T (okay (firstFix s f zs) (zs ++ (lateral (num s) ∷ [])))
-enter-lateral f s zs o u = of-sequence (enteredLateral s) (entered-lateral-holds s) f zs o u .0
+enter-lateral f s zs o u = of-sequence (enteredLateral s) (entered-lateral-holds s) f zs o u 0
+
+-- ---- a move of one
+
+-- the one in zone z, with zs₁ ahead of it and zs₂ behind it, has gone to zone w
+pub record Moved (f : Side) (zs₁ : List ℕ) (z w : ℕ) (zs₂ : List ℕ) : Type 0 where
+  pub okay-after : T (okay f (zs₁ ++ w ∷ zs₂))
+  -- nobody behind is in the zone that is entered
+  pub none-behind : T (free zs₂ w)
+  pub other : T (not (eqb w z))
+  pub inside : T (between 1 12 w)
+  pub lighter : weight w < weight z
+
+-- a move of one by the kind
+abbrev moved : Kind → Claim One
+moved k =
+    record {
+      given = λ f (zs₁, z, zs₂). free zs₁ z && needs k zs₁ z zs₂;
+      shown =
+          λ f (zs₁, z, zs₂).
+          let w = target k zs₁ z zs₂ in
+          okay f (zs₁ ++ w ∷ zs₂) ∷ free zs₂ w ∷ not (eqb w z) ∷ between 1 12 w ∷ ltb (weight w) (weight z) ∷ [];
+    }
+
+-- each kind is tested by itself, which keeps the memory of the test small
+descend-holds : T (ofOnes (moved descend))
+unfolding okay
+descend-holds = tt
+
+approaching-holds : T (ofOnes (moved approaching))
+unfolding okay opposite sideOf
+approaching-holds = tt
+
+merge-holds : T (ofOnes (moved merge))
+unfolding okay
+merge-holds = tt
+
+final-holds : T (ofOnes (moved final))
+unfolding okay
+final-holds = tt
+
+hold-holds : T (ofOnes (moved hold))
+unfolding okay sideOf
+hold-holds = tt
+
+moved-holds : (k : Kind) → T (ofOnes (moved k))
+moved-holds descend = descend-holds
+moved-holds approaching = approaching-holds
+moved-holds merge = merge-holds
+moved-holds final = final-holds
+moved-holds hold = hold-holds
+
+-- a move by a kind whose needs are met, of one at the head of its zone
+pub moves : (k : Kind) (f : Side) (zs₁ : List ℕ) (z : ℕ) (zs₂ : List ℕ)
+    → T (okay f (zs₁ ++ z ∷ zs₂)) → T (free zs₁ z) → T (needs k zs₁ z zs₂) → Moved f zs₁ z (target k zs₁ z zs₂) zs₂
+moves k f zs₁ z zs₂ o h n =
+    let w = target k zs₁ z zs₂ in
+    let m = of-one (moved k) (moved-holds k) f zs₁ z zs₂ o (and-i (free zs₁ z) (needs k zs₁ z zs₂) h n) in
+    record {
+      okay-after = m 0;
+      none-behind = m 1;
+      other = m 2;
+      inside = m 3;
+      lighter = ltb→lt (weight w) (weight z) (m 4);
+    }
+
+-- ---- a hold where 3000 is occupied
+
+-- one at 3000 leads those in the missed zone of the side
+abbrev holdingLeads : Claim One
+holdingLeads = record { given = λ f (zs₁, z, zs₂). between 7 8 z; shown = λ f (zs₁, z, zs₂). free zs₂ (at3000 (sideOf z)) ∷ [] }
+
+holding-leads-holds : T (ofOnes holdingLeads)
+unfolding sideOf
+holding-leads-holds = tt
+
+-- nobody at 3000 is behind one in the missed zone of the side
+pub hold-ahead : (f : Side) (zs₁ : List ℕ) (z : ℕ) (zs₂ : List ℕ)
+    → T (between 7 8 z) → T (okay f (zs₁ ++ z ∷ zs₂)) → T (free zs₂ (at3000 (sideOf z)))
+hold-ahead f zs₁ z zs₂ u o = of-one holdingLeads holding-leads-holds f zs₁ z zs₂ o u 0
+
+-- the one at 3000, zone y, has gone to 2000, zone w, and the one in the missed zone z to 3000
+pub record BothMoved (f : Side) (zs₁ : List ℕ) (y w : ℕ) (zs₂ : List ℕ) (z : ℕ) (zs₃ : List ℕ) : Type 0 where
+  pub okay-after : T (okay f (zs₁ ++ w ∷ (zs₂ ++ y ∷ zs₃)))
+  -- the one at 3000 is at its head
+  pub head-above : T (free zs₁ y)
+  -- nobody behind it is at 2000
+  pub none-below : T (free (zs₂ ++ z ∷ zs₃) w)
+  -- nobody behind the missed one is at 3000
+  pub none-behind : T (free zs₃ y)
+  -- the sequence between the two moves
+  pub okay-between : T (okay f (zs₁ ++ w ∷ (zs₂ ++ z ∷ zs₃)))
+  pub apart : T (not (eqb w y)) × T (not (eqb y z)) × T (not (eqb w z))
+  pub inside-y : T (between 1 12 y)
+  pub inside-w : T (between 1 12 w)
+  pub lighter : weight w + weight y < weight y + weight z
+
+-- a move of two by a hold
+abbrev bothMoved : Claim Two
+bothMoved =
+    record {
+      given = λ f (zs₁, y, zs₂, z, zs₃). between 7 8 z && eqb y (at3000 (sideOf z)) && free (zs₁ ++ y ∷ zs₂) z;
+      shown =
+          λ f (zs₁, y, zs₂, z, zs₃).
+          let w = at2000 (sideOf z) in
+          okay f (zs₁ ++ w ∷ (zs₂ ++ y ∷ zs₃))
+          ∷ free zs₁ y
+          ∷ free (zs₂ ++ z ∷ zs₃) w
+          ∷ free zs₃ y
+          ∷ okay f (zs₁ ++ w ∷ (zs₂ ++ z ∷ zs₃))
+          ∷ not (eqb w y)
+          ∷ not (eqb y z)
+          ∷ not (eqb w z)
+          ∷ between 1 12 y
+          ∷ between 1 12 w
+          ∷ ltb (weight w + weight y) (weight y + weight z)
+          ∷ [];
+    }
+
+both-moved-holds : T (ofTwos bothMoved)
+unfolding okay sideOf
+both-moved-holds = tt
+
+-- a hold of one at the head of its missed zone, where 3000 is occupied
+pub hold-both : (f : Side) (zs₁ zs₂ : List ℕ) (z : ℕ) (zs₃ : List ℕ)
+    → T (between 7 8 z) → T (okay f (zs₁ ++ at3000 (sideOf z) ∷ (zs₂ ++ z ∷ zs₃))) → T (free (zs₁ ++ at3000 (sideOf z) ∷ zs₂) z)
+    → BothMoved f zs₁ (at3000 (sideOf z)) (at2000 (sideOf z)) zs₂ z zs₃
+hold-both f zs₁ zs₂ z zs₃ u o h =
+    let y = at3000 (sideOf z) in
+    let w = at2000 (sideOf z) in
+    let given = and-i (between 7 8 z && eqb y y) (free (zs₁ ++ y ∷ zs₂) z) (and-i (between 7 8 z) (eqb y y) u (eqb-refl y)) h in
+    let m = of-two bothMoved both-moved-holds f zs₁ y zs₂ z zs₃ o given in
+    record {
+      okay-after = m 0;
+      head-above = m 1;
+      none-below = m 2;
+      none-behind = m 3;
+      okay-between = m 4;
+      apart = (m 5, m 6, m 7);
+      inside-y = m 8;
+      inside-w = m 9;
+      lighter = ltb→lt (weight w + weight y) (weight y + weight z) (m 10);
+    }
+
+-- ---- the first of the sequence
+
+-- the kind of request that moves the one in zone z on
+abbrev pub headKind : ℕ → Kind
+headKind z = cond (between 1 2 z) descend (cond (between 3 6 z) approaching (cond (between 7 8 z) hold (cond (between 9 10 z) merge final)))
+
+-- the first leaves the sequence, and can go on
+abbrev firstGoes : Claim One
+firstGoes =
+    record {
+      given = λ f (zs₁, z, zs₂). isNil zs₁;
+      shown = λ f (zs₁, z, zs₂). okay (opp f) zs₂ ∷ (eqb z 12 || needs (headKind z) [] z zs₂) ∷ [];
+    }
+
+first-goes-holds : T (ofOnes firstGoes)
+unfolding okay opposite sideOf
+first-goes-holds = tt
+
+-- the sequence without its first is okay
+pub first-leaves : (f : Side) (z : ℕ) (zs : List ℕ) → T (okay f (z ∷ zs)) → T (okay (opp f) zs)
+first-leaves f z zs o = of-one firstGoes first-goes-holds f [] z zs o tt 0
+
+-- the first can go on, or is on final
+pub head-moves : (f : Side) (z : ℕ) (zs : List ℕ) → T (okay f (z ∷ zs)) → T (eqb z 12 || needs (headKind z) [] z zs)
+head-moves f z zs o = of-one firstGoes first-goes-holds f [] z zs o tt 1
+
+-- the first, on final, misses its approach
+abbrev firstMisses : Claim One
+firstMisses =
+    record {
+      given = λ f (zs₁, z, zs₂). isNil zs₁ && eqb z 12;
+      shown = λ f (zs₁, z, zs₂). okay (firstFix f (opp f) zs₂) (zs₂ ++ (missed (num f) ∷ [])) ∷ [];
+    }
+
+first-misses-holds : T (ofOnes firstMisses)
+unfolding okay
+first-misses-holds = tt
+
+-- a missed approach leads to an okay sequence
+pub misses : (f : Side) (zs : List ℕ) → T (okay f (12 ∷ zs)) → T (okay (firstFix f (opp f) zs) (zs ++ (missed (num f) ∷ [])))
+misses f zs o = of-one firstMisses first-misses-holds f [] 12 zs o tt 0
+
+-- the head of final leads the sequence
+abbrev finalLeads : Claim One
+finalLeads = record { given = λ f (zs₁, z, zs₂). eqb z 12 && free zs₁ 12; shown = λ f (zs₁, z, zs₂). isNil zs₁ ∷ [] }
+
+final-leads-holds : T (ofOnes finalLeads)
+final-leads-holds = tt
+
+-- what is tested to be empty is empty
+nil-of : (zs : List ℕ) → T (isNil zs) → zs ≡ []
+nil-of [] t = refl
+nil-of (z ∷ zs) t = absurd t
+
+-- nobody is ahead of the head of final
+pub final-first : (f : Side) (zs₁ zs₂ : List ℕ) → T (okay f (zs₁ ++ 12 ∷ zs₂)) → T (free zs₁ 12) → zs₁ ≡ []
+final-first f zs₁ zs₂ o h = nil-of zs₁ (of-one finalLeads final-leads-holds f zs₁ 12 zs₂ o h 0)
