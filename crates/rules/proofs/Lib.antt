@@ -13,3 +13,4 @@ pub mod Leaves
 pub mod Enters
 pub mod Ticking
 pub mod Kept
+pub mod After

@@ -19,8 +19,8 @@ use Rattle.field.specs.Counts.{isIn, total, howMany, inOperation, inArea, perFi
 use Rattle.field.specs.Find.{aircraftAt, fixOf, isFirst}
 use Rattle.field.specs.Bounds.{every, boundA, boundB, isEmpty, lateralRule, boundC, boundD, numbersIn, allDifferent, numbersDiffer, sequenceExact, finalFirst, zoneKept, sequenceKept, boundE, alternate, boundF, fitsZone, legalLegs, boundG, withinBounds}
 use Rattle.order.specs.Model.{Side, right, left, num, nextFix, between, count, countFix, free, isNil, all, okay}
-use Rattle.order.proofs.Facts.{okay-length, okay-zones, Bounds, okay-bounds}
-use Rattle.rules.proofs.Tests.{passed, pass, decided}
+use Rattle.order.proofs.Facts.{okay-length, okay-zones, Bounds, okay-bounds, final-first}
+use Rattle.rules.proofs.Tests.{passed, pass, decided, or-left, or-right}
 use Rattle.rules.proofs.Lists.{map-append, every-left}
 use Rattle.rules.proofs.Line.{sequenceFor, order-for, Placed, zonesIn, numbersOf, inside, fieldOf}
 use Rattle.rules.proofs.Counted.{free-inside, zone-of-line, zone-of-runway, in-line, on-runway, how-many, how-many-runway, in-operation, in-area, per-fix, all-counted}
@@ -187,3 +187,50 @@ module _ (f : Side) (line : List Placed) (runway : List Aircraft) (legs : Legs) 
       (λ z t. subst (λ (l : Legs). T (every (fitsZone l z) (inZone F z))) (sym legs-are) (subst (λ (q : List Aircraft). T (every (fitsZone legs z) q)) (sym (in-line f line runway legs z t)) (fit-inside legs z line (o .fit-line))))))
       (subst (λ (n : ℕ). T (isSide n)) (sym next-is) (side-num (nextFix f zs))))
       (subst (λ (l : Legs). T (legalLegs l)) (sym legs-are) (o .legal))
+
+  -- ---- the head of final heads the sequence
+  final-at : (s : Split 12 line) → T (isFirst (F .sequence) (aircraftAt F 12 1 .number))
+  final-at s =
+      let a = s .ahead in
+      let e = s .here in
+      let b = s .behind in
+      let n = e .aircraft .number in
+      let k = subst (λ (l : List Placed). T (okay f (zonesIn l))) (s .whole) (o .okay-line) in
+      let k₂ = subst (λ (l : List ℕ). T (okay f l)) (map-append (λ (p : Placed). p .zone) a (e ∷ b) ∙ ap (λ (z : ℕ). zonesIn a ++ z ∷ zonesIn b) (s .at-zone)) k in
+      let d = subst (λ (l : List Placed). T (allDifferent (numbersOf l ++ numbers runway))) (s .whole) (o .different) in
+      let t = subst (λ (z : ℕ). T (between 1 12 z)) (sym (s .at-zone)) tt in
+      let h : inside (e .zone) a ≡ [] = free-inside (e .zone) a (subst (λ (z : ℕ). T (free (zonesIn a) z)) (sym (s .at-zone)) (s .none-ahead)) in
+      let x : aircraftAt F 12 1 .number ≡ n =
+      ap (λ (l : List Placed). aircraftAt (fieldOf f l runway legs) 12 1 .number) (s .whole)
+      ∙ ap (λ (z : ℕ). aircraftAt (fieldOf f (a ++ e ∷ b) runway legs) z 1 .number) (sym (s .at-zone))
+      ∙ ap (λ (y : Aircraft). y .number) (head-there f a e b runway legs d t h) in
+      let y : isFirst (F .sequence) n ≡ true =
+      ap (λ (l : List Placed). isFirst (fieldOf f l runway legs .sequence) n) (s .whole) ∙ first-there f a e b runway legs d ∙ ap isNil (final-first f (zonesIn a) (zonesIn b) k₂ (s .none-ahead)) in
+      pass (ap (isFirst (F .sequence)) x ∙ y)
+
+  final-holds : T (finalFirst F)
+  unfolding finalFirst
+  final-holds =
+      elim (first-in 12 line) [
+        | inl t ↦ or-left (isEmpty F 12) (isFirst (F .sequence) (aircraftAt F 12 1 .number)) (subst T (sym (empty-is 12 tt)) t)
+        | inr s ↦ or-right (isEmpty F 12) (isFirst (F .sequence) (aircraftAt F 12 1 .number)) (final-at s)
+      ]
+
+  e-holds : T (boundE F)
+  unfolding boundE
+  e-holds =
+      let p = every (λ z. zoneKept (zoneOf F z)) everywhere in
+      and-i (numbersDiffer F && sequenceExact F && finalFirst F && p) (sequenceKept (F .sequence))
+      (and-i (numbersDiffer F && sequenceExact F && finalFirst F) p (and-i (numbersDiffer F && sequenceExact F) (finalFirst F) (and-i (numbersDiffer F) (sequenceExact F) differ exact) final-holds) kept)
+      sequence-holds
+
+  -- ---- all seven
+  pub within-bounds : T (withinBounds F)
+  unfolding withinBounds
+  within-bounds =
+      let ab = boundA F && boundB F in
+      let abc = ab && boundC F in
+      let abcd = abc && boundD F in
+      let abcde = abcd && boundE F in
+      let abcdef = abcde && boundF F in
+      and-i abcdef (boundG F) (and-i abcde (boundF F) (and-i abcd (boundE F) (and-i abc (boundD F) (and-i ab (boundC F) (and-i (boundA F) (boundB F) a-holds b-holds) c-holds) d-holds) e-holds) f-holds) g-holds
