@@ -1,0 +1,16 @@
+-- `request::within` meets its contract: each arm returns what the definition gives where the first test is as the arm found it. Assumes nothing.
+use mathlib.Core.Path.{sym, ap}
+use mathlib.Core.Bool.{Bool, _&&_}
+use lib.Dec.{leb}
+use borrow.Author.Tests.{le-leb, lt-leb}
+use Rattle.request.proofs.within.Statement.{statement}
+use Rattle.request.proofs.within.Tie as tie
+
+returns : tie.Need-returns
+returns c = let a = c .before .args in sym (ap (λ (b : Bool). b && leb (a .n) (a .high)) (le-leb (a .low) (a .n) (c .if1 .taken)))
+
+returns-2 : tie.Need-returns-2
+returns-2 c = let a = c .before .args in sym (ap (λ (b : Bool). b && leb (a .n) (a .high)) (lt-leb (a .low) (a .n) (c .if1 .left)))
+
+pub within-spec : {M : Type 1} → statement M
+within-spec = tie.close (tie.spec returns returns-2)
