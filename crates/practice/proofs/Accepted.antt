@@ -1,0 +1,69 @@
+-- What is known of a file that passes the tests, and of one that is accepted. Assumes nothing.
+use mathlib.Core.Path.{_≡_, sym, ap, subst, _∙_}
+use mathlib.Core.List.{List, [], _∷_}
+use mathlib.Core.Bool.{Bool, true, _&&_}
+use Prim.Native.Nat.{ℕ, _+_, _-_, _%_, _≤_}
+use native.Mathlib.Nat.{add-sub-cancel-left}
+use native.Mathlib.Omega.{arith}
+use lib.Dec.{eqb, leb, lit≤}
+use lib.ListN.{length, take, drop}
+use borrow.Author.Tests.{eqb-true, leb-true}
+use Rattle.request.specs.Input.{within}
+use Rattle.request.proofs.Tests.{both-left, both-right, within-low, within-high, first-holds, rest-holds}
+use Rattle.practice.specs.File.{number16, letters, same, opens, entryIs, bodyLength, contentsAllowed, legsOf, legsAllowed, fileNumber}
+
+-- the length of a file that opens right
+pub record Opened (file : List ℕ) : Type 0 where
+  pub low : 26 ≤ length file
+  pub high : length file ≤ 24610
+
+pub opened : (file : List ℕ) → opens file ≡ true → Opened file
+unfolding opens
+opened file e =
+    let t = both-left (within 26 24610 (length file)) (same (take 4 file) letters) e in
+    record { low = within-low 26 24610 (length file) t; high = within-high 26 24610 (length file) t }
+
+-- the length of a file whose contents are allowed
+pub record Whole (file : List ℕ) : Type 0 where
+  pub sixes : bodyLength file % 6 ≡ 0
+  pub bounded : bodyLength file ≤ 24576
+  pub whole : 34 + bodyLength file ≡ length file
+
+module _ (file : List ℕ) where
+  abbrev entries : Bool
+  entries = eqb (number16 file 4) 2 && entryIs file 6 1 26 8 && entryIs file 16 2 34 (bodyLength file)
+
+  pub whole-of : contentsAllowed file ≡ true → Whole file
+  unfolding contentsAllowed
+  whole-of e =
+      let s = eqb (bodyLength file % 6) 0 in
+      let b = leb (bodyLength file) 24576 in
+      let w = eqb (34 + bodyLength file) (length file) in
+      let eb = both-left (entries && s && b) w e in
+      record {
+        sixes = eqb-true (bodyLength file % 6) 0 (both-right entries s (both-left (entries && s) b eb));
+        bounded = leb-true (bodyLength file) 24576 (both-right (entries && s) b eb);
+        whole = eqb-true (34 + bodyLength file) (length file) (both-right (entries && s && b) w e);
+      }
+
+  pub long-enough : contentsAllowed file ≡ true → 34 ≤ length file
+  long-enough e = let w = whole-of e in omega arith
+
+-- a file that is accepted passes all tests
+pub record Accepted (file : List ℕ) : Type 0 where
+  pub opening : opens file ≡ true
+  pub contents : contentsAllowed file ≡ true
+  pub legs : legsAllowed (legsOf (take 8 (drop 26 file))) ≡ true
+
+pub accepted : (file : List ℕ) → fileNumber file ≡ 0 → Accepted file
+unfolding fileNumber
+accepted file e =
+    let o = opens file in
+    let c = contentsAllowed file in
+    let l = legsAllowed (legsOf (take 8 (drop 26 file))) in
+    let e′ = rest-holds 5 o ((6, c) ∷ (7, l) ∷ []) (lit≤ tt) e in
+    record {
+      opening = first-holds 5 o ((6, c) ∷ (7, l) ∷ []) (lit≤ tt) e;
+      contents = first-holds 6 c ((7, l) ∷ []) (lit≤ tt) e′;
+      legs = first-holds 7 l [] (lit≤ tt) (rest-holds 6 c ((7, l) ∷ []) (lit≤ tt) e′);
+    }

@@ -1,0 +1,5 @@
+pub mod Tests
+pub mod Bytes
+pub mod Accepted
+pub mod Sections
+pub mod Requests
