@@ -6,11 +6,12 @@ use Prim.Native.Nat.{ℕ, _+_, _-_, _%_, _≤_}
 use native.Mathlib.Nat.{add-sub-cancel-left}
 use native.Mathlib.Omega.{arith}
 use lib.Dec.{eqb, leb, lit≤}
-use lib.ListN.{length, take, drop}
-use borrow.Author.Tests.{eqb-true, leb-true}
+use lib.ListN.{length, take}
+use borrow.Author.Tests.{eqb-true, leb-true, eq-eqb, le-leb}
 use Rattle.request.specs.Input.{within}
 use Rattle.request.proofs.Tests.{both-left, both-right, within-low, within-high, first-holds, rest-holds}
-use Rattle.practice.specs.File.{number16, letters, same, opens, entryIs, bodyLength, contentsAllowed, legsOf, legsAllowed, fileNumber}
+use Rattle.practice.specs.declared.FileLegs.{FileLegs}
+use Rattle.practice.specs.File.{number16, letters, same, opens, entryIs, bodyLength, contentsAllowed, legsOf, legsBody, legsAllowed, fileNumber}
 
 -- the length of a file that opens right
 pub record Opened (file : List ℕ) : Type 0 where
@@ -46,21 +47,56 @@ module _ (file : List ℕ) where
         whole = eqb-true (34 + bodyLength file) (length file) (both-right (entries && s && b) w e);
       }
 
+  -- and the other way
+  pub contents-of : eqb (number16 file 4) 2 ≡ true → entryIs file 6 1 26 8 ≡ true → entryIs file 16 2 34 (bodyLength file) ≡ true → Whole file → contentsAllowed file ≡ true
+  unfolding contentsAllowed
+  contents-of c f s w = simp (c, f, s, eq-eqb (bodyLength file % 6) 0 (w .sixes), le-leb (bodyLength file) 24576 (w .bounded), eq-eqb (34 + bodyLength file) (length file) (w .whole))
+
   pub long-enough : contentsAllowed file ≡ true → 34 ≤ length file
   long-enough e = let w = whole-of e in omega arith
+
+-- legs that are allowed, each from 1 to 4096 64ths
+pub record LegKnown (n : ℕ) : Type 0 where
+  pub low : 1 ≤ n
+  pub high : n ≤ 4096
+
+pub record LegsKnown (legs : FileLegs) : Type 0 where
+  pub base : LegKnown (legs .base)
+  pub intermediate : LegKnown (legs .intermediate)
+  pub last : LegKnown (legs .last)
+  pub missed : LegKnown (legs .missed)
+
+pub legs-known : (legs : FileLegs) → legsAllowed legs ≡ true → LegsKnown legs
+unfolding legsAllowed
+legs-known legs e =
+    let b = within 1 4096 (legs .base) in
+    let i = within 1 4096 (legs .intermediate) in
+    let l = within 1 4096 (legs .last) in
+    let m = within 1 4096 (legs .missed) in
+    let bil = both-left (b && i && l) m e in
+    let bi = both-left (b && i) l bil in
+    record {
+      base = known (legs .base) (both-left b i bi);
+      intermediate = known (legs .intermediate) (both-right b i bi);
+      last = known (legs .last) (both-right (b && i) l bil);
+      missed = known (legs .missed) (both-right (b && i && l) m e);
+    }
+  where
+    known : (n : ℕ) → within 1 4096 n ≡ true → LegKnown n
+    known n t = record { low = within-low 1 4096 n t; high = within-high 1 4096 n t }
 
 -- a file that is accepted passes all tests
 pub record Accepted (file : List ℕ) : Type 0 where
   pub opening : opens file ≡ true
   pub contents : contentsAllowed file ≡ true
-  pub legs : legsAllowed (legsOf (take 8 (drop 26 file))) ≡ true
+  pub legs : legsAllowed (legsOf (legsBody file)) ≡ true
 
 pub accepted : (file : List ℕ) → fileNumber file ≡ 0 → Accepted file
 unfolding fileNumber
 accepted file e =
     let o = opens file in
     let c = contentsAllowed file in
-    let l = legsAllowed (legsOf (take 8 (drop 26 file))) in
+    let l = legsAllowed (legsOf (legsBody file)) in
     let e′ = rest-holds 5 o ((6, c) ∷ (7, l) ∷ []) (lit≤ tt) e in
     record {
       opening = first-holds 5 o ((6, c) ∷ (7, l) ∷ []) (lit≤ tt) e;

@@ -3,3 +3,5 @@ pub mod Bytes
 pub mod Accepted
 pub mod Sections
 pub mod Requests
+pub mod ReadBack
+pub mod Meaning

@@ -60,6 +60,13 @@ legsOf body = record {
 unfoldable pub legsAllowed : FileLegs → Bool
 legsAllowed legs = within 1 4096 (legs .base) && within 1 4096 (legs .intermediate) && within 1 4096 (legs .last) && within 1 4096 (legs .missed)
 
+-- the two bodies, as the contents place them
+abbrev pub legsBody : List ℕ → List ℕ
+legsBody file = take 8 (drop 26 file)
+
+abbrev pub requestsBody : List ℕ → List ℕ
+requestsBody file = drop 34 file
+
 -- "Turned away by .. the file": 0, or the first of 5 to 7 that applies
 unfoldable pub fileNumber : List ℕ → ℕ
-fileNumber file = firstRefused ((5, opens file) ∷ (6, contentsAllowed file) ∷ (7, legsAllowed (legsOf (take 8 (drop 26 file)))) ∷ [])
+fileNumber file = firstRefused ((5, opens file) ∷ (6, contentsAllowed file) ∷ (7, legsAllowed (legsOf (legsBody file))) ∷ [])

@@ -3,11 +3,10 @@ use Prim.Native.Nat.{ℕ, _*_, _/_, _%_}
 use mathlib.Core.List.{List, [], _∷_, _++_}
 use mathlib.Core.Bool.{cond}
 use lib.Dec.{eqb}
-use lib.ListN.{length, drop}
+use lib.ListN.{length}
 use Rattle.request.specs.declared.Request.{Request}
 use Rattle.practice.specs.declared.FileLegs.{FileLegs}
-use Rattle.practice.specs.File.{letters, fileNumber}
-use Rattle.practice.specs.Sections.{fileLegs, sectionBytes}
+use Rattle.practice.specs.File.{letters, legsOf, legsBody, requestsBody, fileNumber}
 use Rattle.practice.specs.Requests.{requestsOf}
 
 -- a file is refused by its number, or holds legs and requests
@@ -16,7 +15,7 @@ pub data Practice : Type 0 where
   holds : FileLegs → List Request → Practice
 
 unfoldable pub practiceOf : List ℕ → Practice
-practiceOf file = cond (eqb (fileNumber file) 0) (holds (fileLegs file) (requestsOf (sectionBytes file 2))) (refused (fileNumber file))
+practiceOf file = cond (eqb (fileNumber file) 0) (holds (legsOf (legsBody file)) (requestsOf (requestsBody file))) (refused (fileNumber file))
 
 -- ---- the bytes of a file: "Contents first, then bodies; numbers little-endian"
 abbrev pub bytes16 : ℕ → List ℕ
@@ -35,6 +34,6 @@ abbrev pub requestBytes : List Request → List ℕ
 requestBytes [] = []
 requestBytes (r ∷ rest) = r .kind ∷ r .side ∷ bytes16 (r .number) ++ bytes16 (r .amount) ++ requestBytes rest
 
-abbrev pub encoded : FileLegs → List Request → List ℕ
+unfoldable pub encoded : FileLegs → List Request → List ℕ
 encoded legs requests =
     letters ++ bytes16 2 ++ entryBytes 1 26 8 ++ entryBytes 2 34 (6 * length requests) ++ legBytes legs ++ requestBytes requests
