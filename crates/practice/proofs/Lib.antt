@@ -5,3 +5,4 @@ pub mod Sections
 pub mod Requests
 pub mod ReadBack
 pub mod Meaning
+pub mod Encoded

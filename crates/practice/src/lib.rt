@@ -105,7 +105,7 @@ fn legs_of(body: &[u8]) -> FileLegs
 }
 
 // Whether each leg is from 1 to 4096 64ths of a mile.
-pub fn legs_allowed(legs: FileLegs) -> bool
+fn legs_allowed(legs: FileLegs) -> bool
     ensures { λ r. ⌜ r ≡ legsAllowed legs ⌝ }
 {
     if !request::within(1, 4096, legs.base) {
