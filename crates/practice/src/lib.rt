@@ -50,7 +50,7 @@ fn opens(file: &[u8]) -> bool
     if 24610 < n {
         return false;
     }
-    check::same(&file[..4], b"SCAP")
+    check::same(&file[0..4], b"SCAP")
 }
 
 // Whether the entry at a place of the contents has this kind, offset and length.

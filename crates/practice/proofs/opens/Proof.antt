@@ -1,8 +1,5 @@
 -- `practice::opens` meets its contract: what each test gave stands in the branches. Assumes nothing.
-use mathlib.Core.Path.{sym}
 use lib.ListN.{take, length}
-use lib.Seq.{length-take-le}
-use native.Mathlib.Omega.{arith}
 use denote.Ref.{now}
 use borrow.Author.Needs.{needs}
 use Rattle.request.proofs.Tests.{within-yes, within-below, within-above}
@@ -19,11 +16,17 @@ returns-2 : tie.Need-returns-2
 unfolding opens
 returns-2 c = simp (within-above 26 24610 _ (c .if2 .taken))
 
-slice-aggregate-same : tie.Need-slice-aggregate-same
-slice-aggregate-same c = sym (length-take-le 4 (now (c .before .before .before .before .args .file)) (omega arith))
+sub-same : tie.Need-sub-same
+sub-same c = search needs
 
-slice-aggregate-same-2 : tie.Need-slice-aggregate-same-2
-slice-aggregate-same-2 c = search needs
+part-same-start : tie.Need-part-same-start
+part-same-start c = search needs
+
+part-same-end : tie.Need-part-same-end
+part-same-end c = search needs
+
+slice-aggregate-same : tie.Need-slice-aggregate-same
+slice-aggregate-same c = search needs
 
 same-requires : tie.Need-same-requires
 same-requires c κs = search needs
@@ -41,7 +44,9 @@ opens-spec =
     (tie.spec
     returns
     returns-2
+    sub-same
+    part-same-start
+    part-same-end
     slice-aggregate-same
-    slice-aggregate-same-2
     same-requires
     returns-3)

@@ -40,13 +40,13 @@ part-result-start : tie.Need-part-result-start
 part-result-start c = search needs
 
 part-result-end : tie.Need-part-result-end
-part-result-end c = long (c .before)
+part-result-end c = let h = long (c .before) in omega arith
 
 sub-result-2 : tie.Need-sub-result-2
-sub-result-2 c = long (c .before)
+sub-result-2 c = let h = long (c .before) in omega arith
 
 part-result-start-2 : tie.Need-part-result-start-2
-part-result-start-2 c = long (c .before)
+part-result-start-2 c = let h = long (c .before) in omega arith
 
 part-result-end-2 : tie.Need-part-result-end-2
 part-result-end-2 c = search needs
