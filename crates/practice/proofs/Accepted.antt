@@ -1,15 +1,14 @@
 -- What is known of a file that passes the tests, and of one that is accepted. Assumes nothing.
-use mathlib.Core.Path.{_≡_, sym, ap, subst, _∙_}
+use mathlib.Core.Path.{_≡_}
 use mathlib.Core.List.{List, [], _∷_}
 use mathlib.Core.Bool.{Bool, true, _&&_}
 use Prim.Native.Nat.{ℕ, _+_, _-_, _%_, _≤_}
-use native.Mathlib.Nat.{add-sub-cancel-left}
 use native.Mathlib.Omega.{arith}
-use lib.Dec.{eqb, leb, lit≤}
+use lib.Dec.{eqb, leb}
 use lib.ListN.{length, take}
 use borrow.Author.Tests.{eqb-true, leb-true, eq-eqb, le-leb}
 use Rattle.request.specs.Input.{within}
-use Rattle.request.proofs.Tests.{both-left, both-right, within-low, within-high, first-holds, rest-holds}
+use Rattle.request.proofs.Tests.{both-left, both-right, within-low, within-high, passed}
 use Rattle.practice.specs.declared.FileLegs.{FileLegs}
 use Rattle.practice.specs.File.{number16, letters, same, opens, entryIs, bodyLength, contentsAllowed, legsOf, legsBody, legsAllowed, fileNumber}
 
@@ -94,12 +93,5 @@ pub record Accepted (file : List ℕ) : Type 0 where
 pub accepted : (file : List ℕ) → fileNumber file ≡ 0 → Accepted file
 unfolding fileNumber
 accepted file e =
-    let o = opens file in
-    let c = contentsAllowed file in
-    let l = legsAllowed (legsOf (legsBody file)) in
-    let e′ = rest-holds 5 o ((6, c) ∷ (7, l) ∷ []) (lit≤ tt) e in
-    record {
-      opening = first-holds 5 o ((6, c) ∷ (7, l) ∷ []) (lit≤ tt) e;
-      contents = first-holds 6 c ((7, l) ∷ []) (lit≤ tt) e′;
-      legs = first-holds 7 l [] (lit≤ tt) (rest-holds 6 c ((7, l) ∷ []) (lit≤ tt) e′);
-    }
+    let p = passed ((5, opens file) ∷ (6, contentsAllowed file) ∷ (7, legsAllowed (legsOf (legsBody file))) ∷ []) (tt, (tt, (tt, tt))) e in
+    record { opening = p .0; contents = p .1 .0; legs = p .1 .1 .0 }

@@ -2,20 +2,19 @@
 use mathlib.Core.Path.{_≡_, refl, sym, ap, subst, _∙_}
 use mathlib.Core.List.{List, []}
 use mathlib.Core.Bool.{Bool, true, false, cond}
-use Prim.Native.Nat.{ℕ, _+_, _-_, _*_, _/_, _≤_, _<_}
+use Prim.Native.Nat.{ℕ, _-_, _≤_}
 use native.Mathlib.Nat.{pos-of-ne-zero}
 use native.Mathlib.Omega.{arith}
 use lib.Dec.{eqb}
-use lib.ListN.{length, take, drop, length-drop}
-use lib.Seq.{take-length}
+use lib.ListN.{length, length-drop}
 use borrow.Author.Tests.{eqb-true, eqb-false}
 use borrow.Rule.Slice.PartAt.{part-to-end}
 use Rattle.request.specs.declared.Request.{Request}
 use Rattle.practice.specs.declared.FileLegs.{FileLegs}
-use Rattle.practice.specs.File.{bodyLength, legsOf, legsBody, requestsBody, legsAllowed, fileNumber}
+use Rattle.practice.specs.File.{legsOf, legsBody, requestsBody, legsAllowed, fileNumber}
 use Rattle.practice.specs.Sections.{stretch, sectionBytes, fileLegs}
 use Rattle.practice.specs.Requests.{requestsOf, readingAt, requestAt}
-use Rattle.practice.specs.Practice.{Practice, refused, holds, practiceOf}
+use Rattle.practice.specs.Practice.{refused, holds, practiceOf}
 use Rattle.practice.proofs.Accepted.{accepted, whole-of, long-enough}
 use Rattle.practice.proofs.Requests.{count}
 

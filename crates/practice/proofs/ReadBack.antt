@@ -1,19 +1,19 @@
 -- A file of legal legs and at most 4,096 requests, encoded, is read back as exactly those. Assumes nothing.
-use mathlib.Core.Path.{_≡_, refl, sym, ap, _∙_}
+use mathlib.Core.Path.{_≡_, refl, ap, _∙_}
 use mathlib.Core.List.{List, [], _∷_}
 use mathlib.Core.Bool.{Bool, true, cond, _&&_}
-use Prim.Native.Nat.{ℕ, _+_, _*_, _/_, _%_, _≤_, _<_}
+use Prim.Native.Nat.{ℕ, _+_, _*_, _/_, _%_, _≤_}
 use native.Mathlib.Omega.{arith}
 use lib.Dec.{eqb}
 use lib.ListN.{length}
 use borrow.Author.Tests.{eq-eqb}
 use Rattle.request.specs.declared.Request.{Request}
-use Rattle.request.specs.Input.{word, firstRefused}
-use Rattle.request.proofs.Tests.{within-yes}
+use Rattle.request.specs.Input.{word}
+use Rattle.request.proofs.Tests.{within-yes, none-refused}
 use Rattle.practice.specs.declared.FileLegs.{FileLegs}
 use Rattle.practice.specs.File.{bodyLength, opens, contentsAllowed, legsOf, legsBody, requestsBody, legsAllowed, fileNumber}
 use Rattle.practice.specs.Requests.{requestsOf}
-use Rattle.practice.specs.Practice.{Practice, refused, holds, practiceOf, requestBytes, encoded}
+use Rattle.practice.specs.Practice.{refused, holds, practiceOf, requestBytes, encoded}
 use Rattle.practice.proofs.Accepted.{Whole, contents-of}
 
 -- ---- numbers from their bytes
@@ -71,7 +71,9 @@ module _ (legs : FileLegs) (rs : List Request) where
 
   number : length rs ≤ 4096 → legsAllowed legs ≡ true → fileNumber (encoded legs rs) ≡ 0
   unfolding fileNumber
-  number h l = simp (opening h, contents h, legs-back, l)
+  number h l =
+      none-refused ((5, opens (encoded legs rs)) ∷ (6, contentsAllowed (encoded legs rs)) ∷ (7, legsAllowed (legsOf (legsBody (encoded legs rs)))) ∷ [])
+      (opening h, (contents h, (ap legsAllowed legs-back ∙ l, tt)))
 
   pub read-back : length rs ≤ 4096 → legsAllowed legs ≡ true → practiceOf (encoded legs rs) ≡ holds legs rs
   unfolding practiceOf

@@ -7,7 +7,6 @@ use native.Mathlib.Omega.{arith}
 use lib.ListN.{length, getD}
 use Rattle.request.specs.declared.Request.{Request}
 use Rattle.request.specs.Input.{requestOf}
-use Rattle.practice.specs.declared.Reading.{Reading}
 use Rattle.practice.specs.declared.Reading.the-variants.{One, End}
 use Rattle.practice.specs.Requests.{requestsOf, readingAt, requestAt}
 

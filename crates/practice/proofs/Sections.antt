@@ -1,9 +1,8 @@
 -- The section of a kind is the stretch that its offset and its length say, by what the file's number and the kind are. Assumes nothing.
-use mathlib.Core.Path.{_≡_, sym, ap, subst, _∙_}
+use mathlib.Core.Path.{_≡_, sym, ap, _∙_}
 use mathlib.Core.List.{List, []}
-use mathlib.Core.Bool.{Bool, true, false, cond}
+use mathlib.Core.Bool.{Bool, cond}
 use Prim.Native.Nat.{ℕ, _+_, _-_, _≤_}
-use native.Mathlib.Nat.{zero-add}
 use native.Mathlib.Omega.{arith}
 use lib.Dec.{eqb}
 use lib.ListN.{length, take, drop, length-drop}
@@ -52,5 +51,8 @@ module _ (file : RefT (List ℕ)) (kind : ℕ) {a b c : Bool} (pa : eqb (fileNum
       )
 
 -- the empty stretch is at the file's first byte
+first-place : (file : RefT (List ℕ)) → ptr file .1 ≡ placeAt file 0 .1
+first-place file = omega arith
+
 pub at-start : (file : RefT (List ℕ)) (kind : ℕ) → IsSection file kind (placeAt file 0) [] → IsSection file kind (ptr file) []
-at-start file kind s = (ap (λ (n : ℕ). (ptr file .0, n)) (sym (zero-add (ptr file .1))) ∙ s .0, s .1)
+at-start file kind s = (ap (λ (n : ℕ). (ptr file .0, n)) (first-place file) ∙ s .0, s .1)

@@ -1,5 +1,5 @@
 -- `practice::file_legs` meets its contract: the stretch is body 1 of an accepted file, or empty. Assumes nothing.
-use mathlib.Core.Path.{_≡_, refl, sym, ap, subst, _∙_}
+use mathlib.Core.Path.{_≡_, refl, ap, subst, _∙_}
 use mathlib.Core.List.{List, []}
 use mathlib.Core.Bool.{Bool, true, false, cond}
 use Prim.Native.Nat.{ℕ, _<_}
@@ -7,7 +7,6 @@ use native.Mathlib.Omega.{arith}
 use lib.Dec.{eqb}
 use lib.ListN.{take, drop}
 use denote.Ref.{now}
-use Rattle.practice.specs.declared.FileLegs.{FileLegs}
 use Rattle.practice.specs.File.{legsOf, fileNumber}
 use Rattle.practice.specs.Sections.{sectionLength, fileLegs}
 use borrow.Author.Needs.{needs}

@@ -4,7 +4,6 @@ use mathlib.Core.Bool.{true}
 use lib.ListN.{take, drop}
 use denote.Ref.{now}
 use borrow.Author.Needs.{needs}
-use Rattle.practice.specs.declared.FileLegs.{FileLegs}
 use Rattle.practice.specs.File.{opens, contentsAllowed, legsOf, legsAllowed, fileNumber}
 use Rattle.practice.proofs.Tests.{fails, passes}
 use Rattle.practice.proofs.Accepted.{opened, long-enough}
