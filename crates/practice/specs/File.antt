@@ -7,14 +7,15 @@ use lib.ListN.{length, getD, take, drop}
 use Rattle.request.specs.Input.{word, within, firstRefused}
 use Rattle.practice.specs.declared.FileLegs.{FileLegs}
 
--- "numbers little-endian": 16 and 32 bits at a place of the file
+-- "numbers little-endian": the number of 16 bits at a place of the file
 abbrev pub number16 : List ℕ → ℕ → ℕ
 number16 file at = word (getD file at 0) (getD file (at + 1) 0)
 
+-- the same of 32 bits
 abbrev pub number32 : List ℕ → ℕ → ℕ
 number32 file at = number16 file at + 65536 * number16 file (at + 2)
 
--- two lists of bytes are the same
+-- whether two lists of bytes are the same
 abbrev pub same : List ℕ → List ℕ → Bool
 same [] [] = true
 same [] (y ∷ ys) = false
@@ -29,7 +30,7 @@ letters = 83 ∷ 67 ∷ 65 ∷ 80 ∷ []
 unfoldable pub opens : List ℕ → Bool
 opens file = within 26 24610 (length file) && same (take 4 file) letters
 
--- an entry of the contents: "kind (16 bits), offset and length (32 bits each)"
+-- whether the entry at a place of the contents is this: "kind (16 bits), offset and length (32 bits each)"
 abbrev pub entryIs : List ℕ → ℕ → ℕ → ℕ → ℕ → Bool
 entryIs file at kind offset size = eqb (number16 file at) kind && eqb (number32 file (at + 2)) offset && eqb (number32 file (at + 6)) size
 
@@ -60,10 +61,11 @@ legsOf body = record {
 unfoldable pub legsAllowed : FileLegs → Bool
 legsAllowed legs = within 1 4096 (legs .base) && within 1 4096 (legs .intermediate) && within 1 4096 (legs .last) && within 1 4096 (legs .missed)
 
--- the two bodies, as the contents place them
+-- body 1, by its entry "(1, 26, 8)"
 abbrev pub legsBody : List ℕ → List ℕ
 legsBody file = take 8 (drop 26 file)
 
+-- body 2, by its entry "(2, 34, n) .. and 34 + n the file's length"
 abbrev pub requestsBody : List ℕ → List ℕ
 requestsBody file = drop 34 file
 

@@ -22,5 +22,6 @@ readingAt [] i = End
 readingAt (r ∷ rest) zero = One r
 readingAt (r ∷ rest) (suc i) = readingAt rest i
 
+-- "The reader of requests is lent the file from the body's first byte on"
 abbrev pub requestAt : List ℕ → ℕ → Reading
 requestAt body i = readingAt (requestsOf body) i

@@ -16,19 +16,22 @@ placeAt file offset = (ptr file .0, offset + ptr file .1)
 abbrev pub stretch : List ℕ → ℕ → ℕ → List ℕ
 stretch file offset size = take size (drop offset file)
 
--- by kind: body 1, body 2, or neither; "an unknown kind or refused file gives an empty stretch"
+-- what body 1 and body 2 have, by the kind asked for; "an unknown kind or refused file gives an empty stretch"
 abbrev pub byKind : List ℕ → ℕ → ℕ → ℕ → ℕ
 byKind file kind one two = cond (eqb (fileNumber file) 0) (cond (eqb kind 1) one (cond (eqb kind 2) two 0)) 0
 
+-- where the section starts in the file: (1, 26, 8) and (2, 34, n); an empty one is at its first byte
 abbrev pub sectionOffset : List ℕ → ℕ → ℕ
 sectionOffset file kind = byKind file kind 26 34
 
+-- how many bytes it has
 abbrev pub sectionLength : List ℕ → ℕ → ℕ
 sectionLength file kind = byKind file kind 8 (length file - 34)
 
+-- "that stretch of the lent file"
 abbrev pub sectionBytes : List ℕ → ℕ → List ℕ
 sectionBytes file kind = stretch file (sectionOffset file kind) (sectionLength file kind)
 
--- the legs of a file; a byte that the stretch lacks counts as 0
+-- the legs of a file; those of a refused file are all 0
 abbrev pub fileLegs : List ℕ → FileLegs
 fileLegs file = legsOf (sectionBytes file 1)

@@ -6,7 +6,7 @@ ghost use Prim.Native.Nat.{_+_, _≤_};
 ghost use lib.ListN.{length};
 ghost use denote.Ref.{ptr};
 ghost use Rattle.practice.specs.File.{number16, number32, legsOf, legsAllowed, opens, entryIs, contentsAllowed, fileNumber};
-ghost use Rattle.practice.specs.Sections.{placeAt, stretch, sectionOffset, sectionLength, fileLegs};
+ghost use Rattle.practice.specs.Sections.{placeAt, sectionOffset, sectionLength, sectionBytes, fileLegs};
 ghost use Rattle.practice.specs.Requests.{requestsOf, requestAt};
 
 // The legs of a practice file, in 64ths of a mile. `last` is document 01's final, a word that the language keeps.
@@ -17,7 +17,7 @@ pub struct FileLegs {
     pub missed: u16,
 }
 
-// What reading the i-th request finds.
+// What reading the i-th request finds: that request, or that the body has no such.
 pub enum Reading {
     One(Request),
     End,
@@ -140,7 +140,7 @@ pub fn file_number(file: &[u8]) -> u16
 pub fn section(file: &[u8], kind: u16) -> &[u8]
     ensures { λ r. ⌜ ptr r ≡ placeAt (file .entry) (sectionOffset (now (file .entry)) kind) ⌝ }
     ensures { λ r. ⌜ length (now r) ≡ sectionLength (now (file .entry)) kind ⌝ }
-    ensures { λ r. ⌜ now r ≡ stretch (now (file .entry)) (sectionOffset (now (file .entry)) kind) (sectionLength (now (file .entry)) kind) ⌝ }
+    ensures { λ r. ⌜ now r ≡ sectionBytes (now (file .entry)) kind ⌝ }
 {
     if file_number(file) != 0 {
         return &file[..0];
