@@ -1,16 +1,15 @@
 -- The input rules of each kind of request, and what a request that keeps them is: an entry, a move of one aircraft, or a tick.
 -- Assumes nothing.
 use mathlib.Core.Path.{_≡_, refl, sym, ap, _∙_}
-use mathlib.Core.List.{List, [], _∷_}
-use mathlib.Core.Bool.{Bool, true, false, cond, not, _&&_}
-use Prim.Native.Nat.{ℕ, _≤_, _<_}
-use native.Mathlib.Nat.{ne-of-gt, ne-of-lt, le-of-lt}
+use mathlib.Core.List.{[], _∷_}
+use mathlib.Core.Bool.{Bool, true, false, cond, not}
+use Prim.Native.Nat.{ℕ, _≤_}
 use native.Mathlib.Omega.{arith}
-use lib.Dec.{eqb, lit≤}
+use lib.Dec.{eqb}
 use borrow.Author.Tests.{eq-eqb, ne-eqb, eqb-true}
 use Rattle.request.specs.declared.Request.{Request}
 use Rattle.request.specs.Input.{within, firstRefused, isEntry, isTick, kindAllowed, sideAllowed, numberAllowed, amountAllowed, inputNumber}
-use Rattle.request.proofs.Tests.{within-yes, within-below, within-above, within-low, within-high, nonzero-yes, nonzero-known, first-holds, rest-holds}
+use Rattle.request.proofs.Tests.{within-yes, within-above, within-low, within-high, nonzero-yes, nonzero-known, passed, none-refused}
 
 -- the tests of the parts, by whether the kind is an entry and whether it is a tick
 abbrev pub partsNumber : Bool → Bool → Request → ℕ
@@ -70,58 +69,46 @@ pub record TickKnown (r : Request) : Type 0 where
 pub kind-known : (r : Request) → inputNumber r ≡ 0 → KindKnown r
 unfolding inputNumber kindAllowed
 kind-known r e =
-    let t : within 1 12 (r .kind) ≡ true = first-holds 1 (kindAllowed r) ((2, sideAllowed r) ∷ (3, numberAllowed r) ∷ (4, amountAllowed r) ∷ []) (lit≤ tt) e in
+    let t : within 1 12 (r .kind) ≡ true = passed ((1, kindAllowed r) ∷ (2, sideAllowed r) ∷ (3, numberAllowed r) ∷ (4, amountAllowed r) ∷ []) (tt, (tt, (tt, (tt, tt)))) e .0 in
     record { low = within-low 1 12 (r .kind) t; high = within-high 1 12 (r .kind) t }
 
 -- the three tests of the parts, where none fails
-record Parts (side number amount : Bool) : Type 0 where
-  pub side-holds : side ≡ true
-  pub number-holds : number ≡ true
-  pub amount-holds : amount ≡ true
-
-parts-known : (s n a : Bool) → firstRefused ((2, s) ∷ (3, n) ∷ (4, a) ∷ []) ≡ 0 → Parts s n a
-parts-known s n a e =
-    let e′ = rest-holds 2 s ((3, n) ∷ (4, a) ∷ []) (lit≤ tt) e in
-    record {
-      side-holds = first-holds 2 s ((3, n) ∷ (4, a) ∷ []) (lit≤ tt) e;
-      number-holds = first-holds 3 n ((4, a) ∷ []) (lit≤ tt) e′;
-      amount-holds = first-holds 4 a [] (lit≤ tt) (rest-holds 3 n ((4, a) ∷ []) (lit≤ tt) e′);
-    }
+parts-known : (s n a : Bool) → firstRefused ((2, s) ∷ (3, n) ∷ (4, a) ∷ []) ≡ 0 → (s ≡ true) × ((n ≡ true) × ((a ≡ true) × Unit {0}))
+parts-known s n a e = passed ((2, s) ∷ (3, n) ∷ (4, a) ∷ []) (tt, (tt, (tt, tt))) e
 
 pub entry-known : (r : Request) → inputNumber r ≡ 0 → 1 ≤ r .kind → r .kind ≤ 2 → EntryKnown r
 entry-known r e l h =
     let p = parts-known (within 1 2 (r .side)) (not (eqb (r .number) 0)) (within 1 512 (r .amount)) (sym (of-entry r l h) ∙ e) in
     record {
-      side-low = within-low 1 2 (r .side) (p .side-holds);
-      side-high = within-high 1 2 (r .side) (p .side-holds);
-      number = nonzero-known (r .number) (p .number-holds);
-      speed-low = within-low 1 512 (r .amount) (p .amount-holds);
-      speed-high = within-high 1 512 (r .amount) (p .amount-holds);
+      side-low = within-low 1 2 (r .side) (p .0);
+      side-high = within-high 1 2 (r .side) (p .0);
+      number = nonzero-known (r .number) (p .1 .0);
+      speed-low = within-low 1 512 (r .amount) (p .1 .1 .0);
+      speed-high = within-high 1 512 (r .amount) (p .1 .1 .0);
     }
 
 pub move-known : (r : Request) → inputNumber r ≡ 0 → 3 ≤ r .kind → r .kind ≤ 11 → MoveKnown r
 move-known r e l h =
     let p = parts-known (eqb (r .side) 0) (not (eqb (r .number) 0)) (eqb (r .amount) 0) (sym (of-move r l h) ∙ e) in
     record {
-      side = eqb-true (r .side) 0 (p .side-holds);
-      number = nonzero-known (r .number) (p .number-holds);
-      amount = eqb-true (r .amount) 0 (p .amount-holds);
+      side = eqb-true (r .side) 0 (p .0);
+      number = nonzero-known (r .number) (p .1 .0);
+      amount = eqb-true (r .amount) 0 (p .1 .1 .0);
     }
 
 pub tick-known : (r : Request) → inputNumber r ≡ 0 → r .kind ≡ 12 → TickKnown r
 tick-known r e k =
     let p = parts-known (eqb (r .side) 0) (eqb (r .number) 0) (within 1 64 (r .amount)) (sym (of-tick r k) ∙ e) in
     record {
-      side = eqb-true (r .side) 0 (p .side-holds);
-      number = eqb-true (r .number) 0 (p .number-holds);
-      amount-low = within-low 1 64 (r .amount) (p .amount-holds);
-      amount-high = within-high 1 64 (r .amount) (p .amount-holds);
+      side = eqb-true (r .side) 0 (p .0);
+      number = eqb-true (r .number) 0 (p .1 .0);
+      amount-low = within-low 1 64 (r .amount) (p .1 .1 .0);
+      amount-high = within-high 1 64 (r .amount) (p .1 .1 .0);
     }
 
 -- ---- a request for a move of an aircraft keeps the rules
 pub move-allowed : (r : Request) → 3 ≤ r .kind → r .kind ≤ 11 → MoveKnown r → inputNumber r ≡ 0
 move-allowed r l h m =
     of-move r l h
-    ∙ ap (λ (b : Bool). firstRefused ((2, b) ∷ (3, not (eqb (r .number) 0)) ∷ (4, eqb (r .amount) 0) ∷ [])) (eq-eqb (r .side) 0 (m .side))
-    ∙ ap (λ (b : Bool). firstRefused ((3, b) ∷ (4, eqb (r .amount) 0) ∷ [])) (nonzero-yes (r .number) (m .number))
-    ∙ ap (λ (b : Bool). firstRefused ((4, b) ∷ [])) (eq-eqb (r .amount) 0 (m .amount))
+    ∙ none-refused ((2, eqb (r .side) 0) ∷ (3, not (eqb (r .number) 0)) ∷ (4, eqb (r .amount) 0) ∷ [])
+    (eq-eqb (r .side) 0 (m .side), (nonzero-yes (r .number) (m .number), (eq-eqb (r .amount) 0 (m .amount), tt)))

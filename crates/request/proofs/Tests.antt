@@ -1,10 +1,10 @@
 -- Laws of the tests that the input rules are made of, and of the first that fails. Assumes nothing.
-use mathlib.Core.Path.{_≡_, refl, sym, ap, _∙_}
-use mathlib.Core.List.{List, _∷_}
-use mathlib.Core.Bool.{Bool, true, false, not, _&&_, false≢true}
+use mathlib.Core.Path.{_≡_, refl, ap, _∙_}
+use mathlib.Core.List.{List, [], _∷_}
+use mathlib.Core.Bool.{Bool, true, false, cond, not, _&&_, false≢true}
 use Prim.Native.Nat.{ℕ, _≤_, _<_}
 use native.Mathlib.Nat.{ne-of-gt, pos-of-ne-zero}
-use lib.Dec.{leb, eqb}
+use lib.Dec.{T, leb, eqb, leb→le}
 use borrow.Author.Tests.{le-leb, lt-leb, leb-true, ne-eqb, eqb-false, not-true}
 use Rattle.request.specs.Input.{within, firstRefused}
 
@@ -47,11 +47,22 @@ nonzero-yes n h = ap not (ne-eqb n 0 (ne-of-gt h))
 pub nonzero-known : (n : ℕ) → not (eqb n 0) ≡ true → 1 ≤ n
 nonzero-known n e = pos-of-ne-zero (eqb-false n 0 (not-true (eqb n 0) e))
 
--- ---- `firstRefused`: 0 says that the first test holds, and that the rest gives 0
-pub first-holds : (n : ℕ) (t : Bool) (rest : List (ℕ × Bool)) → 1 ≤ n → firstRefused ((n, t) ∷ rest) ≡ 0 → t ≡ true
-first-holds n true rest h e = refl
-first-holds n false rest h e = absurd (ne-of-gt h e)
+-- ---- `firstRefused`
+-- each test is beside a number that refuses
+abbrev pub Numbered : List (ℕ × Bool) → Type 0
+Numbered [] = Unit
+Numbered ((n, t) ∷ rest) = T (leb 1 n) × Numbered rest
 
-pub rest-holds : (n : ℕ) (t : Bool) (rest : List (ℕ × Bool)) → 1 ≤ n → firstRefused ((n, t) ∷ rest) ≡ 0 → firstRefused rest ≡ 0
-rest-holds n true rest h e = e
-rest-holds n false rest h e = absurd (ne-of-gt h e)
+-- no test fails
+abbrev pub Passed : List (ℕ × Bool) → Type 0
+Passed [] = Unit
+Passed ((n, t) ∷ rest) = (t ≡ true) × Passed rest
+
+pub passed : (tests : List (ℕ × Bool)) → Numbered tests → firstRefused tests ≡ 0 → Passed tests
+passed [] k e = tt
+passed ((n, true) ∷ rest) k e = (refl, passed rest (k .1) e)
+passed ((n, false) ∷ rest) k e = absurd (ne-of-gt (leb→le 1 n (k .0)) e)
+
+pub none-refused : (tests : List (ℕ × Bool)) → Passed tests → firstRefused tests ≡ 0
+none-refused [] p = refl
+none-refused ((n, t) ∷ rest) p = ap (λ (b : Bool). cond b (firstRefused rest) n) (p .0) ∙ none-refused rest (p .1)

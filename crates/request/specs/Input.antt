@@ -1,7 +1,7 @@
 -- What the contracts of `src/` cite: a request's parts from its bytes, and document 01's refusals 1 to 4. Definitions only.
 use Prim.Native.Nat.{ℕ, _+_, _*_}
 use mathlib.Core.List.{List, [], _∷_}
-use mathlib.Core.Bool.{Bool, true, false, cond, not, _&&_}
+use mathlib.Core.Bool.{Bool, cond, not, _&&_}
 use lib.Dec.{leb, eqb}
 use lib.ListN.{getD}
 use Rattle.request.specs.declared.Request.{Request}

@@ -1,0 +1,8 @@
+pub mod Tests
+pub mod Bytes
+pub mod Accepted
+pub mod Sections
+pub mod Requests
+pub mod ReadBack
+pub mod Meaning
+pub mod Encoded

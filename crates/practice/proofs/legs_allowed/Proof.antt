@@ -1,0 +1,60 @@
+-- `practice::legs_allowed` meets its contract: what each test gave stands in the branches. Assumes nothing.
+use mathlib.Core.Path.{_≡_}
+use mathlib.Core.Bool.{true}
+use borrow.Author.Needs.{needs}
+use Rattle.request.specs.Input.{within}
+use Rattle.practice.specs.File.{legsAllowed}
+use Rattle.practice.proofs.Tests.{fails, passes}
+use Rattle.practice.proofs.legs_allowed.Statement.{statement}
+use Rattle.practice.proofs.legs_allowed.Tie as tie
+
+-- the tests that were passed
+base : (c : tie.Else1) → within 1 4096 (c .before .before .args .legs .base) ≡ true
+base c = passes (c .before .within .ensures) (c .if1 .left)
+
+intermediate : (c : tie.Else2) → within 1 4096 (c .before .before .before .before .args .legs .intermediate) ≡ true
+intermediate c = passes (c .before .within2 .ensures) (c .if2 .left)
+
+last : (c : tie.Else3) → within 1 4096 (c .before .before .before .before .before .before .args .legs .last) ≡ true
+last c = passes (c .before .within3 .ensures) (c .if3 .left)
+
+within-requires : tie.Need-within-requires
+within-requires c κs = search needs
+
+returns : tie.Need-returns
+unfolding legsAllowed
+returns c = simp (fails (c .before .within .ensures) (c .if1 .taken))
+
+within-requires-2 : tie.Need-within-requires-2
+within-requires-2 c κs = search needs
+
+returns-2 : tie.Need-returns-2
+unfolding legsAllowed
+returns-2 c = simp (base (c .before .before), fails (c .before .within2 .ensures) (c .if2 .taken))
+
+within-requires-3 : tie.Need-within-requires-3
+within-requires-3 c κs = search needs
+
+returns-3 : tie.Need-returns-3
+unfolding legsAllowed
+returns-3 c = simp (base (c .before .before .before .before), intermediate (c .before .before), fails (c .before .within3 .ensures) (c .if3 .taken))
+
+within-requires-4 : tie.Need-within-requires-4
+within-requires-4 c κs = search needs
+
+returns-4 : tie.Need-returns-4
+unfolding legsAllowed
+returns-4 c = simp (base (c .before .before .before .before .before), intermediate (c .before .before .before), last (c .before)) (c .within4 .ensures)
+
+pub legs-allowed-spec : {M : Type 1} → statement M
+legs-allowed-spec =
+    tie.close
+    (tie.spec
+    within-requires
+    returns
+    within-requires-2
+    returns-2
+    within-requires-3
+    returns-3
+    within-requires-4
+    returns-4)

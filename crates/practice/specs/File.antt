@@ -1,0 +1,74 @@
+-- The number of a practice file: document 01's refusals 5 to 7, in this order. Definitions only.
+use Prim.Native.Nat.{ℕ, _+_, _*_, _%_}
+use mathlib.Core.List.{List, [], _∷_}
+use mathlib.Core.Bool.{Bool, true, false, _&&_}
+use lib.Dec.{leb, eqb}
+use lib.ListN.{length, getD, take, drop}
+use Rattle.request.specs.Input.{word, within, firstRefused}
+use Rattle.practice.specs.declared.FileLegs.{FileLegs}
+
+-- "numbers little-endian": the number of 16 bits at a place of the file
+abbrev pub number16 : List ℕ → ℕ → ℕ
+number16 file at = word (getD file at 0) (getD file (at + 1) 0)
+
+-- the same of 32 bits
+abbrev pub number32 : List ℕ → ℕ → ℕ
+number32 file at = number16 file at + 65536 * number16 file (at + 2)
+
+-- whether two lists of bytes are the same
+abbrev pub same : List ℕ → List ℕ → Bool
+same [] [] = true
+same [] (y ∷ ys) = false
+same (x ∷ xs) [] = false
+same (x ∷ xs) (y ∷ ys) = eqb x y && same xs ys
+
+-- "the ASCII letters SCAP"
+abbrev pub letters : List ℕ
+letters = 83 ∷ 67 ∷ 65 ∷ 80 ∷ []
+
+-- "5 practice file under 26 or over 24,610 bytes, or its first four bytes are not the ASCII letters SCAP"
+unfoldable pub opens : List ℕ → Bool
+opens file = within 26 24610 (length file) && same (take 4 file) letters
+
+-- whether the entry at a place of the contents is this: "kind (16 bits), offset and length (32 bits each)"
+abbrev pub entryIs : List ℕ → ℕ → ℕ → ℕ → ℕ → Bool
+entryIs file at kind offset size = eqb (number16 file at) kind && eqb (number32 file (at + 2)) offset && eqb (number32 file (at + 6)) size
+
+-- the n of the second entry, the length of body 2
+abbrev pub bodyLength : List ℕ → ℕ
+bodyLength file = number32 file 22
+
+-- "16-bit count 2; two entries ..: (1, 26, 8) and (2, 34, n), n a multiple of 6 up to 24,576, and 34 + n the file's length"
+unfoldable pub contentsAllowed : List ℕ → Bool
+contentsAllowed file =
+    eqb (number16 file 4) 2
+    && entryIs file 6 1 26 8
+    && entryIs file 16 2 34 (bodyLength file)
+    && eqb (bodyLength file % 6) 0
+    && leb (bodyLength file) 24576
+    && eqb (34 + bodyLength file) (length file)
+
+-- "Body 1: legs base, intermediate, final, missed, 16 bits each, in 64ths of a mile"
+abbrev pub legsOf : List ℕ → FileLegs
+legsOf body = record {
+  base = number16 body 0;
+  intermediate = number16 body 2;
+  last = number16 body 4;
+  missed = number16 body 6;
+}
+
+-- "7 a leg not 1 to 4096 64ths"
+unfoldable pub legsAllowed : FileLegs → Bool
+legsAllowed legs = within 1 4096 (legs .base) && within 1 4096 (legs .intermediate) && within 1 4096 (legs .last) && within 1 4096 (legs .missed)
+
+-- body 1, by its entry "(1, 26, 8)"
+abbrev pub legsBody : List ℕ → List ℕ
+legsBody file = take 8 (drop 26 file)
+
+-- body 2, by its entry "(2, 34, n) .. and 34 + n the file's length"
+abbrev pub requestsBody : List ℕ → List ℕ
+requestsBody file = drop 34 file
+
+-- "Turned away by .. the file": 0, or the first of 5 to 7 that applies
+unfoldable pub fileNumber : List ℕ → ℕ
+fileNumber file = firstRefused ((5, opens file) ∷ (6, contentsAllowed file) ∷ (7, legsAllowed (legsOf (legsBody file))) ∷ [])

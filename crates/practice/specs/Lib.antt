@@ -1,0 +1,4 @@
+pub mod File
+pub mod Sections
+pub mod Requests
+pub mod Practice
