@@ -14,3 +14,4 @@ pub mod Enters
 pub mod Ticking
 pub mod Kept
 pub mod After
+pub mod Heads
