@@ -3,7 +3,7 @@ use mathlib.Core.Bool.{Bool, true, false, cond, not, _&&_, _||_}
 use mathlib.Core.List.{List, [], _∷_, _++_, map}
 use Prim.Native.Nat.{ℕ, zero, suc, _+_}
 use lib.Dec.{eqb, leb}
-use lib.ListN.{getD, take, replicate}
+use lib.ListN.{length, getD, take, replicate}
 use lib.Ieee.{Float}
 use Rattle.leg.specs.Progress.{whole, flownOut}
 use Rattle.leg.specs.declared.Progress.{Progress}
@@ -98,6 +98,10 @@ zoneOf f z = getD (emptyZone ∷ f .zones) z emptyZone
 -- "Each zone is a first-in first-out queue kept as a fixed array with its length": those within the length, the head first
 unfoldable pub queueOf : Zone → List Aircraft
 queueOf q = take (q .length) (q .aircraft)
+
+-- how many stand in a queue
+unfoldable pub queueLength : Zone → ℕ
+queueLength q = length (queueOf q)
 
 -- those in zone z, the head first
 unfoldable pub inZone : Field → ℕ → List Aircraft
