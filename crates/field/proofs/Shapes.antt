@@ -1,14 +1,23 @@
--- What the proofs of the field's functions share: the lengths of its arrays, an element read from one, and a number that is one of two.
--- Assumes nothing.
+-- What the proofs of the field's functions share: the lengths of its arrays, an element read from one, the next of a queue, and a
+-- number that is one of two. Assumes nothing.
 use mathlib.Core.Path.{_≡_, refl, sym, ap, _∙_, subst}
 use mathlib.Core.Bool.{Bool, true, false}
 use mathlib.Core.List.{List, [], _∷_, map}
-use Prim.Native.Nat.{ℕ, zero, suc, _+_, _-_, _≤_, _<_, min}
+use Prim.Native.Nat.{ℕ, zero, suc, _+_, _-_, _≤_, _<_}
 use native.Mathlib.Omega.{arith}
-use native.Mathlib.Numerals.{add-one, sub-one}
+use native.Mathlib.Numerals.{add-one}
 use borrow.Author.Tests.{eqb-true, eqb-false}
 use lib.Dec.{eqb}
-use lib.ListN.{length, getD, take, length-map, length-take, List·getD-eq-default}
+use lib.ListN.{length, getD, take, drop, length-map, length-take}
+use lib.Seq.{drop-cons, getD-take}
+use mir.Val.{Val}
+use denote.Shadow.{shadow}
+use denote.Array.{each}
+use Rattle.field.specs.declared.Aircraft.{Aircraft}
+use Rattle.field.specs.declared.Zone.{Zone}
+use Rattle.field.specs.declared.Field.{Field}
+use Rattle.field.specs.Boxes.{emptyZone, zoneOf, queueOf, inZone}
+use Rattle.field.proofs.Zone.{the-field}
 
 module _ {ℓ} {A : Type ℓ} where
   -- within the length no default matters
@@ -33,3 +42,41 @@ one-of-two P k z low high here next = go (eqb z k) refl
     go : (b : Bool) → eqb z k ≡ b → P z
     go true e = subst P (sym (eqb-true z k e)) here
     go false e = subst P (omega (arith, eqb-false z k e)) next
+
+-- the next of a queue: who stands at place i, and those behind
+pub queue-next : (q : Zone) (i : ℕ) (d : Aircraft) → i < length (queueOf q) → drop i (queueOf q) ≡ getD (q .aircraft) i d ∷ drop (i + 1) (queueOf q)
+unfolding queueOf
+queue-next q i d h =
+    let n = q .length in
+    let l = q .aircraft in
+    rw (add-one) (drop-cons (take n l) i d h ∙ ap (λ (a : Aircraft). a ∷ drop (suc i) (take n l)) (getD-take n l i d (omega (arith, length-take n l))))
+
+-- a queue of a zone with four places is no longer than four
+pub queue-fits : (q : Zone) → length (q .aircraft) ≡ 4 → length (queueOf q) ≤ 4
+unfolding queueOf
+queue-fits q e = omega (arith, length-take (q .length) (q .aircraft))
+
+-- what is known of the zones of a field that is a parameter: `c .good .0 .1 .1 .0 .1 .1`, where the field is the first
+abbrev pub Known : List Zone → List Val → Type 0
+Known zones us = shadow (each (the-field .row .Denot) (the-field .row .own) (map (the-field .into) zones) us)
+
+-- each zone has four places, and so has what stands for a zone that is none
+pub four-places : (zones : List Zone) (us : List Val) (i : ℕ) → Known zones us → length (getD zones i emptyZone .aircraft) ≡ 4
+four-places [] us i p = refl
+four-places (q ∷ zones) [] i p = absurd p
+four-places (q ∷ zones) (u ∷ us) zero p = unmapped _ (q .aircraft) (p .0 .1 .1 .0 .1 .0 .1)
+four-places (q ∷ zones) (u ∷ us) (suc i) p = four-places zones us i (p .1)
+
+module _ (f : Field) (us : List Val) (z : ℕ) (known : Known (f .zones) us) where
+  pub zone-places : length (zoneOf f z .aircraft) ≡ 4
+  unfolding zoneOf
+  zone-places = go z
+    where
+      go : (k : ℕ) → length (getD (emptyZone ∷ f .zones) k emptyZone .aircraft) ≡ 4
+      go zero = refl
+      go (suc i) = four-places (f .zones) us i known
+
+  -- so no zone holds more than four
+  pub at-most-four : length (inZone f z) ≤ 4
+  unfolding inZone
+  at-most-four = queue-fits (zoneOf f z) zone-places

@@ -2,6 +2,7 @@
 use leg::Progress;
 
 pub mod boxes;
+pub mod counts;
 
 // Document 01's aircraft: a number (never 0), a fix (the side for its missed approach), a speed in 64ths of a mile
 // per minute, and a progress.
