@@ -15,8 +15,9 @@ use denote.Shadow.{shadow}
 use denote.Array.{each}
 use Rattle.field.specs.declared.Aircraft.{Aircraft}
 use Rattle.field.specs.declared.Zone.{Zone}
+use Rattle.field.specs.declared.Sequence.{Sequence}
 use Rattle.field.specs.declared.Field.{Field}
-use Rattle.field.specs.Boxes.{emptyZone, zoneOf, queueOf, inZone}
+use Rattle.field.specs.Boxes.{emptyZone, zoneOf, queueOf, inZone, orderOf}
 use Rattle.field.proofs.Zone.{the-field}
 
 module _ {ℓ} {A : Type ℓ} where
@@ -31,6 +32,13 @@ module _ {ℓ} {A : Type ℓ} where
   from-one x l zero d h = absurd (omega arith)
   from-one x l (suc i) d h = ap (λ (j : ℕ). getD l j d) (omega arith)
 
+  -- of the first n of a list, the one at index i, and those behind
+  pub next : (l : List A) (n i : ℕ) (d : A) → i < length (take n l) → drop i (take n l) ≡ getD l i d ∷ drop (i + 1) (take n l)
+  next l n i d h =
+      rw (add-one)
+      (drop-cons (take n l) i d h
+      ∙ ap (λ (a : A). a ∷ drop (suc i) (take n l)) (getD-take n l i d (omega (arith, length-take n l))))
+
   -- how an array's length stands in what is known of a parameter
   pub unmapped {ℓ′} : {B : Type ℓ′} (g : A → B) (l : List A) {n : ℕ} → length (map g l) ≡ n → length l ≡ n
   unmapped g l e = sym (length-map l g) ∙ e
@@ -43,18 +51,30 @@ one-of-two P k z low high here next = go (eqb z k) refl
     go true e = subst P (sym (eqb-true z k e)) here
     go false e = subst P (omega (arith, eqb-false z k e)) next
 
--- the next of a queue: who stands at place i, and those behind
+-- the next of a queue: who stands at index i, and those behind
 pub queue-next : (q : Zone) (i : ℕ) (d : Aircraft) → i < length (queueOf q) → drop i (queueOf q) ≡ getD (q .aircraft) i d ∷ drop (i + 1) (queueOf q)
 unfolding queueOf
-queue-next q i d h =
-    let n = q .length in
-    let l = q .aircraft in
-    rw (add-one) (drop-cons (take n l) i d h ∙ ap (λ (a : Aircraft). a ∷ drop (suc i) (take n l)) (getD-take n l i d (omega (arith, length-take n l))))
+queue-next q i d h = next (q .aircraft) (q .length) i d h
+
+-- who stands at index i of a queue
+pub queue-read : (q : Zone) (i : ℕ) (d : Aircraft) → i < length (queueOf q) → getD (queueOf q) i d ≡ getD (q .aircraft) i d
+unfolding queueOf
+queue-read q i d h = getD-take (q .length) (q .aircraft) i d (omega (arith, length-take (q .length) (q .aircraft)))
+
+-- the next of the sequence, likewise
+pub order-next : (s : Sequence) (i : ℕ) → i < length (orderOf s) → drop i (orderOf s) ≡ getD (s .numbers) i 0 ∷ drop (i + 1) (orderOf s)
+unfolding orderOf
+order-next s i h = next (s .numbers) (s .length) i 0 h
 
 -- a queue of a zone with four places is no longer than four
 pub queue-fits : (q : Zone) → length (q .aircraft) ≡ 4 → length (queueOf q) ≤ 4
 unfolding queueOf
 queue-fits q e = omega (arith, length-take (q .length) (q .aircraft))
+
+-- nor is the sequence
+pub order-fits : (s : Sequence) → length (s .numbers) ≡ 4 → length (orderOf s) ≤ 4
+unfolding orderOf
+order-fits s e = omega (arith, length-take (s .length) (s .numbers))
 
 -- what is known of the zones of a field that is a parameter: `c .good .0 .1 .1 .0 .1 .1`, where the field is the first
 abbrev pub Known : List Zone → List Val → Type 0

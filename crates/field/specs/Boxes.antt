@@ -111,6 +111,10 @@ inZone f z = queueOf (zoneOf f z)
 unfoldable pub orderOf : Sequence → List ℕ
 orderOf s = take (s .length) (s .numbers)
 
+-- how many stand in the landing sequence
+unfoldable pub orderLength : Sequence → ℕ
+orderLength s = length (orderOf s)
+
 -- ---- aircraft
 
 -- "Entering a flying zone sets miles to 0", and elsewhere an aircraft waits: the progress with which zone z is entered

@@ -6,7 +6,7 @@ use crate::Sequence;
 use crate::Zone;
 use leg::Progress;
 ghost use mathlib.Core.Path.{_≡_};
-ghost use Rattle.field.specs.Boxes.{isSide, opposite, isFlyingZone, nobody, emptyZone, zoneOf, queueLength, progressInto, entering, withProgress, withFix, legOf, flownOutIn, emptyField};
+ghost use Rattle.field.specs.Boxes.{isSide, opposite, isFlyingZone, nobody, emptyZone, zoneOf, queueLength, orderLength, progressInto, entering, withProgress, withFix, legOf, flownOutIn, emptyField};
 
 // Whether a number is a side.
 pub fn is_side(side: u8) -> bool
@@ -78,6 +78,14 @@ pub fn queue_length(q: Zone) -> usize
     ensures { λ r. ⌜ r ≡ queueLength q ⌝ }
 {
     let n = q.length;
+    if n < 4 { n } else { 4 }
+}
+
+// How many stand in the landing sequence: its length, but no more than its four places.
+pub fn order_length(s: Sequence) -> usize
+    ensures { λ r. ⌜ r ≡ orderLength s ⌝ }
+{
+    let n = s.length;
     if n < 4 { n } else { 4 }
 }
 
