@@ -39,7 +39,8 @@ module _ {ℓ} {A : Type ℓ} where
       (drop-cons (take n l) i d h
       ∙ ap (λ (a : A). a ∷ drop (suc i) (take n l)) (getD-take n l i d (omega (arith, length-take n l))))
 
-  -- how an array's length stands in what is known of a parameter
+  -- an array's length by how it stands in what is known of a parameter: `c .good .0 .1 .1 .0 .1 .0 .1`, where the struct whose first
+  -- field is the array is the first parameter
   pub unmapped {ℓ′} : {B : Type ℓ′} (g : A → B) (l : List A) {n : ℕ} → length (map g l) ≡ n → length l ≡ n
   unmapped g l e = sym (length-map l g) ∙ e
 

@@ -1,9 +1,9 @@
 -- `field::boxes::empty_zone` meets its contract, by that of `nobody`. Assumes nothing.
 use mathlib.Core.Path.{ap}
+use borrow.Author.Needs.{needs}
 use lib.ListN.{replicate}
 use Rattle.field.specs.declared.Aircraft.{Aircraft}
 use Rattle.field.specs.declared.Zone.{Zone}
-use borrow.Author.Needs.{needs}
 use Rattle.field.proofs.boxes.empty_zone.Statement.{statement}
 use Rattle.field.proofs.boxes.empty_zone.Tie as tie
 

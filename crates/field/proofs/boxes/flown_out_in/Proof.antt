@@ -1,8 +1,8 @@
 -- `field::boxes::flown_out_in` meets its contract, by those of `leg_of` and `flown_out`. Assumes nothing.
 use mathlib.Core.Path.{ap, _∙_}
+use borrow.Author.Needs.{needs}
 use Rattle.leg.specs.Progress.{flownOut}
 use Rattle.field.specs.Boxes.{flownOutIn}
-use borrow.Author.Needs.{needs}
 use Rattle.field.proofs.boxes.flown_out_in.Statement.{statement}
 use Rattle.field.proofs.boxes.flown_out_in.Tie as tie
 

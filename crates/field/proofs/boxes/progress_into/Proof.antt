@@ -2,11 +2,11 @@
 use mathlib.Core.Path.{_≡_, sym, ap, _∙_}
 use mathlib.Core.Bool.{Bool, cond}
 use Prim.Native.Nat.{ℕ}
+use borrow.Author.Needs.{needs}
 use lib.Ieee.{ofBits, ofInt}
 use Rattle.leg.specs.Progress.{whole}
 use Rattle.leg.specs.declared.Progress.the-variants.{Waiting, Flying}
 use Rattle.field.specs.Boxes.{isFlyingZone, progressInto}
-use borrow.Author.Needs.{needs}
 use Rattle.field.proofs.boxes.progress_into.Statement.{statement}
 use Rattle.field.proofs.boxes.progress_into.Tie as tie
 

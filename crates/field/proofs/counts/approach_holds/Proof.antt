@@ -1,12 +1,12 @@
 -- `field::counts::approach_holds` meets its contract. The loop's invariant: what is added up before a zone. Assumes nothing.
+use mathlib.Core.Path.{ap}
+use mathlib.Core.Bool.{not}
 use Prim.Native.Nat.{ℕ, _-_, _≤_}
 use native.Mathlib.Omega.{arith}
 use borrow.Author.Needs.{needs}
+use lib.Dec.{eqb}
 use Rattle.field.specs.Counts.{howManyWithFix, approachHolds}
 use Rattle.field.proofs.Totals.{Added, added-none, added-more, added-all, with-fix-fits}
-use mathlib.Core.Path.{_≡_, ap}
-use mathlib.Core.Bool.{not}
-use lib.Dec.{eqb}
 use Rattle.field.proofs.counts.approach_holds.Statement.{statement}
 use Rattle.field.proofs.counts.approach_holds.Tie as tie
 
@@ -16,7 +16,9 @@ Inv-loop f side n₀ zone₀ n zone = Added (howManyWithFix f side) 9 12 n zone
 abbrev μ-loop : tie.MeasureT-loop
 μ-loop f side n₀ zone₀ n zone = 13 - zone
 
-few : (c : tie.After-how-many-with-fix Inv-loop μ-loop) → howManyWithFix (c .before .before .before .args .f) (c .before .before .before .args .side) (c .before .before .loop .zone) ≤ 4
+-- no more than four are added in a turn
+few : (c : tie.After-how-many-with-fix Inv-loop μ-loop)
+    → howManyWithFix (c .before .before .before .args .f) (c .before .before .before .args .side) (c .before .before .loop .zone) ≤ 4
 few c = with-fix-fits (c .before .before .before .args .f) _ (c .before .before .before .good .0 .1 .1 .0 .1 .1) _ _
 
 loop-holds : tie.Need-loop-holds Inv-loop μ-loop

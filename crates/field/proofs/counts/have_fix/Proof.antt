@@ -1,23 +1,24 @@
 -- `field::counts::have_fix` meets its contract. The loop's invariant: those counted, with those that are left to count, are the whole count. Assumes nothing.
-use mathlib.Core.Path.{_≡_, refl, sym, ap, _∙_}
+use mathlib.Core.Path.{_≡_, ap}
 use mathlib.Core.Logic.{⊎-elim}
+use mathlib.Core.Bool.{Bool, cond}
 use Prim.Native.Nat.{ℕ, _+_, _-_, _≤_, _<_}
 use native.Mathlib.Omega.{arith}
 use borrow.Author.Needs.{needs}
-use Rattle.field.specs.Counts.{haveFix}
-use mathlib.Core.Bool.{Bool, cond}
+use borrow.Author.Tests.{eq-eqb, ne-eqb}
 use lib.Dec.{eqb}
 use lib.ListN.{length, drop, getD, drop-of-length-le}
-use borrow.Author.Tests.{eq-eqb, ne-eqb}
 use Rattle.field.specs.declared.Aircraft.{Aircraft}
 use Rattle.field.specs.declared.Zone.{Zone}
+use Rattle.field.specs.Counts.{haveFix}
 use Rattle.field.specs.Boxes.{queueOf, queueLength}
 use Rattle.field.proofs.Shapes.{unmapped, queue-next, queue-fits}
 use Rattle.field.proofs.counts.have_fix.Statement.{statement}
 use Rattle.field.proofs.counts.have_fix.Tie as tie
 
 abbrev Inv-loop : tie.InvT-loop
-Inv-loop fix q end n₀ i₀ n i = (i ≤ end) × ((end ≤ 4) × ((end ≡ length (queueOf q)) × ((n ≤ i) × (n + haveFix fix (drop i (queueOf q)) ≡ haveFix fix (queueOf q)))))
+Inv-loop fix q end n₀ i₀ n i =
+    (i ≤ end) × ((end ≤ 4) × ((end ≡ length (queueOf q)) × ((n ≤ i) × (n + haveFix fix (drop i (queueOf q)) ≡ haveFix fix (queueOf q)))))
 
 abbrev μ-loop : tie.MeasureT-loop
 μ-loop fix q end n₀ i₀ n i = end - i
@@ -61,12 +62,19 @@ loop-again c =
     let sum = c .before .before .before .before .loop .inv .1 .1 .1 .1 in
     let one : Bool → ℕ = λ t. cond t 1 0 in
     ⊎-elim
-    (λ w. (omega arith, (omega arith, (omega arith, (omega arith, omega (arith, counted fix q i n 1 _ _ (omega arith) (ap one (eq-eqb _ _ (w .0 .taken))) sum))))))
-    (λ w. (omega arith, (omega arith, (omega arith, (omega arith, omega (arith, counted fix q i n 0 _ _ (omega arith) (ap one (ne-eqb _ _ (w .0 .left))) sum))))))
+    (λ w.
+    let more = counted fix q i n 1 _ _ (omega arith) (ap one (eq-eqb _ _ (w .0 .taken))) sum in
+    (omega arith, (omega arith, (omega arith, (omega arith, omega arith)))))
+    (λ w.
+    let more = counted fix q i n 0 _ _ (omega arith) (ap one (ne-eqb _ _ (w .0 .left))) sum in
+    (omega arith, (omega arith, (omega arith, (omega arith, omega arith)))))
     (c .if1 .came)
 
 returns : tie.Need-returns Inv-loop μ-loop
-returns c = omega (arith, ap (haveFix (c .before .before .before .args .fix)) (drop-of-length-le (queueOf (c .before .before .before .args .t1)) {i = c .before .loop .i} (omega arith)))
+returns c =
+    let a = c .before .before .before .args in
+    let i = c .before .loop .i in
+    omega (arith, ap (haveFix (a .fix)) (drop-of-length-le (queueOf (a .t1)) {i = i} (omega arith)))
 
 pub have-fix-spec : {M : Type 1} → statement M
 have-fix-spec =

@@ -1,8 +1,8 @@
 -- `field::counts::how_many` meets its contract, by those of `zone_of` and `queue_length`. Assumes nothing.
 use mathlib.Core.Path.{ap, _∙_}
+use borrow.Author.Needs.{needs}
 use Rattle.field.specs.Boxes.{queueLength, inZone}
 use Rattle.field.specs.Counts.{howMany}
-use borrow.Author.Needs.{needs}
 use Rattle.field.proofs.counts.how_many.Statement.{statement}
 use Rattle.field.proofs.counts.how_many.Tie as tie
 

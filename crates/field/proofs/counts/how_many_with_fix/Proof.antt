@@ -1,6 +1,6 @@
 -- `field::counts::how_many_with_fix` meets its contract, by those of `zone_of` and `have_fix`. Assumes nothing.
-use borrow.Author.Needs.{needs}
 use mathlib.Core.Path.{ap, _∙_}
+use borrow.Author.Needs.{needs}
 use Rattle.field.specs.declared.Zone.{Zone}
 use Rattle.field.specs.Boxes.{queueOf, inZone}
 use Rattle.field.specs.Counts.{haveFix, howManyWithFix}

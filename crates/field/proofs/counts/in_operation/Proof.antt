@@ -1,10 +1,9 @@
 -- `field::counts::in_operation` meets its contract. The loop's invariant: what is added up before a zone. Assumes nothing.
+use Prim.Native.Nat.{_-_, _≤_}
 use native.Mathlib.Omega.{arith}
 use borrow.Author.Needs.{needs}
 use Rattle.field.specs.Counts.{howMany, inOperation}
 use Rattle.field.proofs.Totals.{Added, added-none, added-more, added-all, how-many-fits}
-use mathlib.Core.Path.{_≡_}
-use Prim.Native.Nat.{_-_, _≤_}
 use Rattle.field.proofs.counts.in_operation.Statement.{statement}
 use Rattle.field.proofs.counts.in_operation.Tie as tie
 
@@ -14,6 +13,7 @@ Inv-loop f n₀ zone₀ n zone = Added (howMany f) 1 12 n zone
 abbrev μ-loop : tie.MeasureT-loop
 μ-loop f n₀ zone₀ n zone = 13 - zone
 
+-- no more than four are added in a turn
 few : (c : tie.After-how-many Inv-loop μ-loop) → howMany (c .before .before .before .args .f) (c .before .before .loop .zone) ≤ 4
 few c = how-many-fits (c .before .before .before .args .f) _ (c .before .before .before .good .0 .1 .1 .0 .1 .1) _
 

@@ -1,7 +1,7 @@
 -- `field::counts::is_in_area` meets its contract: each return gives what the definition gives where the tests are as it found them. Assumes nothing.
+use mathlib.Core.Bool.{or-false}
 use borrow.Author.Needs.{needs}
 use borrow.Author.Tests.{eq-eqb, ne-eqb}
-use mathlib.Core.Bool.{or-false}
 use Rattle.field.proofs.counts.is_in_area.Statement.{statement}
 use Rattle.field.proofs.counts.is_in_area.Tie as tie
 

@@ -1,5 +1,4 @@
 -- `field::counts::potential_of` meets its contract. The loop's invariant: what is added up before a zone. Assumes nothing.
-use mathlib.Core.Path.{_≡_}
 use Prim.Native.Nat.{_-_, _≤_}
 use native.Mathlib.Omega.{arith}
 use borrow.Author.Needs.{needs}
@@ -14,7 +13,9 @@ Inv-loop f side n₀ zone₀ n zone = Added (countedFor f side) 1 12 n zone
 abbrev μ-loop : tie.MeasureT-loop
 μ-loop f side n₀ zone₀ n zone = 13 - zone
 
-few : (c : tie.After-counted-for Inv-loop μ-loop) → countedFor (c .before .before .before .args .f) (c .before .before .before .args .side) (c .before .before .loop .zone) ≤ 4
+-- no more than four are added in a turn
+few : (c : tie.After-counted-for Inv-loop μ-loop)
+    → countedFor (c .before .before .before .args .f) (c .before .before .before .args .side) (c .before .before .loop .zone) ≤ 4
 few c = counted-fits (c .before .before .before .args .f) _ (c .before .before .before .good .0 .1 .1 .0 .1 .1) _ _
 
 loop-holds : tie.Need-loop-holds Inv-loop μ-loop

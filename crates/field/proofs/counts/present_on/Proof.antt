@@ -1,5 +1,4 @@
 -- `field::counts::present_on` meets its contract. The loop's invariant: what is added up before a zone. Assumes nothing.
-use mathlib.Core.Path.{_≡_}
 use Prim.Native.Nat.{_-_, _≤_}
 use native.Mathlib.Omega.{arith}
 use borrow.Author.Needs.{needs}
@@ -14,6 +13,7 @@ Inv-loop f n₀ zone₀ n zone = Added (howMany f) 1 13 n zone
 abbrev μ-loop : tie.MeasureT-loop
 μ-loop f n₀ zone₀ n zone = 14 - zone
 
+-- no more than four are added in a turn
 few : (c : tie.After-how-many Inv-loop μ-loop) → howMany (c .before .before .before .args .f) (c .before .before .loop .zone) ≤ 4
 few c = how-many-fits (c .before .before .before .args .f) _ (c .before .before .before .good .0 .1 .1 .0 .1 .1) _
 

@@ -1,7 +1,7 @@
 -- `field::find::aircraft_at` meets its contract, by those of `zone_of` and `aircraft_in`. Assumes nothing.
-use borrow.Author.Needs.{needs}
 use mathlib.Core.Path.{ap, _∙_}
 use mathlib.Core.List.{_∷_}
+use borrow.Author.Needs.{needs}
 use lib.ListN.{getD}
 use Rattle.field.specs.declared.Zone.{Zone}
 use Rattle.field.specs.Boxes.{nobody, queueOf, inZone}

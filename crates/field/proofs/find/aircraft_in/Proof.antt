@@ -1,9 +1,9 @@
 -- `field::find::aircraft_in` meets its contract: a place from 1 is the index before it, and past the queue is nobody. Assumes nothing.
-use borrow.Author.Needs.{needs}
 use mathlib.Core.Path.{sym, _∙_}
 use mathlib.Core.List.{_∷_}
 use Prim.Native.Nat.{_-_, _≤_, _<_}
 use native.Mathlib.Omega.{arith}
+use borrow.Author.Needs.{needs}
 use lib.ListN.{length, List·getD-eq-default}
 use Rattle.field.specs.Boxes.{nobody, queueOf, queueLength}
 use Rattle.field.proofs.Shapes.{unmapped, from-one, queue-read, queue-fits}
@@ -22,13 +22,19 @@ queue-length-requires c κs = search needs
 sub-result : tie.Need-sub-result
 sub-result c = search needs
 
-mul-result : tie.Need-mul-result
+-- the place is one of the four
+in-four : (c : tie.Then2) → c .before .before .before .args .place ≤ 4
 unfolding queueLength
-mul-result c = record { fits = omega (arith, c .before .queue-length .ensures, queue-fits (c .before .before .before .args .t1) (unmapped _ (c .before .before .before .args .t1 .aircraft) (c .before .before .before .good .0 .1 .1 .0 .1 .0 .1))) }
+in-four c =
+    let q = c .before .before .before .args .t1 in
+    let four = unmapped _ (q .aircraft) (c .before .before .before .good .0 .1 .1 .0 .1 .0 .1) in
+    omega (arith, c .before .queue-length .ensures, queue-fits q four)
+
+mul-result : tie.Need-mul-result
+mul-result c = record { fits = omega (arith, in-four c) }
 
 element-copy-out-result : tie.Need-element-copy-out-result
-unfolding queueLength
-element-copy-out-result c = omega (arith, c .before .queue-length .ensures, queue-fits (c .before .before .before .args .t1) (unmapped _ (c .before .before .before .args .t1 .aircraft) (c .before .before .before .good .0 .1 .1 .0 .1 .0 .1)))
+element-copy-out-result c = omega (arith, in-four c)
 
 nobody-requires-2 : tie.Need-nobody-requires-2
 nobody-requires-2 c κs = search needs

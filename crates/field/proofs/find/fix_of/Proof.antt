@@ -1,6 +1,6 @@
 -- `field::find::fix_of` meets its contract, by those of `place_of` and `aircraft_at`. Assumes nothing.
-use borrow.Author.Needs.{needs}
 use mathlib.Core.Path.{ap, _∙_}
+use borrow.Author.Needs.{needs}
 use Rattle.field.specs.declared.Aircraft.{Aircraft}
 use Rattle.field.specs.declared.Place.{Place}
 use Rattle.field.specs.Find.{aircraftAt, fixOf}

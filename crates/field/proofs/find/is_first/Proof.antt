@@ -1,8 +1,8 @@
 -- `field::find::is_first` meets its contract: an empty sequence has no first, and else its first stands at index 0. Assumes nothing.
-use borrow.Author.Needs.{needs}
-use mathlib.Core.Path.{_≡_, sym, ap, _∙_}
+use mathlib.Core.Path.{sym, ap}
 use Prim.Native.Nat.{ℕ, _<_}
 use native.Mathlib.Omega.{arith}
+use borrow.Author.Needs.{needs}
 use lib.ListN.{length, take, length-take}
 use Rattle.field.specs.Boxes.{orderOf}
 use Rattle.field.specs.Find.{isHead, isFirst}

@@ -17,7 +17,8 @@ use Rattle.field.proofs.find.leader_of.Tie as tie
 
 -- the leader among those left, by who stands first of them
 turn : (ahead number : ℕ) (s : Sequence) (i : ℕ) → i < length (orderOf s)
-    → aheadOf ahead number (drop i (orderOf s)) ≡ cond (eqb (getD (s .numbers) i 0) number) ahead (aheadOf (getD (s .numbers) i 0) number (drop (i + 1) (orderOf s)))
+    → aheadOf ahead number (drop i (orderOf s))
+    ≡ cond (eqb (getD (s .numbers) i 0) number) ahead (aheadOf (getD (s .numbers) i 0) number (drop (i + 1) (orderOf s)))
 turn ahead number s i h = ap (aheadOf ahead number) (order-next s i h)
 
 abbrev Inv-loop : tie.InvT-loop

@@ -1,4 +1,5 @@
--- `field::find::place_of` meets its contract. The loops' invariants: what is sought has not been passed, neither in the zones before nor in the places before. Assumes nothing.
+-- `field::find::place_of` meets its contract. The loops' invariants: what is sought was in no zone and at no place that was passed.
+-- Assumes nothing.
 use mathlib.Core.Path.{_≡_, refl, sym, ap, _∙_}
 use mathlib.Core.Bool.{Bool, cond}
 use mathlib.Core.List.{[]}
@@ -38,7 +39,8 @@ record Looking (f : Field) (number : ℕ) (found : Place) (z : ℕ) (q : Zone) (
 
 -- the first zone of those left to look at, by the place of the number in it
 module _ (f : Field) (number z p : ℕ) (low : z ≤ 13) (e : placeFrom 1 number (queueOf (zoneOf f z)) ≡ p) where
-  first : findIn f number (zonesFrom z (14 - z)) ≡ cond (eqb p 0) (findIn f number (zonesFrom (z + 1) (14 - (z + 1)))) (record { zone = z; place = p })
+  first : findIn f number (zonesFrom z (14 - z))
+      ≡ cond (eqb p 0) (findIn f number (zonesFrom (z + 1) (14 - (z + 1)))) (record { zone = z; place = p })
   unfolding findIn inZone
   first =
       let n : 14 - z ≡ suc (14 - suc z) = omega arith in
@@ -48,7 +50,8 @@ module _ (f : Field) (number z p : ℕ) (low : z ≤ 13) (e : placeFrom 1 number
 
 -- the places left to look at, by who stands at the first of them
 stands : (number : ℕ) (q : Zone) (i : ℕ) (d : Aircraft) → i < length (queueOf q)
-    → placeFrom (i + 1) number (drop i (queueOf q)) ≡ cond (eqb (getD (q .aircraft) i d .number) number) (i + 1) (placeFrom (i + 1 + 1) number (drop (i + 1) (queueOf q)))
+    → placeFrom (i + 1) number (drop i (queueOf q))
+    ≡ cond (eqb (getD (q .aircraft) i d .number) number) (i + 1) (placeFrom (i + 1 + 1) number (drop (i + 1) (queueOf q)))
 stands number q i d h = rw (add-one (i + 1)) (ap (placeFrom (i + 1) number) (queue-next q i d h))
 
 abbrev Inv-loop : tie.InvT-loop
