@@ -77,16 +77,14 @@ pub fn zone_of(f: Field, zone: usize) -> Zone
 pub fn queue_length(q: Zone) -> usize
     ensures { λ r. ⌜ r ≡ queueLength q ⌝ }
 {
-    let n = q.length;
-    if n < 4 { n } else { 4 }
+    if q.length < 4 { q.length } else { 4 }
 }
 
 // How many stand in the landing sequence: its length, but no more than its four places.
 pub fn order_length(s: Sequence) -> usize
     ensures { λ r. ⌜ r ≡ orderLength s ⌝ }
 {
-    let n = s.length;
-    if n < 4 { n } else { 4 }
+    if s.length < 4 { s.length } else { 4 }
 }
 
 // The progress with which a zone is entered.

@@ -9,13 +9,13 @@ use Rattle.field.proofs.boxes.order_length.Tie as tie
 returns : tie.Need-returns
 unfolding orderLength orderOf
 returns c =
-    let four = unmapped _ (c .before .args .s .numbers) (c .before .good .0 .1 .1 .0 .1 .0 .1) in
+    let four = unmapped _ (c .before .before .args .s .numbers) (c .before .before .good .0 .1 .1 .0 .1 .0 .1) in
     simp length-take (omega arith)
 
 returns-2 : tie.Need-returns-2
 unfolding orderLength orderOf
 returns-2 c =
-    let four = unmapped _ (c .before .args .s .numbers) (c .before .good .0 .1 .1 .0 .1 .0 .1) in
+    let four = unmapped _ (c .before .before .args .s .numbers) (c .before .before .good .0 .1 .1 .0 .1 .0 .1) in
     simp length-take (omega arith)
 
 pub order-length-spec : {M : Type 1} → statement M

@@ -9,13 +9,13 @@ use Rattle.field.proofs.boxes.queue_length.Tie as tie
 returns : tie.Need-returns
 unfolding queueLength queueOf
 returns c =
-    let four = unmapped _ (c .before .args .q .aircraft) (c .before .good .0 .1 .1 .0 .1 .0 .1) in
+    let four = unmapped _ (c .before .before .args .q .aircraft) (c .before .before .good .0 .1 .1 .0 .1 .0 .1) in
     simp length-take (omega arith)
 
 returns-2 : tie.Need-returns-2
 unfolding queueLength queueOf
 returns-2 c =
-    let four = unmapped _ (c .before .args .q .aircraft) (c .before .good .0 .1 .1 .0 .1 .0 .1) in
+    let four = unmapped _ (c .before .before .args .q .aircraft) (c .before .before .good .0 .1 .1 .0 .1 .0 .1) in
     simp length-take (omega arith)
 
 pub queue-length-spec : {M : Type 1} → statement M
