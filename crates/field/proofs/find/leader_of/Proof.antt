@@ -22,7 +22,8 @@ turn : (ahead number : ℕ) (s : Sequence) (i : ℕ) → i < length (orderOf s)
 turn ahead number s i h = ap (aheadOf ahead number) (order-next s i h)
 
 abbrev Inv-loop : tie.InvT-loop
-Inv-loop number s end ahead₀ i₀ ahead i = (i ≤ end) × ((end ≤ 4) × ((end ≡ length (orderOf s)) × (leaderOf s number ≡ aheadOf ahead number (drop i (orderOf s)))))
+Inv-loop number s end ahead₀ i₀ ahead i =
+    (i ≤ end) × ((end ≤ 4) × ((end ≡ length (orderOf s)) × (leaderOf s number ≡ aheadOf ahead number (drop i (orderOf s)))))
 
 abbrev μ-loop : tie.MeasureT-loop
 μ-loop number s end ahead₀ i₀ ahead i = end - i
