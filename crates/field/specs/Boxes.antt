@@ -3,7 +3,7 @@ use mathlib.Core.Bool.{Bool, true, false, cond, not, _&&_, _||_}
 use mathlib.Core.List.{List, [], _∷_, _++_, map}
 use Prim.Native.Nat.{ℕ, zero, suc, _+_, _%_}
 use lib.Dec.{eqb, leb}
-use lib.ListN.{getD, take, replicate}
+use lib.ListN.{length, getD, take, replicate}
 use lib.Ieee.{Float}
 use Rattle.leg.specs.Progress.{whole, flownOut}
 use Rattle.leg.specs.declared.Progress.{Progress}
@@ -103,6 +103,10 @@ zoneOf f z = getD (emptyZone ∷ f .zones) z emptyZone
 unfoldable pub queueOf : Zone → List Aircraft
 queueOf q = take (q .length) (q .aircraft)
 
+-- how many stand in a queue
+unfoldable pub queueLength : Zone → ℕ
+queueLength q = length (queueOf q)
+
 -- those in zone z, the head first
 unfoldable pub inZone : Field → ℕ → List Aircraft
 inZone f z = queueOf (zoneOf f z)
@@ -110,6 +114,10 @@ inZone f z = queueOf (zoneOf f z)
 -- the landing sequence: the numbers within its length, first to land first
 unfoldable pub orderOf : Sequence → List ℕ
 orderOf s = take (s .length) (s .numbers)
+
+-- how many stand in the landing sequence
+unfoldable pub orderLength : Sequence → ℕ
+orderLength s = length (orderOf s)
 
 -- ---- aircraft
 

@@ -1,0 +1,58 @@
+-- `field::counts::approach_holds` meets its contract. The loop's invariant: what is added up before a zone. Assumes nothing.
+use mathlib.Core.Path.{ap}
+use mathlib.Core.Bool.{not}
+use Prim.Native.Nat.{ℕ, _-_, _≤_}
+use native.Mathlib.Omega.{arith}
+use borrow.Author.Needs.{needs}
+use lib.Dec.{eqb}
+use Rattle.field.specs.Counts.{howManyWithFix, approachHolds}
+use Rattle.field.proofs.Totals.{Added, added-none, added-more, added-all, with-fix-fits}
+use Rattle.field.proofs.counts.approach_holds.Statement.{statement}
+use Rattle.field.proofs.counts.approach_holds.Tie as tie
+
+abbrev Inv-loop : tie.InvT-loop
+Inv-loop f side n₀ zone₀ n zone = Added (howManyWithFix f side) 9 12 n zone
+
+abbrev μ-loop : tie.MeasureT-loop
+μ-loop f side n₀ zone₀ n zone = 13 - zone
+
+-- no more than four are added in a turn
+few : (c : tie.After-how-many-with-fix Inv-loop μ-loop)
+    → howManyWithFix (c .before .before .before .args .f) (c .before .before .before .args .side) (c .before .before .loop .zone) ≤ 4
+few c = with-fix-fits (c .before .before .before .args .f) _ (c .before .before .before .good .0 .1 .1 .0 .1 .1) _ _
+
+loop-holds : tie.Need-loop-holds Inv-loop μ-loop
+loop-holds c = added-none _ 9 12 (omega arith)
+
+how-many-with-fix-requires : tie.Need-how-many-with-fix-requires Inv-loop μ-loop
+how-many-with-fix-requires c κs = search needs
+
+add-n : tie.Need-add-n Inv-loop μ-loop
+add-n c = record { fits = omega (arith, c .how-many-with-fix .ensures, few c) }
+
+add-zone : tie.Need-add-zone Inv-loop μ-loop
+add-zone c = search needs
+
+loop-less : tie.Need-loop-less Inv-loop μ-loop
+loop-less c = search needs
+
+loop-again : tie.Need-loop-again Inv-loop μ-loop
+loop-again c = added-more _ 9 12 _ _ _ (c .before .before .loop .inv) (omega arith) (c .how-many-with-fix .ensures) (few c)
+
+returns : tie.Need-returns Inv-loop μ-loop
+unfolding approachHolds
+returns c = ap (λ (n : ℕ). not (eqb n 0)) (added-all _ 9 12 _ _ (c .before .loop .inv) (omega arith))
+
+pub approach-holds-spec : {M : Type 1} → statement M
+approach-holds-spec =
+    tie.close
+    (tie.spec
+    Inv-loop
+    μ-loop
+    loop-holds
+    how-many-with-fix-requires
+    add-n
+    add-zone
+    loop-less
+    loop-again
+    returns)

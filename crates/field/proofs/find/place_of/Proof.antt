@@ -1,0 +1,201 @@
+-- `field::find::place_of` meets its contract. The loops' invariants: what is sought was in no zone and at no place that was passed.
+-- Assumes nothing.
+use mathlib.Core.Path.{_≡_, refl, sym, ap, _∙_}
+use mathlib.Core.Bool.{Bool, cond}
+use mathlib.Core.List.{[]}
+use Prim.Native.Nat.{ℕ, suc, _+_, _-_, _≤_, _<_}
+use native.Mathlib.Omega.{arith}
+use native.Mathlib.Numerals.{add-one}
+use borrow.Author.Needs.{needs}
+use borrow.Author.Tests.{eq-eqb, ne-eqb}
+use lib.Dec.{eqb}
+use lib.ListN.{length, drop, getD, drop-of-length-le}
+use Rattle.field.specs.declared.Aircraft.{Aircraft}
+use Rattle.field.specs.declared.Zone.{Zone}
+use Rattle.field.specs.declared.Field.{Field}
+use Rattle.field.specs.declared.Place.{Place}
+use Rattle.field.specs.Boxes.{zonesFrom, zoneOf, queueOf, queueLength, inZone}
+use Rattle.field.specs.Find.{nowhere, placeFrom, findIn, placeOf}
+use Rattle.field.proofs.Shapes.{queue-next, queue-fits, zone-places}
+use Rattle.field.proofs.find.place_of.Statement.{statement}
+use Rattle.field.proofs.find.place_of.Tie as tie
+
+-- nobody was found before zone z: what is sought is found from there on
+record Passed (f : Field) (number : ℕ) (found : Place) (z : ℕ) : Type 0 where
+  pub low : 1 ≤ z
+  pub high : z ≤ 14
+  pub none : found ≡ nowhere
+  pub rest : placeOf f number ≡ findIn f number (zonesFrom z (14 - z))
+
+-- nor before place i + 1 of zone z, whose queue is that of q and has the length `end`
+record Looking (f : Field) (number : ℕ) (found : Place) (z : ℕ) (q : Zone) (end i : ℕ) : Type 0 where
+  pub passed : Passed f number found z
+  pub zone : z ≤ 13
+  pub within : i ≤ end
+  pub few : end ≤ 4
+  pub whole : end ≡ length (queueOf q)
+  pub this : q ≡ zoneOf f z
+  pub rest : placeFrom 1 number (queueOf q) ≡ placeFrom (i + 1) number (drop i (queueOf q))
+
+-- the first zone of those left to look at, by the place of the number in it
+module _ (f : Field) (number z p : ℕ) (low : z ≤ 13) (e : placeFrom 1 number (queueOf (zoneOf f z)) ≡ p) where
+  first : findIn f number (zonesFrom z (14 - z))
+      ≡ cond (eqb p 0) (findIn f number (zonesFrom (z + 1) (14 - (z + 1)))) (record { zone = z; place = p })
+  unfolding findIn inZone
+  first =
+      let n : 14 - z ≡ suc (14 - suc z) = omega arith in
+      rw (add-one z)
+      (ap (λ (k : ℕ). findIn f number (zonesFrom z k)) n
+      ∙ ap {B = Place} (λ (k : ℕ). cond (eqb k 0) (findIn f number (zonesFrom (suc z) (14 - suc z))) (record { zone = z; place = k })) e)
+
+-- the places left to look at, by who stands at the first of them
+stands : (number : ℕ) (q : Zone) (i : ℕ) (d : Aircraft) → i < length (queueOf q)
+    → placeFrom (i + 1) number (drop i (queueOf q))
+    ≡ cond (eqb (getD (q .aircraft) i d .number) number) (i + 1) (placeFrom (i + 1 + 1) number (drop (i + 1) (queueOf q)))
+stands number q i d h = rw (add-one (i + 1)) (ap (placeFrom (i + 1) number) (queue-next q i d h))
+
+abbrev Inv-loop : tie.InvT-loop
+Inv-loop f number found₀ zone q end i₀ found i = Looking f number found zone q end i
+
+abbrev μ-loop : tie.MeasureT-loop
+μ-loop f number found₀ zone q end i₀ found i = end - i
+
+abbrev Inv-zones : tie.InvT-zones
+Inv-zones f number found₀ zone₀ found zone = Passed f number found zone
+
+abbrev μ-zones : tie.MeasureT-zones
+μ-zones f number found₀ zone₀ found zone = 14 - zone
+
+zones-holds : tie.Need-zones-holds Inv-loop μ-loop Inv-zones μ-zones
+unfolding placeOf
+zones-holds c = record { low = omega arith; high = omega arith; none = refl; rest = refl }
+
+zone-of-requires : tie.Need-zone-of-requires Inv-loop μ-loop Inv-zones μ-zones
+zone-of-requires c κs = search needs
+
+queue-length-requires : tie.Need-queue-length-requires Inv-loop μ-loop Inv-zones μ-zones
+queue-length-requires c κs = search needs
+
+loop-holds : tie.Need-loop-holds Inv-loop μ-loop Inv-zones μ-zones
+unfolding queueLength
+loop-holds c =
+    let a = c .before .before .before .before .args in
+    let z = c .before .before .before .zones .zone in
+    let fits = queue-fits (zoneOf (a .f) z) (zone-places (a .f) _ z (c .before .before .before .before .good .0 .1 .1 .0 .1 .1)) in
+    let few : c .queue-length .result ≤ 4 = omega (arith, c .queue-length .ensures, ap (λ (q : Zone). length (queueOf q)) (c .before .zone-of .ensures)) in
+    record {
+      passed = c .before .before .before .zones .inv;
+      zone = omega arith;
+      within = omega arith;
+      few = few;
+      whole = c .queue-length .ensures;
+      this = c .before .zone-of .ensures;
+      rest = refl;
+    }
+
+mul-a : tie.Need-mul-a Inv-loop μ-loop Inv-zones μ-zones
+mul-a c = record { fits = omega arith }
+
+element-copy-out-a : tie.Need-element-copy-out-a Inv-loop μ-loop Inv-zones μ-zones
+element-copy-out-a c = omega arith
+
+add-t16 : tie.Need-add-t16 Inv-loop μ-loop Inv-zones μ-zones
+add-t16 c = record { fits = omega arith }
+
+add-i : tie.Need-add-i Inv-loop μ-loop Inv-zones μ-zones
+add-i c = record { fits = omega arith }
+
+loop-less : tie.Need-loop-less Inv-loop μ-loop Inv-zones μ-zones
+loop-less c = omega arith
+
+loop-again : tie.Need-loop-again Inv-loop μ-loop Inv-zones μ-zones
+loop-again c =
+    let a = c .before .before .before .before .before .before .before .before .before .args in
+    let z = c .before .before .before .before .before .before .before .before .zones .zone in
+    let q = c .before .before .before .before .before .before .zone-of .result in
+    let i = c .before .before .before .before .loop .i in
+    let at = c .before .before .before .before .loop .inv in
+    let on : ℕ = placeFrom (i + 1 + 1) (a .number) (drop (i + 1) (queueOf q)) in
+    record {
+      passed = at .passed;
+      zone = at .zone;
+      within = omega arith;
+      few = at .few;
+      whole = at .whole;
+      this = at .this;
+      rest = at .rest ∙ stands (a .number) q i _ (omega arith) ∙ ap (λ (t : Bool). cond t (i + 1) on) (ne-eqb _ _ (c .if1 .left));
+    }
+
+add-zone : tie.Need-add-zone Inv-loop μ-loop Inv-zones μ-zones
+add-zone c = record { fits = omega arith }
+
+zones-less : tie.Need-zones-less Inv-loop μ-loop Inv-zones μ-zones
+zones-less c = omega arith
+
+zones-again : tie.Need-zones-again Inv-loop μ-loop Inv-zones μ-zones
+zones-again c =
+    let a = c .before .before .before .before .before .before .args in
+    let z = c .before .before .before .before .before .zones .zone in
+    let q = c .before .before .before .zone-of .result in
+    let i = c .before .loop .i in
+    let at = c .before .loop .inv in
+    let none : drop i (queueOf q) ≡ [] = drop-of-length-le (queueOf q) {i = i} (omega arith) in
+    let absent = ap (λ (p : Zone). placeFrom 1 (a .number) (queueOf p)) (sym (at .this)) ∙ at .rest ∙ ap (placeFrom (i + 1) (a .number)) none in
+    record {
+      low = omega arith;
+      high = omega arith;
+      none = at .passed .none;
+      rest = at .passed .rest ∙ first (a .f) (a .number) z 0 (at .zone) absent;
+    }
+
+returns : tie.Need-returns Inv-loop μ-loop Inv-zones μ-zones
+unfolding findIn
+returns c =
+    let a = c .before .before .args in
+    let z = c .before .zones .zone in
+    let at = c .before .zones .inv in
+    let none : 14 - z ≡ 0 = omega arith in
+    at .none ∙ sym (at .rest ∙ ap (λ (n : ℕ). findIn (a .f) (a .number) (zonesFrom z n)) none)
+
+returns-2 : tie.Need-returns-2 Inv-loop μ-loop Inv-zones μ-zones
+returns-2 c =
+    let a = c .before .before .before .before .before .before .before .before .before .args in
+    let z = c .before .before .before .before .before .before .before .before .zones .zone in
+    let q = c .before .before .before .before .before .before .zone-of .result in
+    let i = c .before .before .before .before .loop .i in
+    let at = c .before .before .before .before .loop .inv in
+    let on : ℕ = placeFrom (i + 1 + 1) (a .number) (drop (i + 1) (queueOf q)) in
+    let here =
+    ap (λ (p : Zone). placeFrom 1 (a .number) (queueOf p)) (sym (at .this))
+    ∙ at .rest
+    ∙ stands (a .number) q i _ (omega arith)
+    ∙ ap (λ (t : Bool). cond t (i + 1) on) (eq-eqb _ _ (c .if1 .taken)) in
+    let left : Place = findIn (a .f) (a .number) (zonesFrom (z + 1) (14 - (z + 1))) in
+    sym
+    (at .passed .rest
+    ∙ first (a .f) (a .number) z (i + 1) (at .zone) here
+    ∙ ap (λ (t : Bool). cond t left (record { zone = z; place = i + 1 })) (ne-eqb (i + 1) 0 (λ e. omega arith)))
+
+pub place-of-spec : {M : Type 1} → statement M
+place-of-spec =
+    tie.close
+    (tie.spec
+    Inv-loop
+    μ-loop
+    Inv-zones
+    μ-zones
+    zones-holds
+    zone-of-requires
+    queue-length-requires
+    loop-holds
+    mul-a
+    element-copy-out-a
+    add-t16
+    add-i
+    loop-less
+    loop-again
+    add-zone
+    zones-less
+    zones-again
+    returns
+    returns-2)

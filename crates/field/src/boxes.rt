@@ -1,0 +1,176 @@
+// Document 01, "The boxes": sides, zones, queues, aircraft and the empty field.
+use crate::Aircraft;
+use crate::Field;
+use crate::Legs;
+use crate::Sequence;
+use crate::Zone;
+use leg::Progress;
+ghost use mathlib.Core.Path.{_≡_};
+ghost use Rattle.field.specs.Boxes.{isSide, opposite, isFlyingZone, nobody, emptyZone, zoneOf, queueLength, orderLength, progressInto, entering, withProgress, withFix, legOf, flownOutIn, emptyField};
+
+// Whether a number is a side.
+pub fn is_side(side: u8) -> bool
+    ensures { λ r. ⌜ r ≡ isSide side ⌝ }
+{
+    if side == 1 { true } else { side == 2 }
+}
+
+// The opposite side; 0 of what is no side.
+pub fn opposite(side: u8) -> u8
+    ensures { λ r. ⌜ r ≡ opposite side ⌝ }
+{
+    if side == 1 {
+        2
+    } else if side == 2 {
+        1
+    } else {
+        0
+    }
+}
+
+// Whether a zone is flown in.
+pub fn is_flying_zone(zone: usize) -> bool
+    ensures { λ r. ⌜ r ≡ isFlyingZone zone ⌝ }
+{
+    if 7 <= zone { zone <= 12 } else { false }
+}
+
+// A place that is all zero and waiting.
+pub fn nobody() -> Aircraft
+    ensures { λ r. ⌜ r ≡ nobody ⌝ }
+{
+    Aircraft {
+        number: 0,
+        fix: 0,
+        speed: 0,
+        progress: Progress::Waiting,
+    }
+}
+
+// A zone at length 0.
+pub fn empty_zone() -> Zone
+    ensures { λ r. ⌜ r ≡ emptyZone ⌝ }
+{
+    let a = nobody();
+    let aircraft = [a; 4];
+    Zone {
+        aircraft: aircraft,
+        length: 0,
+    }
+}
+
+// Zone `zone` of the field; an empty one where there is no such zone.
+pub fn zone_of(f: Field, zone: usize) -> Zone
+    ensures { λ r. ⌜ r ≡ zoneOf f zone ⌝ }
+{
+    if zone == 0 {
+        return empty_zone();
+    }
+    if zone <= 13 {
+        f.zones[zone - 1]
+    } else {
+        empty_zone()
+    }
+}
+
+// How many stand in the queue: its length, but no more than its four places.
+pub fn queue_length(q: Zone) -> usize
+    ensures { λ r. ⌜ r ≡ queueLength q ⌝ }
+{
+    if q.length < 4 { q.length } else { 4 }
+}
+
+// How many stand in the landing sequence: its length, but no more than its four places.
+pub fn order_length(s: Sequence) -> usize
+    ensures { λ r. ⌜ r ≡ orderLength s ⌝ }
+{
+    if s.length < 4 { s.length } else { 4 }
+}
+
+// The progress with which a zone is entered.
+pub fn progress_into(zone: usize) -> Progress
+    ensures { λ r. ⌜ r ≡ progressInto zone ⌝ }
+{
+    if is_flying_zone(zone) {
+        Progress::Flying(0.0)
+    } else {
+        Progress::Waiting
+    }
+}
+
+// An aircraft as it enters.
+pub fn entering(number: u16, fix: u8, speed: u16) -> Aircraft
+    ensures { λ r. ⌜ r ≡ entering number fix speed ⌝ }
+{
+    Aircraft {
+        number: number,
+        fix: fix,
+        speed: speed,
+        progress: Progress::Waiting,
+    }
+}
+
+// An aircraft with another progress.
+pub fn with_progress(a: Aircraft, p: Progress) -> Aircraft
+    ensures { λ r. ⌜ r ≡ withProgress a p ⌝ }
+{
+    Aircraft {
+        number: a.number,
+        fix: a.fix,
+        speed: a.speed,
+        progress: p,
+    }
+}
+
+// An aircraft with another fix.
+pub fn with_fix(a: Aircraft, fix: u8) -> Aircraft
+    ensures { λ r. ⌜ r ≡ withFix a fix ⌝ }
+{
+    let p = a.progress;
+    Aircraft {
+        number: a.number,
+        fix: fix,
+        speed: a.speed,
+        progress: p,
+    }
+}
+
+// The leg that belongs to a zone; 0 where no leg is flown.
+pub fn leg_of(legs: Legs, zone: usize) -> f64
+    ensures { λ r. ⌜ r ≡ legOf legs zone ⌝ }
+{
+    match zone {
+        7 | 8 => legs.missed,
+        9 | 10 => legs.base,
+        11 => legs.intermediate,
+        12 => legs.final_approach,
+        _ => 0.0,
+    }
+}
+
+// Whether an aircraft in a zone has flown the zone's leg out.
+pub fn flown_out_in(legs: Legs, zone: usize, a: Aircraft) -> bool
+    ensures { λ r. ⌜ r ≡ flownOutIn legs zone a ⌝ }
+{
+    let p = a.progress;
+    leg::flown_out(p, leg_of(legs, zone))
+}
+
+// The field with nobody on it, the next fix right, and these legs.
+pub fn empty_field(legs: Legs) -> Field
+    ensures { λ r. ⌜ r ≡ emptyField legs ⌝ }
+{
+    let q = empty_zone();
+    let zones = [q; 13];
+    let numbers = [0u16; 4];
+    let sequence = Sequence {
+        numbers: numbers,
+        length: 0,
+    };
+    Field {
+        zones: zones,
+        sequence: sequence,
+        next: 1,
+        legs: legs,
+    }
+}

@@ -1,0 +1,128 @@
+// Document 01, "The boxes" and "Any list of requests": how many are where, and for whom a side must keep room.
+use crate::Field;
+use crate::Zone;
+use crate::boxes::queue_length;
+use crate::boxes::zone_of;
+ghost use mathlib.Core.Path.{_≡_};
+ghost use Rattle.field.specs.Boxes.{queueOf, area};
+ghost use Rattle.field.specs.Counts.{isIn, haveFix, howMany, howManyWithFix, presentOn, inOperation, inArea, perFix, approachHolds, countedFor, potentialOf};
+
+// How many of a queue have a fix.
+fn have_fix(q: Zone, fix: u8) -> usize
+    ensures { λ r. ⌜ r ≡ haveFix fix (queueOf q) ⌝ }
+{
+    let end = queue_length(q);
+    let mut n: usize = 0;
+    for i in 0..end {
+        let a = q.aircraft[i];
+        if a.fix == fix {
+            n += 1;
+        }
+    }
+    n
+}
+
+// How many are in a zone.
+pub fn how_many(f: Field, zone: usize) -> usize
+    ensures { λ r. ⌜ r ≡ howMany f zone ⌝ }
+{
+    queue_length(zone_of(f, zone))
+}
+
+// How many in a zone have a side as fix.
+pub fn how_many_with_fix(f: Field, side: u8, zone: usize) -> usize
+    ensures { λ r. ⌜ r ≡ howManyWithFix f side zone ⌝ }
+{
+    have_fix(zone_of(f, zone), side)
+}
+
+// How many are in all thirteen zones.
+pub fn present_on(f: Field) -> usize
+    ensures { λ r. ⌜ r ≡ presentOn f ⌝ }
+{
+    let mut n: usize = 0;
+    for zone in 1..=13 {
+        n += how_many(f, zone);
+    }
+    n
+}
+
+// How many are in the operation area.
+pub fn in_operation(f: Field) -> usize
+    ensures { λ r. ⌜ r ≡ inOperation f ⌝ }
+{
+    let mut n: usize = 0;
+    for zone in 1..=12 {
+        n += how_many(f, zone);
+    }
+    n
+}
+
+// How many are in a side's area.
+pub fn in_area(f: Field, side: u8) -> usize
+    ensures { λ r. ⌜ r ≡ inArea f side ⌝ }
+{
+    let s = side as usize;
+    how_many(f, s) + how_many(f, 2 + s) + how_many(f, 4 + s) + how_many(f, 6 + s)
+}
+
+// How many in the operation area have a side as fix.
+pub fn per_fix(f: Field, side: u8) -> usize
+    ensures { λ r. ⌜ r ≡ perFix f side ⌝ }
+{
+    let mut n: usize = 0;
+    for zone in 1..=12 {
+        n += how_many_with_fix(f, side, zone);
+    }
+    n
+}
+
+// Whether anybody on the approach has a side as fix.
+pub fn approach_holds(f: Field, side: u8) -> bool
+    ensures { λ r. ⌜ r ≡ approachHolds f side ⌝ }
+{
+    let mut n: usize = 0;
+    for zone in 9..=12 {
+        n += how_many_with_fix(f, side, zone);
+    }
+    n != 0
+}
+
+// Whether a zone belongs to a side's area.
+fn is_in_area(side: u8, zone: usize) -> bool
+    ensures { λ r. ⌜ r ≡ isIn zone (area side) ⌝ }
+{
+    let s = side as usize;
+    if s == zone {
+        return true;
+    }
+    if 2 + s == zone {
+        return true;
+    }
+    if 4 + s == zone {
+        return true;
+    }
+    6 + s == zone
+}
+
+// How many of a zone count for a side: all of them in the side's area, and elsewhere those with the side as fix.
+pub fn counted_for(f: Field, side: u8, zone: usize) -> usize
+    ensures { λ r. ⌜ r ≡ countedFor f side zone ⌝ }
+{
+    if is_in_area(side, zone) {
+        how_many(f, zone)
+    } else {
+        how_many_with_fix(f, side, zone)
+    }
+}
+
+// The potential number of a side.
+pub fn potential_of(f: Field, side: u8) -> usize
+    ensures { λ r. ⌜ r ≡ potentialOf f side ⌝ }
+{
+    let mut n: usize = 0;
+    for zone in 1..=12 {
+        n += counted_for(f, side, zone);
+    }
+    n
+}
