@@ -1,9 +1,12 @@
 // The landing field: thirteen zones, the landing sequence, the next fix and the legs, by value.
 use leg::Progress;
 
+pub mod bounds;
 pub mod boxes;
 pub mod counts;
+pub mod edits;
 pub mod find;
+pub mod numbers;
 
 // Document 01's aircraft: a number (never 0), a fix (the side for its missed approach), a speed in 64ths of a mile
 // per minute, and a progress.
