@@ -15,3 +15,4 @@ pub mod Ticking
 pub mod Kept
 pub mod After
 pub mod Heads
+pub mod Checks
