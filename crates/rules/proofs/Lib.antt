@@ -16,3 +16,5 @@ pub mod Kept
 pub mod After
 pub mod Heads
 pub mod Checks
+pub mod OnLine
+pub mod HoldBoth
