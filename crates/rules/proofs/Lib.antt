@@ -18,3 +18,5 @@ pub mod Heads
 pub mod Checks
 pub mod OnLine
 pub mod HoldBoth
+pub mod AtEnds
+pub mod Accepted

@@ -63,11 +63,11 @@ flip-eqb m n {b} e = go b e
     go false e = ne-eqb n m (λ q. true≢false (sym (eq-eqb m n (sym q)) ∙ e))
 
 -- ---- from k on, n numbers: what holds of each one
-abbrev pub EachFrom : ℕ → ℕ → (ℕ → Type 0) → Type 0
-EachFrom k zero P = Unit {0}
+abbrev pub EachFrom {ℓ} : ℕ → ℕ → (ℕ → Type ℓ) → Type ℓ
+EachFrom k zero P = Unit {ℓ}
 EachFrom k (suc n) P = P k × EachFrom (suc k) n P
 
-each-from : (k n : ℕ) (P : ℕ → Type 0) → EachFrom k n P → (z : ℕ) → k ≤ z → z < k + n → P z
+each-from {ℓ} : (k n : ℕ) (P : ℕ → Type ℓ) → EachFrom k n P → (z : ℕ) → k ≤ z → z < k + n → P z
 each-from k zero P p z l h = absurd (omega arith)
 each-from k (suc n) P p z l h =
     elim (eq-or-lt-of-le l) [
@@ -76,5 +76,6 @@ each-from k (suc n) P p z l h =
     ]
 
 -- what holds of each of 1 to 13 holds of every zone
-pub each-zone : (P : ℕ → Type 0) → EachFrom 1 13 P → (z : ℕ) → T (leb 1 z && leb z 13) → P z
-each-zone P p z t = each-from 1 13 P p z (leb→le 1 z (and-l (leb 1 z) (leb z 13) t)) (let h = leb→le z 13 (and-r (leb 1 z) (leb z 13) t) in omega arith)
+pub each-zone {ℓ} : (P : ℕ → Type ℓ) → EachFrom 1 13 P → (z : ℕ) → T (leb 1 z && leb z 13) → P z
+each-zone P p z t =
+    each-from 1 13 P p z (leb→le 1 z (and-l (leb 1 z) (leb z 13) t)) (let h = leb→le z 13 (and-r (leb 1 z) (leb z 13) t) in omega arith)
