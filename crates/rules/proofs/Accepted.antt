@@ -157,7 +157,7 @@ module _ (f : Side) (line : List Placed) (runway : List Aircraft) (legs : Legs) 
   zone-13 h q = lower (h .here .zone) (zone-in f (h .ahead) (h .here) (h .behind) runway legs q)
 
   -- kind 7
-  seven : r .kind ≡ 7 → firstRefused (headChecks G r ++ besides G r 7) ≡ 0 → After f line runway legs r
+  pub seven : r .kind ≡ 7 → firstRefused (headChecks G r ++ besides G r 7) ≡ 0 → After f line runway legs r
   seven k c =
       moving 7 k tt (λ u. omega arith) c
       (λ h q d.
@@ -171,7 +171,7 @@ module _ (f : Side) (line : List Placed) (runway : List Aircraft) (legs : Legs) 
       (after-7 f (h .here) (h .behind) legs (subst (λ (l : List Aircraft). Orderly f (h .here ∷ h .behind) l legs) n (subst (λ (l : List Placed). Orderly f l runway legs) w q)) r (h .named) k z)))
 
   -- kind 8
-  eight : r .kind ≡ 8 → firstRefused (headChecks G r ++ []) ≡ 0 → After f line runway legs r
+  pub eight : r .kind ≡ 8 → firstRefused (headChecks G r ++ []) ≡ 0 → After f line runway legs r
   eight k c =
       let p = head-passed G r [] c in
       elim (heading f line runway legs o r (p .known) (p .starts) (p .first)) [
@@ -184,7 +184,7 @@ module _ (f : Side) (line : List Placed) (runway : List Aircraft) (legs : Legs) 
       ]
 
   -- kind 9
-  nine : r .kind ≡ 9 → firstRefused (headChecks G r ++ besides G r 9) ≡ 0 → After f line runway legs r
+  pub nine : r .kind ≡ 9 → firstRefused (headChecks G r ++ besides G r 9) ≡ 0 → After f line runway legs r
   nine k c =
       moving 9 k tt (λ u. omega arith) c
       (λ h q d.
@@ -196,7 +196,7 @@ module _ (f : Side) (line : List Placed) (runway : List Aircraft) (legs : Legs) 
       subst (λ (l : List Placed). After f l runway legs r) (sym w) (after-9 f (h .here) (h .behind) runway legs (subst (λ (l : List Placed). Orderly f l runway legs) w q) r (h .named) k z))
 
   -- kind 10
-  ten : r .kind ≡ 10 → firstRefused (headChecks G r ++ []) ≡ 0 → After f line runway legs r
+  pub ten : r .kind ≡ 10 → firstRefused (headChecks G r ++ []) ≡ 0 → After f line runway legs r
   ten k c =
       moving 10 k tt (λ u. omega arith) c
       (λ h q d.
@@ -206,7 +206,7 @@ module _ (f : Side) (line : List Placed) (runway : List Aircraft) (legs : Legs) 
       subst (λ (l : List Placed). After f l runway legs r) (sym w) (after-10 f (h .here) (h .behind) runway legs (subst (λ (l : List Placed). Orderly f l runway legs) w q) r (h .named) k z))
 
   -- kind 11
-  eleven : r .kind ≡ 11 → firstRefused (headChecks G r ++ besides G r 11) ≡ 0 → After f line runway legs r
+  pub eleven : r .kind ≡ 11 → firstRefused (headChecks G r ++ besides G r 11) ≡ 0 → After f line runway legs r
   eleven k c =
       moving 11 k tt (λ u. omega arith) c
       (λ h q d.
@@ -216,14 +216,14 @@ module _ (f : Side) (line : List Placed) (runway : List Aircraft) (legs : Legs) 
       ])
 
   -- kinds 3 to 6
-  three : r .kind ≡ 3 → firstRefused (headChecks G r ++ besides G r 3) ≡ 0 → After f line runway legs r
+  pub three : r .kind ≡ 3 → firstRefused (headChecks G r ++ besides G r 3) ≡ 0 → After f line runway legs r
   three k c = moving 3 k tt (λ u. omega arith) c (λ h q d. after-3 f (h .ahead) (h .here) (h .behind) runway legs q r (h .named) (h .heads) (h .place-is) (h .starts) k d)
 
-  four : r .kind ≡ 4 → firstRefused (headChecks G r ++ besides G r 4) ≡ 0 → After f line runway legs r
+  pub four : r .kind ≡ 4 → firstRefused (headChecks G r ++ besides G r 4) ≡ 0 → After f line runway legs r
   four k c = moving 4 k tt (λ u. omega arith) c (λ h q d. after-4 f (h .ahead) (h .here) (h .behind) runway legs q r (h .named) (h .heads) (h .place-is) (h .starts) k d)
 
-  five : r .kind ≡ 5 → firstRefused (headChecks G r ++ besides G r 5) ≡ 0 → After f line runway legs r
+  pub five : r .kind ≡ 5 → firstRefused (headChecks G r ++ besides G r 5) ≡ 0 → After f line runway legs r
   five k c = moving 5 k tt (λ u. omega arith) c (λ h q d. after-5 f (h .ahead) (h .here) (h .behind) runway legs q r (h .named) (h .heads) (h .place-is) (h .starts) k d)
 
-  six : r .kind ≡ 6 → firstRefused (headChecks G r ++ besides G r 6) ≡ 0 → After f line runway legs r
+  pub six : r .kind ≡ 6 → firstRefused (headChecks G r ++ besides G r 6) ≡ 0 → After f line runway legs r
   six k c = moving 6 k tt (λ u. omega arith) c (λ h q d. after-6 f (h .ahead) (h .here) (h .behind) runway legs q r (h .named) (h .heads) (h .place-is) (h .starts) k)

@@ -20,3 +20,4 @@ pub mod OnLine
 pub mod HoldBoth
 pub mod AtEnds
 pub mod Accepted
+pub mod Steps
