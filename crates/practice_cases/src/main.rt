@@ -50,7 +50,7 @@ fn large(more: u8) -> [u8; 24616] {
     file
 }
 
-// Lengths, and the letters.
+// Writes the lines of files that differ in length and in the letters.
 fn openings() {
     let file = with(4, 2, 0);
     line(b"34 bytes", &file);
@@ -67,7 +67,7 @@ fn openings() {
     line(b"letters sCAP", &with(0, b's', b'C'));
 }
 
-// The count and the two entries.
+// Writes the lines of files that differ in the count and in the two entries.
 fn contents() {
     line(b"count 1", &with(4, 1, 0));
     line(b"count 258", &with(4, 2, 1));
@@ -81,7 +81,7 @@ fn contents() {
     line(b"second length 16777216 in 34 bytes", &with(24, 0, 1));
 }
 
-// Second bodies of 6 and of 5 bytes.
+// Writes the lines of files with second bodies of 6 and of 5 bytes.
 fn bodies() {
     let six =
         b"SCAP\x02\x00\x01\x00\x1a\x00\x00\x00\x08\x00\x00\x00\x02\x00\x22\x00\x00\x00\x06\x00\x00\x00\x40\x00\x40\x00\x40\x00\x40\x00\x01\x01\x07\x00\x40\x00";
@@ -92,7 +92,7 @@ fn bodies() {
     line(b"39 bytes with second length 5", five);
 }
 
-// The shortest leg, the longest, and one past each at every leg.
+// Writes the lines of files with the shortest leg, with the longest, and with one past each at every leg.
 fn legs() {
     line(b"base 1", &with(26, 1, 0));
     line(b"base 4096", &with(26, 0, 16));
@@ -106,6 +106,7 @@ fn legs() {
     line(b"missed 4097", &with(32, 1, 16));
 }
 
+// Writes the lines of all files.
 fn main() {
     openings();
     contents();

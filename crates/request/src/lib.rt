@@ -3,6 +3,7 @@ ghost use mathlib.Core.Path.{_≡_};
 ghost use mathlib.Core.List.{[], _∷_};
 ghost use Rattle.request.specs.Input.{word, requestOf, within, firstRefused, inputNumber};
 
+// Document 01's request: what is asked, the side, the aircraft's number, and a speed or the 64ths of a minute of a tick.
 pub struct Request {
     pub kind: u8,
     pub side: u8,
