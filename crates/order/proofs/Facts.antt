@@ -68,9 +68,16 @@ fittingSide s =
           ∷ [];
     }
 
+-- a heavy claim is tested in parts, for each side or each kind, which keeps the memory small
+fitting-right : T (ofSequences (fittingSide right))
+fitting-right = tt
+
+fitting-left : T (ofSequences (fittingSide left))
+fitting-left = tt
+
 fitting-side-holds : (s : Side) → T (ofSequences (fittingSide s))
-fitting-side-holds right = tt
-fitting-side-holds left = tt
+fitting-side-holds right = fitting-right
+fitting-side-holds left = fitting-left
 
 -- bounds b, c and d hold
 pub okay-bounds : (f : Side) (zs : List ℕ) → T (okay f zs) → Bounds f zs
@@ -97,10 +104,17 @@ entered s =
           ∷ [];
     }
 
-entered-holds : (s : Side) → T (ofSequences (entered s))
+entered-right : T (ofSequences (entered right))
 unfolding okay
-entered-holds right = tt
-entered-holds left = tt
+entered-right = tt
+
+entered-left : T (ofSequences (entered left))
+unfolding okay
+entered-left = tt
+
+entered-holds : (s : Side) → T (ofSequences (entered s))
+entered-holds right = entered-right
+entered-holds left = entered-left
 
 -- an entry to 3000 needs a potential number under 2
 enter-under-2 : (f : Side) (zs : List ℕ) (s : ℕ) → T (mayEnter f zs s) → T (ltb (potential f zs s) 2)
@@ -146,7 +160,6 @@ moved k =
           okay f (zs₁ ++ w ∷ zs₂) ∷ free zs₂ w ∷ not (eqb w z) ∷ between 1 12 w ∷ ltb (weight w) (weight z) ∷ [];
     }
 
--- each kind is tested by itself, which keeps the memory of the test small
 descend-holds : T (ofOnes (moved descend))
 unfolding okay
 descend-holds = tt
