@@ -1,6 +1,6 @@
 -- Claims about okay sequences, and about one or two places in them: a computed test of each, and what a passed test says. Assumes
 -- nothing.
-use mathlib.Core.Bool.{Bool, true, false, not, _&&_, _||_}
+use mathlib.Core.Bool.{Bool, true, false, _&&_}
 use mathlib.Core.List.{List, [], _∷_, _++_, append-nil, append-assoc}
 use Prim.Native.Nat.{ℕ, zero, suc}
 use lib.Dec.{T}
@@ -8,14 +8,6 @@ use lib.ListN.{getD}
 use lib.Ieee.Fits.{and-l, and-r}
 use Rattle.order.specs.Model.{Side, okay}
 use Rattle.order.proofs.Sweep.{if-at, everyOkay, every-okay-at}
-
--- the second test holds where the first does
-abbrev pub implies : Bool → Bool → Bool
-implies b c = not b || c
-
-pub implies-at : (b c : Bool) → T (implies b c) → T b → T c
-implies-at true c t h = t
-implies-at false c t h = absurd h
 
 -- all the listed tests hold
 abbrev allHold : List Bool → Bool

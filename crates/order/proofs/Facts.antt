@@ -4,15 +4,14 @@ use mathlib.Core.Path.{_≡_, refl}
 use mathlib.Core.Bool.{Bool, true, false, cond, not, _&&_, _||_}
 use mathlib.Core.List.{List, [], _∷_, _++_}
 use Prim.Native.Nat.{ℕ, zero, suc, _+_, _≤_, _<_}
-use native.Mathlib.Omega.{arith}
-use lib.Dec.{T, leb, ltb, eqb, leb→le, ltb→lt, lt→ltb, eqb→eq, eqb-refl}
+use lib.Dec.{T, leb, ltb, eqb, leb→le, ltb→lt, eqb-refl}
 use lib.ListN.{length}
-use lib.Ieee.Fits.{and-i, and-l}
-use Rattle.field.specs.Boxes.{opposite, sideOf, at3000, at2000, lateral, missed, area, approach, operation, zonesFrom}
+use lib.Ieee.Fits.{and-i}
+use Rattle.field.specs.Boxes.{opposite, sideOf, at3000, at2000, lateral, missed, area, operation, zonesFrom}
 use Rattle.field.specs.Counts.{total}
 use Rattle.field.specs.Bounds.{every}
-use Rattle.order.specs.Model.{Side, right, left, opp, num, between, count, countFix, potential, free, isNil, Kind, descend, approaching, merge, final, hold, needs, target, mayEnter, mayEnterLateral, firstFix, all, okay, weight, weights}
-use Rattle.order.proofs.Claims.{implies, implies-at, Each, Claim, One, Two, ofSequences, of-sequence, ofOnes, of-one, ofTwos, of-two}
+use Rattle.order.specs.Model.{Side, right, left, opp, num, between, count, countFix, free, isNil, Kind, descend, approaching, merge, final, hold, needs, target, mayEnter, mayEnterLateral, firstFix, all, okay, weight, weights}
+use Rattle.order.proofs.Claims.{Each, Claim, One, Two, ofSequences, of-sequence, ofOnes, of-one, ofTwos, of-two}
 
 -- ---- the sequence as a whole
 
@@ -92,17 +91,9 @@ okay-bounds f zs o =
 
 -- ---- entries
 
--- both entries on side s, tested where the potential number is under 2
+-- vertical entry on side s
 abbrev entered : Side → Claim (List ℕ)
-entered s =
-    record {
-      given = λ f zs. ltb (potential f zs (num s)) 2;
-      shown =
-          λ f zs.
-          implies (mayEnter f zs (num s)) (okay (firstFix s f zs) (zs ++ (at3000 (num s) ∷ [])))
-          ∷ implies (mayEnterLateral f zs (num s)) (okay (firstFix s f zs) (zs ++ (lateral (num s) ∷ [])))
-          ∷ [];
-    }
+entered s = record { given = λ f zs. mayEnter f zs (num s); shown = λ f zs. okay (firstFix s f zs) (zs ++ (at3000 (num s) ∷ [])) ∷ [] }
 
 entered-right : T (ofSequences (entered right))
 unfolding okay
@@ -116,27 +107,30 @@ entered-holds : (s : Side) → T (ofSequences (entered s))
 entered-holds right = entered-right
 entered-holds left = entered-left
 
--- an entry to 3000 needs a potential number under 2
-enter-under-2 : (f : Side) (zs : List ℕ) (s : ℕ) → T (mayEnter f zs s) → T (ltb (potential f zs s) 2)
-enter-under-2 f zs s u =
-    let a = ltb (potential f zs s) 2 in
-    let b = eqb (total (countFix f zs s) approach) 0 in
-    let c = free zs (missed s) in
-    let d = free zs (lateral s) in
-    and-l a b (and-l (a && b) c (and-l (a && b && c) d (and-l (a && b && c && d) (free zs (at3000 s)) u)))
-
 -- an entry to 3000 leads to an okay sequence
 pub enter : (f s : Side) (zs : List ℕ) → T (okay f zs) → T (mayEnter f zs (num s)) → T (okay (firstFix s f zs) (zs ++ (at3000 (num s) ∷ [])))
-enter f s zs o u =
-    implies-at (mayEnter f zs (num s)) (okay (firstFix s f zs) (zs ++ (at3000 (num s) ∷ [])))
-    (of-sequence (entered s) (entered-holds s) f zs o (enter-under-2 f zs (num s) u) 0) u
+enter f s zs o u = of-sequence (entered s) (entered-holds s) f zs o u 0
+
+-- lateral entry on side s
+abbrev enteredLateral : Side → Claim (List ℕ)
+enteredLateral s =
+    record { given = λ f zs. mayEnterLateral f zs (num s); shown = λ f zs. okay (firstFix s f zs) (zs ++ (lateral (num s) ∷ [])) ∷ [] }
+
+entered-lateral-right : T (ofSequences (enteredLateral right))
+unfolding okay
+entered-lateral-right = tt
+
+entered-lateral-left : T (ofSequences (enteredLateral left))
+unfolding okay
+entered-lateral-left = tt
+
+entered-lateral-holds : (s : Side) → T (ofSequences (enteredLateral s))
+entered-lateral-holds right = entered-lateral-right
+entered-lateral-holds left = entered-lateral-left
 
 -- a lateral entry leads to an okay sequence
 pub enter-lateral : (f s : Side) (zs : List ℕ) → T (okay f zs) → T (mayEnterLateral f zs (num s)) → T (okay (firstFix s f zs) (zs ++ (lateral (num s) ∷ [])))
-enter-lateral f s zs o u =
-    let under-2 = lt→ltb (potential f zs (num s)) 2 (omega (arith, eqb→eq (potential f zs (num s)) 0 u)) in
-    implies-at (mayEnterLateral f zs (num s)) (okay (firstFix s f zs) (zs ++ (lateral (num s) ∷ [])))
-    (of-sequence (entered s) (entered-holds s) f zs o under-2 1) u
+enter-lateral f s zs o u = of-sequence (enteredLateral s) (entered-lateral-holds s) f zs o u 0
 
 -- ---- a move of one
 
