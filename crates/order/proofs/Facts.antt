@@ -1,9 +1,9 @@
 -- What holds of every okay sequence: its bounds, that entries and moves lead to okay sequences again, and that the first can always go on.
 -- A claim, such as `moved`, is tested of all okay sequences by computation (`moved-holds`), and the fact is read off. Assumes nothing.
 use mathlib.Core.Path.{_≡_, refl}
-use mathlib.Core.Bool.{Bool, true, false, cond, not, _&&_, _||_}
+use mathlib.Core.Bool.{true, cond, not, _&&_, _||_}
 use mathlib.Core.List.{List, [], _∷_, _++_}
-use Prim.Native.Nat.{ℕ, zero, suc, _+_, _≤_, _<_}
+use Prim.Native.Nat.{ℕ, _+_, _≤_, _<_}
 use lib.Dec.{T, leb, ltb, eqb, leb→le, ltb→lt, eqb-refl}
 use lib.ListN.{length}
 use lib.Ieee.Fits.{and-i}
