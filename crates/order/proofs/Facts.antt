@@ -1,9 +1,9 @@
 -- What holds of every okay sequence: its bounds, that entries and moves lead to okay sequences again, and that the first can always go on.
--- A claim, such as `entered`, is tested of all okay sequences by computation (`entered-holds`), and the fact is read off. Assumes nothing.
+-- A claim, such as `moved`, is tested of all okay sequences by computation (`moved-holds`), and the fact is read off. Assumes nothing.
 use mathlib.Core.Path.{_≡_, refl}
-use mathlib.Core.Bool.{Bool, true, false, cond, not, _&&_, _||_}
+use mathlib.Core.Bool.{true, cond, not, _&&_, _||_}
 use mathlib.Core.List.{List, [], _∷_, _++_}
-use Prim.Native.Nat.{ℕ, zero, suc, _+_, _≤_, _<_}
+use Prim.Native.Nat.{ℕ, _+_, _≤_, _<_}
 use lib.Dec.{T, leb, ltb, eqb, leb→le, ltb→lt, eqb-refl}
 use lib.ListN.{length}
 use lib.Ieee.Fits.{and-i}
@@ -67,9 +67,16 @@ fittingSide s =
           ∷ [];
     }
 
+-- a heavy claim is tested in parts, for each side or each kind, which keeps the memory small
+fitting-right : T (ofSequences (fittingSide right))
+fitting-right = tt
+
+fitting-left : T (ofSequences (fittingSide left))
+fitting-left = tt
+
 fitting-side-holds : (s : Side) → T (ofSequences (fittingSide s))
-fitting-side-holds right = tt
-fitting-side-holds left = tt
+fitting-side-holds right = fitting-right
+fitting-side-holds left = fitting-left
 
 -- bounds b, c and d hold
 pub okay-bounds : (f : Side) (zs : List ℕ) → T (okay f zs) → Bounds f zs
@@ -88,10 +95,17 @@ okay-bounds f zs o =
 abbrev entered : Side → Claim (List ℕ)
 entered s = record { given = λ f zs. mayEnter f zs (num s); shown = λ f zs. okay (firstFix s f zs) (zs ++ (at3000 (num s) ∷ [])) ∷ [] }
 
-entered-holds : (s : Side) → T (ofSequences (entered s))
+entered-right : T (ofSequences (entered right))
 unfolding okay
-entered-holds right = tt
-entered-holds left = tt
+entered-right = tt
+
+entered-left : T (ofSequences (entered left))
+unfolding okay
+entered-left = tt
+
+entered-holds : (s : Side) → T (ofSequences (entered s))
+entered-holds right = entered-right
+entered-holds left = entered-left
 
 -- an entry to 3000 leads to an okay sequence
 pub enter : (f s : Side) (zs : List ℕ) → T (okay f zs) → T (mayEnter f zs (num s)) → T (okay (firstFix s f zs) (zs ++ (at3000 (num s) ∷ [])))
@@ -102,10 +116,17 @@ abbrev enteredLateral : Side → Claim (List ℕ)
 enteredLateral s =
     record { given = λ f zs. mayEnterLateral f zs (num s); shown = λ f zs. okay (firstFix s f zs) (zs ++ (lateral (num s) ∷ [])) ∷ [] }
 
-entered-lateral-holds : (s : Side) → T (ofSequences (enteredLateral s))
+entered-lateral-right : T (ofSequences (enteredLateral right))
 unfolding okay
-entered-lateral-holds right = tt
-entered-lateral-holds left = tt
+entered-lateral-right = tt
+
+entered-lateral-left : T (ofSequences (enteredLateral left))
+unfolding okay
+entered-lateral-left = tt
+
+entered-lateral-holds : (s : Side) → T (ofSequences (enteredLateral s))
+entered-lateral-holds right = entered-lateral-right
+entered-lateral-holds left = entered-lateral-left
 
 -- a lateral entry leads to an okay sequence
 pub enter-lateral : (f s : Side) (zs : List ℕ) → T (okay f zs) → T (mayEnterLateral f zs (num s)) → T (okay (firstFix s f zs) (zs ++ (lateral (num s) ∷ [])))
@@ -133,7 +154,6 @@ moved k =
           okay f (zs₁ ++ w ∷ zs₂) ∷ free zs₂ w ∷ not (eqb w z) ∷ between 1 12 w ∷ ltb (weight w) (weight z) ∷ [];
     }
 
--- each kind is tested by itself, which keeps the memory of the test small
 descend-holds : T (ofOnes (moved descend))
 unfolding okay
 descend-holds = tt
