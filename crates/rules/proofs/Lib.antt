@@ -21,3 +21,4 @@ pub mod HoldBoth
 pub mod AtEnds
 pub mod Accepted
 pub mod Steps
+pub mod Outcomes

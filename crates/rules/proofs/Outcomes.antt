@@ -1,0 +1,120 @@
+-- The outcome of any request on a field that an orderly line stands for: accepted, with what it leaves behind, or refused by a number
+-- that is neither 10 nor 25. Assumes nothing.
+use mathlib.Core.Path.{_≡_, refl, sym, ap, _∙_, subst}
+use mathlib.Core.Logic.{_⊎_, inl, inr}
+use mathlib.Core.Bool.{Bool, true, false, cond, not, _&&_, _||_}
+use mathlib.Core.List.{List, [], _∷_, _++_}
+use Prim.Native.Nat.{ℕ, zero, suc, _+_, _≤_, _<_}
+use native.Mathlib.Omega.{arith}
+use lib.Dec.{T, leb, eqb, leb→le, le→leb}
+use lib.Ieee.Fits.{and-i, and-l, and-r}
+use borrow.Author.Tests.{eqb-true, eqb-false, eq-eqb, ne-eqb}
+use Rattle.request.specs.Input.{firstRefused, inputNumber}
+use Rattle.request.specs.declared.Request.{Request}
+use Rattle.field.specs.declared.Aircraft.{Aircraft}
+use Rattle.field.specs.declared.Legs.{Legs}
+use Rattle.field.specs.declared.Field.{Field}
+use Rattle.field.specs.Bounds.{every, withinBounds}
+use Rattle.order.specs.Model.{Side, between}
+use Rattle.rules.specs.declared.Answer.{Answer}
+use Rattle.rules.specs.declared.Stepped.{Stepped}
+use Rattle.rules.specs.Step.{checksOf, effectOf, numberOf, numberAndZeros, acceptance, answerOf, stepOf}
+use Rattle.rules.proofs.Tests.{passed, pass, decided, or-left, or-right, if-true, if-false}
+use Rattle.rules.proofs.Line.{Placed, fieldOf}
+use Rattle.rules.proofs.Orderly.{Orderly}
+use Rattle.rules.proofs.Within.{within-bounds}
+use Rattle.rules.proofs.After.{After}
+use Rattle.rules.proofs.Checks.{numberedIn, refused-in, refused-more, refused-first, checks-numbered, input-numbered}
+use Rattle.rules.proofs.Steps.{accepted-after}
+
+-- ---- the step by its number, on any field
+pub number-is : (f : Field) (r : Request) → stepOf f r .answer .number ≡ numberOf f r
+unfolding stepOf answerOf numberAndZeros acceptance
+number-is f r = elim (decided (eqb (numberOf f r) 0)) [ inl e ↦ go true e (eqb-true (numberOf f r) 0 e) | inr e ↦ refused e ]
+  where
+    refused : eqb (numberOf f r) 0 ≡ false → stepOf f r .answer .number ≡ numberOf f r
+    refused e = ap (λ (s : Stepped). s .answer .number) (if-false (record { answer = answerOf f r; field = effectOf f r }) (record { answer = numberAndZeros (numberOf f r); field = f }) e)
+
+    zero-number : (b : Bool) (x : Answer) → x .number ≡ 0 → cond b (numberAndZeros 0) x .number ≡ 0
+    zero-number true x e = refl
+    zero-number false x e = e
+
+    go : (b : Bool) → eqb (numberOf f r) 0 ≡ true → numberOf f r ≡ 0 → stepOf f r .answer .number ≡ numberOf f r
+    go b e z =
+        ap (λ (s : Stepped). s .answer .number) (if-true (record { answer = answerOf f r; field = effectOf f r }) (record { answer = numberAndZeros (numberOf f r); field = f }) e)
+        ∙ zero-number (eqb (r .kind) 12) (acceptance (effectOf f r) (r .number) (cond (eqb (r .kind) 11) (Rattle.rules.specs.Kinds.heldAlong f r) 0)) refl
+        ∙ sym z
+
+pub field-accepted : (f : Field) (r : Request) → numberOf f r ≡ 0 → stepOf f r .field ≡ effectOf f r
+unfolding stepOf
+field-accepted f r e = ap (λ (s : Stepped). s .field) (if-true (record { answer = answerOf f r; field = effectOf f r }) (record { answer = numberAndZeros (numberOf f r); field = f }) (eq-eqb (numberOf f r) 0 e))
+
+pub field-refused : (f : Field) (r : Request) → (numberOf f r ≡ 0 → ⊥) → stepOf f r .field ≡ f
+unfolding stepOf
+field-refused f r e = ap (λ (s : Stepped). s .field) (if-false (record { answer = answerOf f r; field = effectOf f r }) (record { answer = numberAndZeros (numberOf f r); field = f }) (ne-eqb (numberOf f r) 0 e))
+
+-- ---- the number of a refusal on an orderly field: 1 to 4, or 11 to 24
+abbrev pub refusable : ℕ → Bool
+refusable n = between 1 4 n || between 11 24 n
+
+pub record Accepted (f : Side) (line : List Placed) (runway : List Aircraft) (legs : Legs) (r : Request) : Type 1 where
+  pub number-0 : numberOf (fieldOf f line runway legs) r ≡ 0
+  pub after : After f line runway legs r
+
+module _ (f : Side) (line : List Placed) (runway : List Aircraft) (legs : Legs) (o : Orderly f line runway legs) (r : Request) where
+  abbrev F : Field
+  F = fieldOf f line runway legs
+
+  -- the checks and the field afterwards, where the input rules hold
+  number-of : inputNumber r ≡ 0 → numberOf F r ≡ firstRefused (checksOf F r ++ ((25, withinBounds (effectOf F r)) ∷ []))
+  unfolding numberOf
+  number-of e =
+      if-true (firstRefused ((10, withinBounds F) ∷ checksOf F r ++ ((25, withinBounds (effectOf F r)) ∷ []))) (inputNumber r) (eq-eqb (inputNumber r) 0 e)
+      ∙ ap (λ (b : Bool). cond b (firstRefused (checksOf F r ++ ((25, withinBounds (effectOf F r)) ∷ []))) 10) (passed {b = withinBounds F} (within-bounds f line runway legs o))
+
+  number-input : (inputNumber r ≡ 0 → ⊥) → numberOf F r ≡ inputNumber r
+  unfolding numberOf
+  number-input e = if-false (firstRefused ((10, withinBounds F) ∷ checksOf F r ++ ((25, withinBounds (effectOf F r)) ∷ []))) (inputNumber r) (ne-eqb (inputNumber r) 0 e)
+
+  wider : (cs : List (ℕ × Bool)) → T (numberedIn 11 24 cs) → T (numberedIn 1 99 cs)
+  wider [] t = tt
+  wider (c ∷ cs) t =
+      let p = and-l (leb 11 (c .0) && leb (c .0) 24) (numberedIn 11 24 cs) t in
+      let l = leb→le 11 (c .0) (and-l (leb 11 (c .0)) (leb (c .0) 24) p) in
+      let h = leb→le (c .0) 24 (and-r (leb 11 (c .0)) (leb (c .0) 24) p) in
+      and-i (leb 1 (c .0) && leb (c .0) 99) (numberedIn 1 99 cs) (and-i (leb 1 (c .0)) (leb (c .0) 99) (le→leb 1 (c .0) (omega arith)) (le→leb (c .0) 99 (omega arith))) (wider cs (and-r (leb 11 (c .0) && leb (c .0) 24) (numberedIn 11 24 cs) t))
+
+  -- a request that passes the input rules and its checks is accepted
+  pub accepted-by : inputNumber r ≡ 0 → firstRefused (checksOf F r) ≡ 0 → Accepted f line runway legs r
+  accepted-by i c =
+      let a = accepted-after f line runway legs o r i c in
+      let w : withinBounds (effectOf F r) ≡ true = ap withinBounds (a .effect) ∙ passed (within-bounds (a .first-after) (a .line-after) (a .runway-after) legs (a .orderly)) in
+      record {
+        number-0 =
+            number-of i
+            ∙ refused-more (checksOf F r) ((25, withinBounds (effectOf F r)) ∷ []) c (wider (checksOf F r) (checks-numbered F r))
+            ∙ ap (λ (b : Bool). cond b 0 25) w;
+        after = a;
+      }
+
+  by-checks : inputNumber r ≡ 0 → Accepted f line runway legs r ⊎ T (refusable (numberOf F r))
+  by-checks i =
+      elim (decided (eqb (firstRefused (checksOf F r)) 0)) [
+        | inl e ↦ inl (accepted-by i (eqb-true (firstRefused (checksOf F r)) 0 e))
+        | inr e ↦
+            let n = eqb-false (firstRefused (checksOf F r)) 0 e in
+            let q : numberOf F r ≡ firstRefused (checksOf F r) = number-of i ∙ refused-first (checksOf F r) ((25, withinBounds (effectOf F r)) ∷ []) n in
+            elim (refused-in 11 24 (checksOf F r) (checks-numbered F r)) [
+              | inl z ↦ absurd (n z)
+              | inr t ↦ inr (subst (λ (m : ℕ). T (refusable m)) (sym q) (or-right (between 1 4 (firstRefused (checksOf F r))) (between 11 24 (firstRefused (checksOf F r))) t))
+            ]
+      ]
+
+  pub outcome : Accepted f line runway legs r ⊎ T (refusable (numberOf F r))
+  outcome =
+      elim (input-numbered r) [
+        | inl i ↦ by-checks i
+        | inr t ↦
+            let q = number-input (λ z. let l = leb→le 1 (inputNumber r) (and-l (leb 1 (inputNumber r)) (leb (inputNumber r) 4) t) in omega arith) in
+            inr (subst (λ (m : ℕ). T (refusable m)) (sym q) (or-left (between 1 4 (inputNumber r)) (between 11 24 (inputNumber r)) t))
+      ]
