@@ -22,3 +22,4 @@ pub mod AtEnds
 pub mod Accepted
 pub mod Steps
 pub mod Outcomes
+pub mod Runs
