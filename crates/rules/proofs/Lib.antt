@@ -23,3 +23,5 @@ pub mod Accepted
 pub mod Steps
 pub mod Outcomes
 pub mod Runs
+pub mod Unstuck
+pub mod Demand

@@ -63,14 +63,14 @@ module _ (f : Side) (line : List Placed) (runway : List Aircraft) (legs : Legs) 
   at-most : (k : ℕ) {m n : ℕ} → m ≡ n → n ≤ k → T (leb m k)
   at-most k {m} {n} e h = le→leb m k (omega arith)
 
-  a-holds : T (boundA F)
+  pub a-holds : T (boundA F)
   unfolding boundA
   a-holds =
       and-i (leb (inOperation F) 4) (leb (howMany F 13) 1)
       (at-most 4 (in-operation f line runway legs ∙ all-counted zs zones-in ∙ length-zones line) four)
       (at-most 1 (how-many-runway f line runway legs) (o .one-landed))
 
-  b-holds : T (boundB F)
+  pub b-holds : T (boundB F)
   unfolding boundB
   b-holds =
       and-i (leb (inArea F 1) 2) (leb (inArea F 2) 2)
@@ -91,7 +91,7 @@ module _ (f : Side) (line : List Placed) (runway : List Aircraft) (legs : Legs) 
       ∙ ap (λ (b : Bool). free zs (lateral (num s)) || (free zs (at3000 (num s)) && free zs (at2000 (num s)) && b)) (empty-is (missed (num s)) w)))
       (facts .lateral-alone s)
 
-  c-holds : T (boundC F)
+  pub c-holds : T (boundC F)
   unfolding boundC
   c-holds =
       let p = every (λ z. leb (howMany F z) 1) (zonesFrom 1 6) in
@@ -101,7 +101,7 @@ module _ (f : Side) (line : List Placed) (runway : List Aircraft) (legs : Legs) 
       (lateral-holds right tt tt tt tt))
       (lateral-holds left tt tt tt tt)
 
-  d-holds : T (boundD F)
+  pub d-holds : T (boundD F)
   unfolding boundD
   d-holds =
       and-i (leb (perFix F 1) 2) (leb (perFix F 2) 2)
