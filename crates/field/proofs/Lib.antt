@@ -1,2 +1,4 @@
 pub mod Shapes
 pub mod Totals
+pub mod Arrays
+pub mod Tick

@@ -4,6 +4,7 @@ use leg::Progress;
 pub mod boxes;
 pub mod counts;
 pub mod find;
+pub mod edits;
 
 // Document 01's aircraft: a number (never 0), a fix (the side for its missed approach), a speed in 64ths of a mile
 // per minute, and a progress.

@@ -1,0 +1,60 @@
+-- Lists as the arrays of a zone, of the sequence and of the field are walked: a list of four, the rest of a queue from a place on, and
+-- an array that is written place by place. Assumes nothing.
+use mathlib.Core.Path.{_≡_, refl, sym, ap, _∙_}
+use mathlib.Core.List.{List, [], _∷_, _++_, map, append-assoc, append-nil}
+use Prim.Native.Nat.{ℕ, zero, suc, _+_, _-_, _≤_, _<_}
+use native.Mathlib.Numerals.{add-one}
+use native.Mathlib.Omega.{arith}
+use lib.ListN.{length, getD, take, drop, set, length-take, drop-of-length-le}
+use Rattle.field.specs.Edits.{setFromOne}
+use lib.Seq.{drop-cons, getD-take, take-suc, set-at, getD-at, take-all, length-take-le}
+
+module _ {ℓ} {A : Type ℓ} where
+  -- a list of four is its elements in a row
+  pub four : (xs : List A) (d : A) → length xs ≡ 4 → xs ≡ getD xs 0 d ∷ getD xs 1 d ∷ getD xs 2 d ∷ getD xs 3 d ∷ []
+  four [] d h = absurd (omega arith)
+  four (a ∷ []) d h = absurd (omega arith)
+  four (a ∷ b ∷ []) d h = absurd (omega arith)
+  four (a ∷ b ∷ c ∷ []) d h = absurd (omega arith)
+  four (a ∷ b ∷ c ∷ e ∷ []) d h = refl
+  four (a ∷ b ∷ c ∷ e ∷ f ∷ fs) d h = absurd (omega arith)
+
+  -- of the first n places, those from place i on: none where n or the array ends
+  pub rest-none : (xs : List A) (n i : ℕ) → n ≤ i → drop i (take n xs) ≡ []
+  rest-none xs n i h = drop-of-length-le (take n xs) {i = i} (simp length-take (omega arith))
+
+  pub rest-end : (xs : List A) (n i : ℕ) → length xs ≤ i → drop i (take n xs) ≡ []
+  rest-end xs n i h = drop-of-length-le (take n xs) {i = i} (simp length-take (omega arith))
+
+  -- .. else the one at place i, and those behind it
+  pub rest-cons : (xs : List A) (n i : ℕ) (d : A) → i < n → i < length xs → drop i (take n xs) ≡ getD xs i d ∷ drop (i + 1) (take n xs)
+  rest-cons xs n i d h k =
+      drop-cons (take n xs) i d (simp length-take (omega arith)) ∙ rw (getD-take, add-one)
+
+  -- an array zs that is being written: it is ys before place i, and xs from there on. Place i of it is still that of xs, whatever the default; ..
+  pub filled-at : (zs ys xs : List A) (i : ℕ) (d b : A) → i < length xs → length ys ≡ length xs → zs ≡ take i ys ++ drop i xs → getD zs i b ≡ getD xs i d
+  filled-at zs ys xs i d b h e f =
+      let long : length (take i ys) ≡ i = length-take-le i ys (omega arith) in
+      rw (f, drop-cons xs i d h) (getD-at (take i ys) (getD xs i d) (drop (suc i) xs) b i long)
+
+  -- .. with that of ys written there it is ys for one place more; ..
+  pub filled-more : (zs ys xs : List A) (i : ℕ) (d y : A) → i < length xs → length ys ≡ length xs → zs ≡ take i ys ++ drop i xs → y ≡ getD ys i d → set zs i y ≡ take (i + 1) ys ++ drop (i + 1) xs
+  filled-more zs ys xs i d y h e f g =
+      let below : i < length ys = omega arith in
+      let long : length (take i ys) ≡ i = length-take-le i ys (omega arith) in
+      rw (f, g, drop-cons xs i d h, set-at (take i ys) (getD xs i d) (drop (suc i) xs) (getD ys i d) i long, add-one, take-suc ys i d below, append-assoc)
+
+  -- .. and after the last place it is ys
+  pub filled-all : (zs ys xs : List A) (i : ℕ) → length xs ≤ i → length ys ≡ length xs → zs ≡ take i ys ++ drop i xs → zs ≡ ys
+  filled-all zs ys xs i h e f = rw (f, take-all i ys (omega arith), drop-of-length-le xs {i = i} h, append-nil)
+
+  -- where each element of ys is made from that of xs
+  pub getD-map : {B : Type ℓ} (g : A → B) (l : List A) (i : ℕ) (d : A) (e : B) → i < length l → getD (map g l) i e ≡ g (getD l i d)
+  getD-map g [] i d e h = absurd (omega arith)
+  getD-map g (x ∷ xs) zero d e h = refl
+  getD-map g (x ∷ xs) (suc i) d e h = getD-map g xs i d e (omega arith)
+
+  -- a place counted from 1 is the one before it counted from 0
+  pub set-from-one : (xs : List A) (z : ℕ) (x : A) → 1 ≤ z → setFromOne xs z x ≡ set xs (z - 1) x
+  set-from-one xs zero x h = absurd (omega arith)
+  set-from-one xs (suc i) x h = ap (λ (j : ℕ). set xs j x) (omega arith)

@@ -1,0 +1,204 @@
+// The few changes of a queue, of the sequence and of the field that requests are made of (specs/Edits.antt).
+use crate::Aircraft;
+use crate::Field;
+use crate::Legs;
+use crate::Sequence;
+use crate::Zone;
+use crate::boxes::is_flying_zone;
+use crate::boxes::leg_of;
+use crate::boxes::nobody;
+use crate::boxes::with_progress;
+use leg::progress_after;
+ghost use mathlib.Core.Path.{_≡_};
+ghost use mathlib.Core.Bool.{cond};
+ghost use mathlib.Core.List.{[], _∷_, _++_};
+ghost use Prim.Native.Nat.{suc, _<_};
+ghost use lib.ListN.{take, drop};
+ghost use Rattle.field.specs.Boxes.{orderOf, isFlyingZone, legOf};
+ghost use Rattle.field.specs.Edits.{withoutHead, withTail, appended, before, removed, withZone, withSequence, tickedAircraft, tickedZone, ticked};
+
+// The zone with its head taken off; an empty one as it is.
+pub fn without_head(q: Zone) -> Zone
+    ensures { λ r. ⌜ r ≡ withoutHead q ⌝ }
+{
+    let length = q.length;
+    if length == 0 {
+        return q;
+    }
+    let a = q.aircraft;
+    let last = nobody();
+    Zone {
+        aircraft: [a[1], a[2], a[3], last],
+        length: length - 1,
+    }
+}
+
+// The zone with an aircraft put at its tail; a full one as it is.
+pub fn with_tail(q: Zone, a: Aircraft) -> Zone
+    ensures { λ r. ⌜ r ≡ withTail q a ⌝ }
+{
+    let length = q.length;
+    if length < 4 {
+        let mut aircraft = q.aircraft;
+        aircraft[length] = a;
+        return Zone {
+            aircraft: aircraft,
+            length: length + 1,
+        };
+    }
+    q
+}
+
+// The sequence with a number appended; a full one as it is.
+pub fn appended(s: Sequence, number: u16) -> Sequence
+    ensures { λ r. ⌜ r ≡ appended s number ⌝ }
+{
+    let length = s.length;
+    if length < 4 {
+        let mut numbers = s.numbers;
+        numbers[length] = number;
+        return Sequence {
+            numbers: numbers,
+            length: length + 1,
+        };
+    }
+    s
+}
+
+// How many stand before a number in the sequence; as many as it has where the number is absent.
+pub fn before(s: Sequence, number: u16) -> usize
+    ensures { λ r. ⌜ r ≡ before number (orderOf s) ⌝ }
+{
+    let numbers = s.numbers;
+    let length = s.length;
+    let mut i = 0;
+    while i < 4 {
+        if length <= i {
+            return i;
+        }
+        if numbers[i] == number {
+            return i;
+        }
+        i += 1;
+    }
+    i
+}
+
+// The numbers without the one at index `k`: those behind it move up by one place, and 0 stands last.
+fn closed_up(numbers: [u16; 4], k: usize) -> [u16; 4]
+    requires { ⌜ k < 4 ⌝ }
+    ensures { λ r. ⌜ r ≡ take k numbers ++ drop (suc k) numbers ++ (0 ∷ []) ⌝ }
+{
+    if k == 0 {
+        return [numbers[1], numbers[2], numbers[3], 0];
+    }
+    if k == 1 {
+        return [numbers[0], numbers[2], numbers[3], 0];
+    }
+    if k == 2 {
+        return [numbers[0], numbers[1], numbers[3], 0];
+    }
+    [numbers[0], numbers[1], numbers[2], 0]
+}
+
+// The sequence with a number removed; as it is where the number is absent.
+pub fn removed(s: Sequence, number: u16) -> Sequence
+    ensures { λ r. ⌜ r ≡ removed s number ⌝ }
+{
+    let k = before(s, number);
+    let length = s.length;
+    if 4 <= k {
+        return s;
+    }
+    if length <= k {
+        return s;
+    }
+    let numbers = s.numbers;
+    Sequence {
+        numbers: closed_up(numbers, k),
+        length: length - 1,
+    }
+}
+
+// The field with another zone; as it is where the number is no zone's.
+pub fn with_zone(f: Field, zone: usize, q: Zone) -> Field
+    ensures { λ r. ⌜ r ≡ withZone f zone q ⌝ }
+{
+    if zone == 0 {
+        return f;
+    }
+    if 13 < zone {
+        return f;
+    }
+    let i = zone - 1;
+    let mut g = f;
+    g.zones[i] = q;
+    g
+}
+
+// The field with another sequence and next fix.
+pub fn with_sequence(f: Field, s: Sequence, next: u8) -> Field
+    ensures { λ r. ⌜ r ≡ withSequence f s next ⌝ }
+{
+    let mut g = f;
+    g.sequence = s;
+    g.next = next;
+    g
+}
+
+// An aircraft of a zone with this leg after a tick.
+pub fn ticked_aircraft(leg: f64, amount: u16, a: Aircraft) -> Aircraft
+    ensures { λ r. ⌜ r ≡ tickedAircraft leg amount a ⌝ }
+{
+    let p = a.progress;
+    with_progress(a, progress_after(p, a.speed, amount, leg))
+}
+
+// A zone with this leg after a tick.
+pub fn ticked_zone(leg: f64, amount: u16, q: Zone) -> Zone
+    ensures { λ r. ⌜ r ≡ tickedZone leg amount q ⌝ }
+{
+    let length = q.length;
+    let mut aircraft = q.aircraft;
+    let mut i = 0;
+    while i < 4 {
+        let a = aircraft[i];
+        aircraft[i] = ticked_aircraft(leg, amount, a);
+        i += 1;
+    }
+    Zone {
+        aircraft: aircraft,
+        length: length,
+    }
+}
+
+// Zone `zone` after a tick: as it was where it is not flown in.
+fn ticked_in(legs: Legs, amount: u16, zone: usize, q: Zone) -> Zone
+    ensures { λ r. ⌜ r ≡ cond (isFlyingZone zone) (tickedZone (legOf legs zone) amount q) q ⌝ }
+{
+    if is_flying_zone(zone) {
+        return ticked_zone(leg_of(legs, zone), amount, q);
+    }
+    q
+}
+
+// The field after a tick.
+pub fn ticked(f: Field, amount: u16) -> Field
+    ensures { λ r. ⌜ r ≡ ticked f amount ⌝ }
+{
+    let legs = f.legs;
+    let mut zones = f.zones;
+    let mut i = 0;
+    while i < 13 {
+        let q = zones[i];
+        zones[i] = ticked_in(legs, amount, i + 1, q);
+        i += 1;
+    }
+    let sequence = f.sequence;
+    Field {
+        zones: zones,
+        sequence: sequence,
+        next: f.next,
+        legs: legs,
+    }
+}
