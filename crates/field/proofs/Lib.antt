@@ -2,3 +2,4 @@ pub mod Shapes
 pub mod Totals
 pub mod Arrays
 pub mod Tick
+pub mod Parts

@@ -1,6 +1,7 @@
 // The landing field: thirteen zones, the landing sequence, the next fix and the legs, by value.
 use leg::Progress;
 
+pub mod bounds;
 pub mod boxes;
 pub mod counts;
 pub mod find;
