@@ -31,6 +31,44 @@ module _ {ℓ} {A : Type ℓ} where
   rest-cons xs n i d h k =
       drop-cons (take n xs) i d (simp length-take (omega arith)) ∙ rw (getD-take, add-one)
 
+  -- the part of an array of m places before place n has n of them
+  pub part-length : (l : List A) (n : ℕ) {m : ℕ} → length l ≡ m → n ≤ m → n ≡ length (take n l)
+  part-length l n e h = sym (length-take-le n l (omega arith))
+
+  -- a part is as many from the front as it has
+  pub part-of : (n : ℕ) (l : List A) → take (length (take n l)) l ≡ take n l
+  part-of zero l = refl
+  part-of (suc n) [] = refl
+  part-of (suc n) (x ∷ l) = ap (λ (r : List A). x ∷ r) (part-of n l)
+
+  pub part-fits : (n : ℕ) (l : List A) → length (take n l) ≤ length l
+  part-fits n l = omega (arith, length-take n l)
+
+  -- a loop over a list, for what a function t says of it: what t says of the whole it says of the rest from place i on
+  pub record Walked {R : Type 0} (t : List A → R) (l : List A) (i : ℕ) : Type ℓ where
+    pub within : i ≤ length l
+    pub rest : t l ≡ t (drop i l)
+
+  -- the next element, and the rest behind it
+  pub next-of : (l : List A) (i : ℕ) (d : A) → i < length l → drop i l ≡ getD l i d ∷ drop (i + 1) l
+  next-of l i d h = rw add-one (drop-cons l i d h)
+
+  module _ {R : Type 0} (t : List A → R) (l : List A) where
+    pub walked-none : Walked t l 0
+    walked-none = record { within = omega arith; rest = refl }
+
+    -- where an element x leaves it to the rest, ..
+    pub walked-more : (i : ℕ) {x : A} → Walked t l i → i < length l → drop i l ≡ x ∷ drop (i + 1) l → t (x ∷ drop (i + 1) l) ≡ t (drop (i + 1) l) → Walked t l (i + 1)
+    walked-more i w h e g = record { within = omega arith; rest = w .rest ∙ ap t e ∙ g }
+
+    -- .. where it decides, ..
+    pub walked-stop : (i : ℕ) {x : A} {r : R} → Walked t l i → drop i l ≡ x ∷ drop (i + 1) l → t (x ∷ drop (i + 1) l) ≡ r → t l ≡ r
+    walked-stop i w e g = w .rest ∙ ap t e ∙ g
+
+    -- .. and at the end
+    pub walked-all : (i : ℕ) → Walked t l i → length l ≤ i → t l ≡ t []
+    walked-all i w h = w .rest ∙ ap t (drop-of-length-le l {i = i} h)
+
   -- an array zs that is being written: it is ys before place i, and xs from there on. Place i of it is still that of xs, whatever the default; ..
   pub filled-at : (zs ys xs : List A) (i : ℕ) (d b : A) → i < length xs → length ys ≡ length xs → zs ≡ take i ys ++ drop i xs → getD zs i b ≡ getD xs i d
   filled-at zs ys xs i d b h e f =

@@ -3,3 +3,4 @@ pub mod Totals
 pub mod Arrays
 pub mod Tick
 pub mod Parts
+pub mod Listed

@@ -6,6 +6,7 @@ pub mod boxes;
 pub mod counts;
 pub mod find;
 pub mod edits;
+pub mod numbers;
 
 // Document 01's aircraft: a number (never 0), a fix (the side for its missed approach), a speed in 64ths of a mile
 // per minute, and a progress.

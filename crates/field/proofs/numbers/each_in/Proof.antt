@@ -1,0 +1,71 @@
+-- `field::numbers::each_in` meets its contract: what the loop has passed is among the others. Assumes nothing.
+use mathlib.Core.Path.{refl, sym}
+use mathlib.Core.Bool.{Bool}
+use mathlib.Core.List.{List}
+use Prim.Native.Nat.{ℕ, _+_, _-_, _≤_, _<_}
+use Rattle.field.specs.Counts.{isIn}
+use Rattle.field.specs.Bounds.{every}
+use Rattle.field.proofs.Parts.{and-then, and-cut, holds, fails}
+use Rattle.field.proofs.Arrays.{Walked, next-of, walked-none, walked-more, walked-stop, walked-all}
+use borrow.Author.Needs.{needs}
+use native.Mathlib.Omega.{arith}
+use Rattle.field.proofs.numbers.each_in.Statement.{statement}
+use Rattle.field.proofs.numbers.each_in.Tie as tie
+
+abbrev among : List ℕ → ℕ → Bool
+among others n = isIn n others
+
+abbrev Inv-loop : tie.InvT-loop
+Inv-loop numbers others i₀ i-end i = Walked (every (among others)) numbers i
+
+abbrev μ-loop : tie.MeasureT-loop
+μ-loop numbers others i₀ i-end i = i-end - i
+
+loop-holds : tie.Need-loop-holds Inv-loop μ-loop
+loop-holds c = walked-none _ _
+
+mul-is-in : tie.Need-mul-is-in Inv-loop μ-loop
+mul-is-in c = search needs
+
+shared-slice-read-is-in : tie.Need-shared-slice-read-is-in Inv-loop μ-loop
+shared-slice-read-is-in c = search needs
+
+is-in-requires : tie.Need-is-in-requires Inv-loop μ-loop
+is-in-requires c κs = search needs
+
+returns : tie.Need-returns Inv-loop μ-loop
+returns c =
+    let l = c .before .before .before .before .loop in
+    let a = c .before .before .before .before .before .before .before .args in
+    sym (walked-stop (every (among (a .others .now))) (a .numbers .now) (l .i) (l .inv) (next-of (a .numbers .now) (l .i) 0 (omega arith)) (and-cut _ (fails (c .before .is-in .ensures) (c .if1 .taken))))
+
+add-i : tie.Need-add-i Inv-loop μ-loop
+add-i c = search needs
+
+loop-less : tie.Need-loop-less Inv-loop μ-loop
+loop-less c = search needs
+
+loop-again : tie.Need-loop-again Inv-loop μ-loop
+loop-again c =
+    let l = c .before .before .before .before .loop in
+    let a = c .before .before .before .before .before .before .before .args in
+    walked-more (every (among (a .others .now))) (a .numbers .now) (l .i) (l .inv) (omega arith) (next-of (a .numbers .now) (l .i) 0 (omega arith)) (and-then (holds (c .before .is-in .ensures) (c .if1 .left)) refl)
+
+returns-2 : tie.Need-returns-2 Inv-loop μ-loop
+returns-2 c = sym (walked-all (every (among (c .before .before .before .before .args .others .now))) (c .before .before .before .before .args .numbers .now) (c .before .loop .i) (c .before .loop .inv) (omega arith))
+
+pub each-in-spec : {M : Type 1} → statement M
+each-in-spec =
+    tie.close
+    (tie.spec
+    Inv-loop
+    μ-loop
+    loop-holds
+    mul-is-in
+    shared-slice-read-is-in
+    is-in-requires
+    returns
+    add-i
+    loop-less
+    loop-again
+    returns-2)

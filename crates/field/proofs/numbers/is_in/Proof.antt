@@ -1,0 +1,62 @@
+-- `field::numbers::is_in` meets its contract: what the loop has passed is not the number. Assumes nothing.
+use mathlib.Core.Path.{sym, refl}
+use Prim.Native.Nat.{ℕ, _+_, _-_, _≤_, _<_}
+use borrow.Author.Tests.{eq-eqb, ne-eqb}
+use Rattle.field.specs.Counts.{isIn}
+use Rattle.field.proofs.Parts.{or-first, or-else}
+use Rattle.field.proofs.Arrays.{Walked, next-of, walked-none, walked-more, walked-stop, walked-all}
+use borrow.Author.Needs.{needs}
+use native.Mathlib.Omega.{arith}
+use Rattle.field.proofs.numbers.is_in.Statement.{statement}
+use Rattle.field.proofs.numbers.is_in.Tie as tie
+
+abbrev Inv-loop : tie.InvT-loop
+Inv-loop numbers number i₀ i-end i = Walked (isIn number) numbers i
+
+abbrev μ-loop : tie.MeasureT-loop
+μ-loop numbers number i₀ i-end i = i-end - i
+
+loop-holds : tie.Need-loop-holds Inv-loop μ-loop
+loop-holds c = walked-none _ _
+
+mul-if1 : tie.Need-mul-if1 Inv-loop μ-loop
+mul-if1 c = search needs
+
+shared-slice-read-if1 : tie.Need-shared-slice-read-if1 Inv-loop μ-loop
+shared-slice-read-if1 c = search needs
+
+returns : tie.Need-returns Inv-loop μ-loop
+returns c =
+    let a = c .before .before .before .before .args in
+    let l = c .before .before .before .loop in
+    sym (walked-stop (isIn (a .number)) (a .numbers .now) (l .i) (l .inv) (next-of (a .numbers .now) (l .i) 0 (omega arith)) (or-first _ (eq-eqb _ _ (c .if1 .taken))))
+
+add-i : tie.Need-add-i Inv-loop μ-loop
+add-i c = search needs
+
+loop-less : tie.Need-loop-less Inv-loop μ-loop
+loop-less c = search needs
+
+loop-again : tie.Need-loop-again Inv-loop μ-loop
+loop-again c =
+    let a = c .before .before .before .before .args in
+    let l = c .before .before .before .loop in
+    walked-more (isIn (a .number)) (a .numbers .now) (l .i) (l .inv) (omega arith) (next-of (a .numbers .now) (l .i) 0 (omega arith)) (or-else (ne-eqb _ _ (c .if1 .left)) refl)
+
+returns-2 : tie.Need-returns-2 Inv-loop μ-loop
+returns-2 c = sym (walked-all (isIn (c .before .before .args .number)) (c .before .before .args .numbers .now) (c .before .loop .i) (c .before .loop .inv) (omega arith))
+
+pub is-in-spec : {M : Type 1} → statement M
+is-in-spec =
+    tie.close
+    (tie.spec
+    Inv-loop
+    μ-loop
+    loop-holds
+    mul-if1
+    shared-slice-read-if1
+    returns
+    add-i
+    loop-less
+    loop-again
+    returns-2)
