@@ -1,5 +1,5 @@
--- Lists as the arrays of a zone, of the sequence and of the field are walked: a list of four, the rest of a queue from a place on, and
--- an array that is written place by place. Assumes nothing.
+-- Lists as the arrays of a zone, of the sequence and of the field are walked: a list of four, a part, a list
+-- that is walked, and an array that is written place by place. Assumes nothing.
 use mathlib.Core.Path.{_≡_, refl, sym, ap, _∙_}
 use mathlib.Core.List.{List, [], _∷_, _++_, map, append-assoc, append-nil}
 use Prim.Native.Nat.{ℕ, zero, suc, _+_, _-_, _≤_, _<_}
@@ -19,18 +19,6 @@ module _ {ℓ} {A : Type ℓ} where
   four (a ∷ b ∷ c ∷ e ∷ []) d h = refl
   four (a ∷ b ∷ c ∷ e ∷ f ∷ fs) d h = absurd (omega arith)
 
-  -- of the first n places, those from place i on: none where n or the array ends
-  pub rest-none : (xs : List A) (n i : ℕ) → n ≤ i → drop i (take n xs) ≡ []
-  rest-none xs n i h = drop-of-length-le (take n xs) {i = i} (simp length-take (omega arith))
-
-  pub rest-end : (xs : List A) (n i : ℕ) → length xs ≤ i → drop i (take n xs) ≡ []
-  rest-end xs n i h = drop-of-length-le (take n xs) {i = i} (simp length-take (omega arith))
-
-  -- .. else the one at place i, and those behind it
-  pub rest-cons : (xs : List A) (n i : ℕ) (d : A) → i < n → i < length xs → drop i (take n xs) ≡ getD xs i d ∷ drop (i + 1) (take n xs)
-  rest-cons xs n i d h k =
-      drop-cons (take n xs) i d (simp length-take (omega arith)) ∙ rw (getD-take, add-one)
-
   -- the part of an array of m places before place n has n of them
   pub part-length : (l : List A) (n : ℕ) {m : ℕ} → length l ≡ m → n ≤ m → n ≡ length (take n l)
   part-length l n e h = sym (length-take-le n l (omega arith))
@@ -44,29 +32,30 @@ module _ {ℓ} {A : Type ℓ} where
   pub part-fits : (n : ℕ) (l : List A) → length (take n l) ≤ length l
   part-fits n l = omega (arith, length-take n l)
 
-  -- a loop over a list, for what a function t says of it: what t says of the whole it says of the rest from place i on
-  pub record Walked {R : Type 0} (t : List A → R) (l : List A) (i : ℕ) : Type ℓ where
+  -- a loop over a list from place s on, for what a function t says of it: what t says of all from there it says of the rest from place
+  -- i on
+  pub record Walked {R : Type 0} (t : List A → R) (l : List A) (s i : ℕ) : Type ℓ where
     pub within : i ≤ length l
-    pub rest : t l ≡ t (drop i l)
+    pub rest : t (drop s l) ≡ t (drop i l)
 
   -- the next element, and the rest behind it
   pub next-of : (l : List A) (i : ℕ) (d : A) → i < length l → drop i l ≡ getD l i d ∷ drop (i + 1) l
   next-of l i d h = rw add-one (drop-cons l i d h)
 
-  module _ {R : Type 0} (t : List A → R) (l : List A) where
-    pub walked-none : Walked t l 0
-    walked-none = record { within = omega arith; rest = refl }
+  module _ {R : Type 0} (t : List A → R) (l : List A) (s : ℕ) where
+    pub walked-none : s ≤ length l → Walked t l s s
+    walked-none h = record { within = h; rest = refl }
 
     -- where an element x leaves it to the rest, ..
-    pub walked-more : (i : ℕ) {x : A} → Walked t l i → i < length l → drop i l ≡ x ∷ drop (i + 1) l → t (x ∷ drop (i + 1) l) ≡ t (drop (i + 1) l) → Walked t l (i + 1)
+    pub walked-more : (i : ℕ) {x : A} → Walked t l s i → i < length l → drop i l ≡ x ∷ drop (i + 1) l → t (x ∷ drop (i + 1) l) ≡ t (drop (i + 1) l) → Walked t l s (i + 1)
     walked-more i w h e g = record { within = omega arith; rest = w .rest ∙ ap t e ∙ g }
 
     -- .. where it decides, ..
-    pub walked-stop : (i : ℕ) {x : A} {r : R} → Walked t l i → drop i l ≡ x ∷ drop (i + 1) l → t (x ∷ drop (i + 1) l) ≡ r → t l ≡ r
+    pub walked-stop : (i : ℕ) {x : A} {r : R} → Walked t l s i → drop i l ≡ x ∷ drop (i + 1) l → t (x ∷ drop (i + 1) l) ≡ r → t (drop s l) ≡ r
     walked-stop i w e g = w .rest ∙ ap t e ∙ g
 
     -- .. and at the end
-    pub walked-all : (i : ℕ) → Walked t l i → length l ≤ i → t l ≡ t []
+    pub walked-all : (i : ℕ) → Walked t l s i → length l ≤ i → t (drop s l) ≡ t []
     walked-all i w h = w .rest ∙ ap t (drop-of-length-le l {i = i} h)
 
   -- an array zs that is being written: it is ys before place i, and xs from there on. Place i of it is still that of xs, whatever the default; ..

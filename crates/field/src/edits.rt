@@ -7,6 +7,7 @@ use crate::Zone;
 use crate::boxes::is_flying_zone;
 use crate::boxes::leg_of;
 use crate::boxes::nobody;
+use crate::boxes::order_length;
 use crate::boxes::with_progress;
 use leg::progress_after;
 ghost use mathlib.Core.Path.{_≡_};
@@ -69,19 +70,13 @@ pub fn appended(s: Sequence, number: u16) -> Sequence
 pub fn before(s: Sequence, number: u16) -> usize
     ensures { λ r. ⌜ r ≡ before number (orderOf s) ⌝ }
 {
-    let numbers = s.numbers;
-    let length = s.length;
-    let mut i = 0;
-    while i < 4 {
-        if length <= i {
+    let end = order_length(s);
+    for i in 0..end {
+        if s.numbers[i] == number {
             return i;
         }
-        if numbers[i] == number {
-            return i;
-        }
-        i += 1;
     }
-    i
+    end
 }
 
 // The numbers without the one at index `k`: those behind it move up by one place, and 0 stands last.
@@ -106,18 +101,14 @@ pub fn removed(s: Sequence, number: u16) -> Sequence
     ensures { λ r. ⌜ r ≡ removed s number ⌝ }
 {
     let k = before(s, number);
-    let length = s.length;
-    if 4 <= k {
-        return s;
+    if k < order_length(s) {
+        let numbers = s.numbers;
+        return Sequence {
+            numbers: closed_up(numbers, k),
+            length: s.length - 1,
+        };
     }
-    if length <= k {
-        return s;
-    }
-    let numbers = s.numbers;
-    Sequence {
-        numbers: closed_up(numbers, k),
-        length: length - 1,
-    }
+    s
 }
 
 // The field with another zone; as it is where the number is no zone's.

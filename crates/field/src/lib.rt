@@ -4,8 +4,8 @@ use leg::Progress;
 pub mod bounds;
 pub mod boxes;
 pub mod counts;
-pub mod find;
 pub mod edits;
+pub mod find;
 pub mod numbers;
 
 // Document 01's aircraft: a number (never 0), a fix (the side for its missed approach), a speed in 64ths of a mile

@@ -1,7 +1,7 @@
 // The numbers of those on the field in a row, and what bound e asks of them (specs/Bounds.antt).
 use crate::Field;
-use crate::Sequence;
 use crate::Zone;
+use crate::boxes::order_length;
 use crate::boxes::queue_length;
 use crate::boxes::zone_of;
 ghost use mathlib.Core.Path.{_≡_};
@@ -9,8 +9,8 @@ ghost use mathlib.Core.Bool.{not};
 ghost use mathlib.Core.List.{_++_, map};
 ghost use Prim.Native.Nat.{_+_, _≤_};
 ghost use lib.Dec.{eqb};
-ghost use lib.ListN.{length, take};
-ghost use Rattle.field.specs.Boxes.{zonesFrom, queueOf, orderOf};
+ghost use lib.ListN.{take};
+ghost use Rattle.field.specs.Boxes.{zonesFrom, queueOf};
 ghost use Rattle.field.specs.Counts.{isIn};
 ghost use Rattle.field.specs.Bounds.{every, numbersIn, allDifferent, numbersDiffer, sequenceExact};
 
@@ -102,14 +102,6 @@ fn numbers_to(f: Field, last: usize) -> Numbers
         n = followed_by(n, zone_of(f, zone));
     }
     n
-}
-
-// How many the sequence lists.
-fn order_length(s: Sequence) -> usize
-    ensures { λ r. ⌜ r ≡ length (orderOf s) ⌝ }
-{
-    let n = s.length;
-    if n < 4 { n } else { 4 }
 }
 
 // Whether the numbers of those on the field are nonzero and all different.

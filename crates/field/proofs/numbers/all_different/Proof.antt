@@ -19,13 +19,13 @@ rest-of : (l : List ℕ) (i : ℕ) → take (length l - i) (drop i l) ≡ drop i
 rest-of l i = take-all (length l - i) (drop i l) (omega (arith, length-drop i l))
 
 abbrev Inv-loop : tie.InvT-loop
-Inv-loop numbers i₀ i-end i = Walked allDifferent numbers i
+Inv-loop numbers i₀ i-end i = Walked allDifferent numbers 0 i
 
 abbrev μ-loop : tie.MeasureT-loop
 μ-loop numbers i₀ i-end i = i-end - i
 
 loop-holds : tie.Need-loop-holds Inv-loop μ-loop
-loop-holds c = walked-none _ _
+loop-holds c = walked-none _ _ 0 (omega arith)
 
 add-is-in : tie.Need-add-is-in Inv-loop μ-loop
 add-is-in c = search needs
@@ -55,7 +55,7 @@ returns : tie.Need-returns Inv-loop μ-loop
 returns c =
     let l = c .before .before .before .before .before .loop in
     let xs = c .before .before .before .before .before .before .before .args .numbers .now in
-    sym (walked-stop allDifferent xs (l .i) (l .inv) (next-of xs (l .i) 0 (omega arith)) (and-cut _ (ap not (sym (c .before .is-in .ensures ∙ ap (isIn (getD xs (l .i) 0)) (rest-of xs (l .i + 1))) ∙ c .if1 .taken))))
+    sym (walked-stop allDifferent xs 0 (l .i) (l .inv) (next-of xs (l .i) 0 (omega arith)) (and-cut _ (ap not (sym (c .before .is-in .ensures ∙ ap (isIn (getD xs (l .i) 0)) (rest-of xs (l .i + 1))) ∙ c .if1 .taken))))
 
 add-i : tie.Need-add-i Inv-loop μ-loop
 add-i c = search needs
@@ -67,10 +67,10 @@ loop-again : tie.Need-loop-again Inv-loop μ-loop
 loop-again c =
     let l = c .before .before .before .before .before .loop in
     let xs = c .before .before .before .before .before .before .before .args .numbers .now in
-    walked-more allDifferent xs (l .i) (l .inv) (omega arith) (next-of xs (l .i) 0 (omega arith)) (and-then (ap not (sym (c .before .is-in .ensures ∙ ap (isIn (getD xs (l .i) 0)) (rest-of xs (l .i + 1))) ∙ c .if1 .left)) refl)
+    walked-more allDifferent xs 0 (l .i) (l .inv) (omega arith) (next-of xs (l .i) 0 (omega arith)) (and-then (ap not (sym (c .before .is-in .ensures ∙ ap (isIn (getD xs (l .i) 0)) (rest-of xs (l .i + 1))) ∙ c .if1 .left)) refl)
 
 returns-2 : tie.Need-returns-2 Inv-loop μ-loop
-returns-2 c = sym (walked-all allDifferent (c .before .before .before .args .numbers .now) (c .before .loop .i) (c .before .loop .inv) (omega arith))
+returns-2 c = sym (walked-all allDifferent (c .before .before .before .args .numbers .now) 0 (c .before .loop .i) (c .before .loop .inv) (omega arith))
 
 pub all-different-spec : {M : Type 1} → statement M
 all-different-spec =

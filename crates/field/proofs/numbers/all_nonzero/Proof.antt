@@ -16,13 +16,13 @@ abbrev nonzero : ℕ → Bool
 nonzero n = not (eqb n 0)
 
 abbrev Inv-loop : tie.InvT-loop
-Inv-loop numbers i₀ i-end i = Walked (every nonzero) numbers i
+Inv-loop numbers i₀ i-end i = Walked (every nonzero) numbers 0 i
 
 abbrev μ-loop : tie.MeasureT-loop
 μ-loop numbers i₀ i-end i = i-end - i
 
 loop-holds : tie.Need-loop-holds Inv-loop μ-loop
-loop-holds c = walked-none _ _
+loop-holds c = walked-none _ _ 0 (omega arith)
 
 mul-if1 : tie.Need-mul-if1 Inv-loop μ-loop
 mul-if1 c = search needs
@@ -34,7 +34,7 @@ returns : tie.Need-returns Inv-loop μ-loop
 returns c =
     let l = c .before .before .before .loop in
     let xs = c .before .before .before .before .args .numbers .now in
-    sym (walked-stop (every nonzero) xs (l .i) (l .inv) (next-of xs (l .i) 0 (omega arith)) (and-cut _ (ap not (eq-eqb _ _ (c .if1 .taken)))))
+    sym (walked-stop (every nonzero) xs 0 (l .i) (l .inv) (next-of xs (l .i) 0 (omega arith)) (and-cut _ (ap not (eq-eqb _ _ (c .if1 .taken)))))
 
 add-i : tie.Need-add-i Inv-loop μ-loop
 add-i c = search needs
@@ -46,10 +46,10 @@ loop-again : tie.Need-loop-again Inv-loop μ-loop
 loop-again c =
     let l = c .before .before .before .loop in
     let xs = c .before .before .before .before .args .numbers .now in
-    walked-more (every nonzero) xs (l .i) (l .inv) (omega arith) (next-of xs (l .i) 0 (omega arith)) (and-then (ap not (ne-eqb _ _ (c .if1 .left))) refl)
+    walked-more (every nonzero) xs 0 (l .i) (l .inv) (omega arith) (next-of xs (l .i) 0 (omega arith)) (and-then (ap not (ne-eqb _ _ (c .if1 .left))) refl)
 
 returns-2 : tie.Need-returns-2 Inv-loop μ-loop
-returns-2 c = sym (walked-all (every nonzero) (c .before .before .args .numbers .now) (c .before .loop .i) (c .before .loop .inv) (omega arith))
+returns-2 c = sym (walked-all (every nonzero) (c .before .before .args .numbers .now) 0 (c .before .loop .i) (c .before .loop .inv) (omega arith))
 
 pub all-nonzero-spec : {M : Type 1} → statement M
 all-nonzero-spec =

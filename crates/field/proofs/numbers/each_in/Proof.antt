@@ -16,13 +16,13 @@ abbrev among : List ℕ → ℕ → Bool
 among others n = isIn n others
 
 abbrev Inv-loop : tie.InvT-loop
-Inv-loop numbers others i₀ i-end i = Walked (every (among others)) numbers i
+Inv-loop numbers others i₀ i-end i = Walked (every (among others)) numbers 0 i
 
 abbrev μ-loop : tie.MeasureT-loop
 μ-loop numbers others i₀ i-end i = i-end - i
 
 loop-holds : tie.Need-loop-holds Inv-loop μ-loop
-loop-holds c = walked-none _ _
+loop-holds c = walked-none _ _ 0 (omega arith)
 
 mul-is-in : tie.Need-mul-is-in Inv-loop μ-loop
 mul-is-in c = search needs
@@ -37,7 +37,7 @@ returns : tie.Need-returns Inv-loop μ-loop
 returns c =
     let l = c .before .before .before .before .loop in
     let a = c .before .before .before .before .before .before .before .args in
-    sym (walked-stop (every (among (a .others .now))) (a .numbers .now) (l .i) (l .inv) (next-of (a .numbers .now) (l .i) 0 (omega arith)) (and-cut _ (fails (c .before .is-in .ensures) (c .if1 .taken))))
+    sym (walked-stop (every (among (a .others .now))) (a .numbers .now) 0 (l .i) (l .inv) (next-of (a .numbers .now) (l .i) 0 (omega arith)) (and-cut _ (fails (c .before .is-in .ensures) (c .if1 .taken))))
 
 add-i : tie.Need-add-i Inv-loop μ-loop
 add-i c = search needs
@@ -49,10 +49,10 @@ loop-again : tie.Need-loop-again Inv-loop μ-loop
 loop-again c =
     let l = c .before .before .before .before .loop in
     let a = c .before .before .before .before .before .before .before .args in
-    walked-more (every (among (a .others .now))) (a .numbers .now) (l .i) (l .inv) (omega arith) (next-of (a .numbers .now) (l .i) 0 (omega arith)) (and-then (holds (c .before .is-in .ensures) (c .if1 .left)) refl)
+    walked-more (every (among (a .others .now))) (a .numbers .now) 0 (l .i) (l .inv) (omega arith) (next-of (a .numbers .now) (l .i) 0 (omega arith)) (and-then (holds (c .before .is-in .ensures) (c .if1 .left)) refl)
 
 returns-2 : tie.Need-returns-2 Inv-loop μ-loop
-returns-2 c = sym (walked-all (every (among (c .before .before .before .before .args .others .now))) (c .before .before .before .before .args .numbers .now) (c .before .loop .i) (c .before .loop .inv) (omega arith))
+returns-2 c = sym (walked-all (every (among (c .before .before .before .before .args .others .now))) (c .before .before .before .before .args .numbers .now) 0 (c .before .loop .i) (c .before .loop .inv) (omega arith))
 
 pub each-in-spec : {M : Type 1} → statement M
 each-in-spec =

@@ -4,12 +4,12 @@ use mathlib.Core.List.{List, [], _∷_, _++_, map, map-append, append-nil, appen
 use Prim.Native.Nat.{ℕ, suc, _+_, _-_, _≤_, _<_}
 use native.Mathlib.Nat.{add-zero}
 use native.Mathlib.Numerals.{add-one}
-use lib.ListN.{length, getD, take, set, length-set, length-take}
-use lib.Seq.{take-suc, take-suc-set, take-all, getD-take}
+use lib.ListN.{length, getD, take, set, length-set}
+use lib.Seq.{take-suc, take-suc-set, take-all}
 use Rattle.field.specs.declared.Aircraft.{Aircraft}
 use Rattle.field.specs.declared.Zone.{Zone}
 use Rattle.field.specs.Boxes.{queueOf, queueLength}
-use Rattle.field.proofs.Shapes.{unmapped, queue-fits}
+use Rattle.field.proofs.Shapes.{unmapped, queue-fits, queue-read}
 use borrow.Author.Needs.{needs}
 use native.Mathlib.Omega.{arith}
 use Rattle.field.proofs.numbers.followed_by.Statement.{statement}
@@ -30,9 +30,8 @@ record Written (q : Zone) (end start : ℕ) (list₀ list : List ℕ) (i : ℕ) 
 written : (q : Zone) (start : ℕ) (list₀ list : List ℕ) (i : ℕ) (d : Aircraft) → start + i < length list → i < length (queueOf q)
     → take (start + i) list ≡ take start list₀ ++ map numberOf (take i (queueOf q))
     → take (start + (i + 1)) (set list (start + i) (getD (q .aircraft) i d .number)) ≡ take start list₀ ++ map numberOf (take (i + 1) (queueOf q))
-unfolding queueOf
 written q start list₀ list i d h k e =
-    let here : getD (queueOf q) i d ≡ getD (q .aircraft) i d = getD-take (q .length) (q .aircraft) i d (omega (arith, length-take (q .length) (q .aircraft))) in
+    let here : getD (queueOf q) i d ≡ getD (q .aircraft) i d = queue-read q i d k in
     let x = getD (q .aircraft) i d .number in
     let more : start + (i + 1) ≡ suc (start + i) = omega arith in
     let left : take (start + (i + 1)) (set list (start + i) x) ≡ take (start + i) list ++ (x ∷ []) = ap (λ (n : ℕ). take n (set list (start + i) x)) more ∙ take-suc-set list (start + i) x h in

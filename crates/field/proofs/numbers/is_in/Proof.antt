@@ -11,13 +11,13 @@ use Rattle.field.proofs.numbers.is_in.Statement.{statement}
 use Rattle.field.proofs.numbers.is_in.Tie as tie
 
 abbrev Inv-loop : tie.InvT-loop
-Inv-loop numbers number i₀ i-end i = Walked (isIn number) numbers i
+Inv-loop numbers number i₀ i-end i = Walked (isIn number) numbers 0 i
 
 abbrev μ-loop : tie.MeasureT-loop
 μ-loop numbers number i₀ i-end i = i-end - i
 
 loop-holds : tie.Need-loop-holds Inv-loop μ-loop
-loop-holds c = walked-none _ _
+loop-holds c = walked-none _ _ 0 (omega arith)
 
 mul-if1 : tie.Need-mul-if1 Inv-loop μ-loop
 mul-if1 c = search needs
@@ -29,7 +29,7 @@ returns : tie.Need-returns Inv-loop μ-loop
 returns c =
     let a = c .before .before .before .before .args in
     let l = c .before .before .before .loop in
-    sym (walked-stop (isIn (a .number)) (a .numbers .now) (l .i) (l .inv) (next-of (a .numbers .now) (l .i) 0 (omega arith)) (or-first _ (eq-eqb _ _ (c .if1 .taken))))
+    sym (walked-stop (isIn (a .number)) (a .numbers .now) 0 (l .i) (l .inv) (next-of (a .numbers .now) (l .i) 0 (omega arith)) (or-first _ (eq-eqb _ _ (c .if1 .taken))))
 
 add-i : tie.Need-add-i Inv-loop μ-loop
 add-i c = search needs
@@ -41,10 +41,10 @@ loop-again : tie.Need-loop-again Inv-loop μ-loop
 loop-again c =
     let a = c .before .before .before .before .args in
     let l = c .before .before .before .loop in
-    walked-more (isIn (a .number)) (a .numbers .now) (l .i) (l .inv) (omega arith) (next-of (a .numbers .now) (l .i) 0 (omega arith)) (or-else (ne-eqb _ _ (c .if1 .left)) refl)
+    walked-more (isIn (a .number)) (a .numbers .now) 0 (l .i) (l .inv) (omega arith) (next-of (a .numbers .now) (l .i) 0 (omega arith)) (or-else (ne-eqb _ _ (c .if1 .left)) refl)
 
 returns-2 : tie.Need-returns-2 Inv-loop μ-loop
-returns-2 c = sym (walked-all (isIn (c .before .before .args .number)) (c .before .before .args .numbers .now) (c .before .loop .i) (c .before .loop .inv) (omega arith))
+returns-2 c = sym (walked-all (isIn (c .before .before .args .number)) (c .before .before .args .numbers .now) 0 (c .before .loop .i) (c .before .loop .inv) (omega arith))
 
 pub is-in-spec : {M : Type 1} → statement M
 is-in-spec =

@@ -2,9 +2,9 @@
 use mathlib.Core.Path.{_≡_, refl, sym, ap, _∙_}
 use mathlib.Core.List.{List}
 use Prim.Native.Nat.{ℕ}
-use lib.ListN.{length, take}
+use lib.ListN.{take}
 use Rattle.field.specs.declared.Sequence.{Sequence}
-use Rattle.field.specs.Boxes.{orderOf}
+use Rattle.field.specs.Boxes.{orderOf, orderLength}
 use Rattle.field.specs.Counts.{isIn}
 use Rattle.field.specs.Bounds.{every, allDifferent, sequenceExact}
 use Rattle.field.proofs.Parts.{and-then, and-cut, holds, fails}
@@ -16,8 +16,8 @@ use Rattle.field.proofs.numbers.sequence_exact.Statement.{statement}
 use Rattle.field.proofs.numbers.sequence_exact.Tie as tie
 
 -- the sequence's numbers are as many as it lists
-listed : (s : Sequence) {n : ℕ} → n ≡ length (orderOf s) → take n (s .numbers) ≡ orderOf s
-unfolding orderOf
+listed : (s : Sequence) {n : ℕ} → n ≡ orderLength s → take n (s .numbers) ≡ orderOf s
+unfolding orderOf orderLength
 listed s e = ap (λ (k : ℕ). take k (s .numbers)) e ∙ part-of (s .length) (s .numbers)
 
 -- whether each is among the others, of equal lists
@@ -41,13 +41,13 @@ order-length-requires : tie.Need-order-length-requires
 order-length-requires c κs = search needs
 
 array-share-prefix-numbers : tie.Need-array-share-prefix-numbers
-unfolding orderOf
+unfolding orderOf orderLength
 array-share-prefix-numbers c =
     let s = c .before .before .before .before .before .before .args .f .sequence in
     omega (arith, c .before .order-length .ensures, part-fits (s .length) (s .numbers))
 
 slice-aggregate-order : tie.Need-slice-aggregate-order
-unfolding orderOf
+unfolding orderOf orderLength
 slice-aggregate-order c =
     let s = c .before .before .before .before .before .before .before .args .f .sequence in
     part-length (s .numbers) (c .before .before .order-length .result) refl (omega (arith, c .before .before .order-length .ensures, part-fits (s .length) (s .numbers)))
