@@ -15,7 +15,7 @@ ghost use Rattle.field.specs.Counts.{isIn};
 ghost use Rattle.field.specs.Bounds.{every, numbersIn, allDifferent, numbersDiffer, sequenceExact};
 
 // Whether a number is one of the listed ones.
-pub fn is_in(numbers: &[u16], number: u16) -> bool
+fn is_in(numbers: &[u16], number: u16) -> bool
     ensures { λ r. ⌜ r ≡ isIn number (now (numbers .entry)) ⌝ }
 {
     for i in 0..numbers.len() {
@@ -27,7 +27,7 @@ pub fn is_in(numbers: &[u16], number: u16) -> bool
 }
 
 // Whether no number is listed twice.
-pub fn all_different(numbers: &[u16]) -> bool
+fn all_different(numbers: &[u16]) -> bool
     ensures { λ r. ⌜ r ≡ allDifferent (now (numbers .entry)) ⌝ }
 {
     for i in 0..numbers.len() {
