@@ -31,7 +31,7 @@ use Rattle.rules.proofs.Runs.{Run, runs}
 use Rattle.rules.proofs.Unstuck.{unstuck}
 
 -- nobody yet
-empty-orderly : (legs : Legs) → T (legalLegs legs) → Orderly right [] [] legs
+pub empty-orderly : (legs : Legs) → T (legalLegs legs) → Orderly right [] [] legs
 empty-orderly legs l =
     record { okay-line = okay-empty right; alternates = tt; nonzeros = tt; different = tt; fit-line = tt; fit-runway = tt; one-landed = omega arith; legal = l }
 

@@ -25,3 +25,4 @@ pub mod Outcomes
 pub mod Runs
 pub mod Unstuck
 pub mod Demand
+pub mod Exact

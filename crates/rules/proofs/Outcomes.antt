@@ -53,6 +53,11 @@ pub field-refused : (f : Field) (r : Request) → (numberOf f r ≡ 0 → ⊥) �
 unfolding stepOf
 field-refused f r e = ap (λ (s : Stepped). s .field) (if-false (record { answer = answerOf f r; field = effectOf f r }) (record { answer = numberAndZeros (numberOf f r); field = f }) (ne-eqb (numberOf f r) 0 e))
 
+-- an accepted request passes the input rules
+pub input-of : (f : Field) (r : Request) → numberOf f r ≡ 0 → inputNumber r ≡ 0
+unfolding numberOf
+input-of f r h = elim (decided (eqb (inputNumber r) 0)) [ inl e ↦ eqb-true (inputNumber r) 0 e | inr e ↦ sym (if-false (firstRefused ((10, withinBounds f) ∷ checksOf f r ++ ((25, withinBounds (effectOf f r)) ∷ []))) (inputNumber r) e) ∙ h ]
+
 -- ---- the number of a refusal on an orderly field: 1 to 4, or 11 to 24
 abbrev pub refusable : ℕ → Bool
 refusable n = between 1 4 n || between 11 24 n

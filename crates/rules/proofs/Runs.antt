@@ -39,7 +39,7 @@ pub record Run (legs : Legs) (g : Field) (p w : ℕ) (rs : List Request) : Type 
   pub few : accepted addsMoves (played g rs) ≡ 0 → moves (played g rs) ≤ w
 
 -- ---- one request more in front
-refusable-range : (n : ℕ) → T (refusable n) → (n ≡ 0 → ⊥) × (n ≡ 10 → ⊥) × (n ≡ 25 → ⊥)
+pub refusable-range : (n : ℕ) → T (refusable n) → (n ≡ 0 → ⊥) × (n ≡ 10 → ⊥) × (n ≡ 25 → ⊥)
 refusable-range n t =
     elim (decided (between 1 4 n)) [
       | inl e ↦
