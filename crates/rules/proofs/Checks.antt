@@ -102,6 +102,15 @@ checks-numbered f r =
     pick true cs ds t u = t
     pick false cs ds t u = u
 
+-- numbers from 11 to 24 are numbers from 1 to 99
+pub wider : (cs : List (ℕ × Bool)) → T (numberedIn 11 24 cs) → T (numberedIn 1 99 cs)
+wider [] t = tt
+wider (c ∷ cs) t =
+    let p = and-l (leb 11 (c .0) && leb (c .0) 24) (numberedIn 11 24 cs) t in
+    let l = leb→le 11 (c .0) (and-l (leb 11 (c .0)) (leb (c .0) 24) p) in
+    let h = leb→le (c .0) 24 (and-r (leb 11 (c .0)) (leb (c .0) 24) p) in
+    and-i (leb 1 (c .0) && leb (c .0) 99) (numberedIn 1 99 cs) (and-i (leb 1 (c .0)) (leb (c .0) 99) (le→leb 1 (c .0) (omega arith)) (le→leb (c .0) 99 (omega arith))) (wider cs (and-r (leb 11 (c .0) && leb (c .0) 24) (numberedIn 11 24 cs) t))
+
 pub input-numbered : (r : Request) → (inputNumber r ≡ 0) ⊎ T (leb 1 (inputNumber r) && leb (inputNumber r) 4)
 unfolding inputNumber
 input-numbered r = refused-in 1 4 ((1, kindAllowed r) ∷ (2, sideAllowed r) ∷ (3, numberAllowed r) ∷ (4, amountAllowed r) ∷ []) tt

@@ -26,3 +26,4 @@ pub mod Runs
 pub mod Unstuck
 pub mod Demand
 pub mod Exact
+pub mod Refusals

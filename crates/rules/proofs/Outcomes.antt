@@ -24,7 +24,7 @@ use Rattle.rules.proofs.Line.{Placed, fieldOf}
 use Rattle.rules.proofs.Orderly.{Orderly}
 use Rattle.rules.proofs.Within.{within-bounds}
 use Rattle.rules.proofs.After.{After}
-use Rattle.rules.proofs.Checks.{numberedIn, refused-in, refused-more, refused-first, checks-numbered, input-numbered}
+use Rattle.rules.proofs.Checks.{numberedIn, refused-in, refused-more, refused-first, checks-numbered, wider, input-numbered}
 use Rattle.rules.proofs.Steps.{accepted-after}
 
 -- ---- the step by its number, on any field
@@ -80,14 +80,6 @@ module _ (f : Side) (line : List Placed) (runway : List Aircraft) (legs : Legs) 
   number-input : (inputNumber r ≡ 0 → ⊥) → numberOf F r ≡ inputNumber r
   unfolding numberOf
   number-input e = if-false (firstRefused ((10, withinBounds F) ∷ checksOf F r ++ ((25, withinBounds (effectOf F r)) ∷ []))) (inputNumber r) (ne-eqb (inputNumber r) 0 e)
-
-  wider : (cs : List (ℕ × Bool)) → T (numberedIn 11 24 cs) → T (numberedIn 1 99 cs)
-  wider [] t = tt
-  wider (c ∷ cs) t =
-      let p = and-l (leb 11 (c .0) && leb (c .0) 24) (numberedIn 11 24 cs) t in
-      let l = leb→le 11 (c .0) (and-l (leb 11 (c .0)) (leb (c .0) 24) p) in
-      let h = leb→le (c .0) 24 (and-r (leb 11 (c .0)) (leb (c .0) 24) p) in
-      and-i (leb 1 (c .0) && leb (c .0) 99) (numberedIn 1 99 cs) (and-i (leb 1 (c .0)) (leb (c .0) 99) (le→leb 1 (c .0) (omega arith)) (le→leb (c .0) 99 (omega arith))) (wider cs (and-r (leb 11 (c .0) && leb (c .0) 24) (numberedIn 11 24 cs) t))
 
   -- a request that passes the input rules and its checks is accepted
   pub accepted-by : inputNumber r ≡ 0 → firstRefused (checksOf F r) ≡ 0 → Accepted f line runway legs r
