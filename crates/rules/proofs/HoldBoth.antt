@@ -22,7 +22,7 @@ use Rattle.order.specs.Model.{Side, between, count, free, okay, weight, weights
 use Rattle.order.proofs.Facts.{hold-ahead, BothMoved, hold-both}
 use Rattle.rules.specs.Kinds.{startsFrom, moved, held}
 use Rattle.rules.specs.Step.{effectOf}
-use Rattle.rules.proofs.Tests.{passed, pass, failed, if-true, if-false, each-zone}
+use Rattle.rules.proofs.Tests.{passed, pass, failed, if-true, if-false, zones-imply}
 use Rattle.rules.proofs.Lists.{map-append}
 use Rattle.rules.proofs.Line.{Placed, zonesIn, numbersOf, fieldOf}
 use Rattle.rules.proofs.Counted.{lower}
@@ -52,7 +52,7 @@ free-changed xs y w ys z t h =
 -- 2000 is not flown in
 waits : (z : ℕ) → T (between 1 13 z) → T (between 7 8 z) → isFlyingZone (at2000 (sideOf z)) ≡ false
 unfolding isFlyingZone sideOf
-waits = each-zone (λ (z : ℕ). T (between 7 8 z) → isFlyingZone (at2000 (sideOf z)) ≡ false) ((λ u. absurd u), ((λ u. absurd u), ((λ u. absurd u), ((λ u. absurd u), ((λ u. absurd u), ((λ u. absurd u), ((λ u. refl), ((λ u. refl), ((λ u. absurd u), ((λ u. absurd u), ((λ u. absurd u), ((λ u. absurd u), ((λ u. absurd u), tt)))))))))))))
+waits z t u = failed {b = isFlyingZone (at2000 (sideOf z))} (zones-imply (between 7 8) (λ z. not (isFlyingZone (at2000 (sideOf z)))) tt z t u)
 
 -- ---- the line a, g, b, e, c: g at 3000 and e in the missed zone
 module _ (f : Side) (a : List Placed) (g : Placed) (b : List Placed) (e : Placed) (c : List Placed) (runway : List Aircraft) (legs : Legs) (o : Orderly f (a ++ g ∷ (b ++ e ∷ c)) runway legs) (r : Request)

@@ -8,6 +8,8 @@ use native.Mathlib.Omega.{arith}
 use lib.Dec.{T, leb, eqb, leb→le, le→leb, eqb→eq, eqb-refl}
 use lib.Ieee.Fits.{and-i, and-l, and-r}
 use borrow.Author.Tests.{eq-eqb, ne-eqb}
+use Rattle.field.specs.Boxes.{zonesFrom}
+use Rattle.field.specs.Bounds.{every}
 
 -- ---- a passed test and an equation
 pub passed : {b : Bool} → T b → b ≡ true
@@ -79,3 +81,25 @@ each-from k (suc n) P p z l h =
 pub each-zone {ℓ} : (P : ℕ → Type ℓ) → EachFrom 1 13 P → (z : ℕ) → T (leb 1 z && leb z 13) → P z
 each-zone P p z t =
     each-from 1 13 P p z (leb→le 1 z (and-l (leb 1 z) (leb z 13) t)) (let h = leb→le z 13 (and-r (leb 1 z) (leb z 13) t) in omega arith)
+
+-- ---- computed tests of a run of zones
+pub every-from : (p : ℕ → Bool) (k n : ℕ) → T (every p (zonesFrom k n)) → (z : ℕ) → k ≤ z → z < k + n → T (p z)
+every-from p k zero t z l h = absurd (omega arith)
+every-from p k (suc n) t z l h =
+    elim (eq-or-lt-of-le l) [
+      | inl e ↦ subst (λ (y : ℕ). T (p y)) e (and-l (p k) (every p (zonesFrom (suc k) n)) t)
+      | inr g ↦ every-from p (suc k) n (and-r (p k) (every p (zonesFrom (suc k) n)) t) z g (omega arith)
+    ]
+
+abbrev pub implies : Bool → Bool → Bool
+implies a b = not a || b
+
+pub implied : (a b : Bool) → T (implies a b) → T a → T b
+implied true b t u = t
+implied false b t u = absurd u
+
+-- a test of 1 to 13 that implies another
+pub zones-imply : (p q : ℕ → Bool) → T (every (λ z. implies (p z) (q z)) (zonesFrom 1 13)) → (z : ℕ) → T (leb 1 z && leb z 13) → T (p z) → T (q z)
+zones-imply p q t z u =
+    implied (p z) (q z)
+    (every-from (λ z. implies (p z) (q z)) 1 13 t z (leb→le 1 z (and-l (leb 1 z) (leb z 13) u)) (let h = leb→le z 13 (and-r (leb 1 z) (leb z 13) u) in omega arith))

@@ -29,7 +29,7 @@ use Rattle.order.proofs.Facts.{headKind, head-moves}
 use Rattle.rules.specs.Kinds.{zoneBefore, startsFrom, headChecks, mayApproach, baseFree, descendChecks, approachChecks, mergeChecks, flownOutChecks, landChecks}
 use Rattle.rules.specs.Step.{checksOf, stepOf}
 use Rattle.rules.specs.Demand.{allFlownOut, movesOn, MovesOn}
-use Rattle.rules.proofs.Tests.{passed, pass, failed, decided, or-left, each-zone}
+use Rattle.rules.proofs.Tests.{passed, pass, failed, decided, or-left, each-zone, every-from}
 use Rattle.rules.proofs.Lists.{every-left, every-right, alone}
 use Rattle.rules.proofs.Line.{Placed, zonesIn, numbersOf, inside, fieldOf}
 use Rattle.rules.proofs.Counted.{lower, in-line, how-many, how-many-runway}
@@ -109,52 +109,15 @@ module _ (f : Side) (e : Placed) (b : List Placed) (legs : Legs) (o : Orderly f 
   legs-are = refl
 
   -- its leg is flown out, where it flies
-  flown-in : (y : ℕ) → T (between 1 13 y) → T (isFlyingZone y) → T (every (λ y. every (flownOutIn (G .legs) y) (inZone G y)) (zonesFrom 7 6)) → T (every (flownOutIn (G .legs) y) (inZone G y))
+  flown-in : (y : ℕ) → T (isFlyingZone y) → T (every (λ y. every (flownOutIn (G .legs) y) (inZone G y)) (zonesFrom 7 6)) → T (every (flownOutIn (G .legs) y) (inZone G y))
   unfolding isFlyingZone
-  flown-in =
-      let p : ℕ → Bool = λ y. every (flownOutIn (G .legs) y) (inZone G y) in
-      each-zone (λ (y : ℕ). T (isFlyingZone y) → T (every p (zonesFrom 7 6)) → T (p y)) (
-        (λ u. absurd u),
-        (
-          (λ u. absurd u),
-          (
-            (λ u. absurd u),
-            (
-              (λ u. absurd u),
-              (
-                (λ u. absurd u),
-                (
-                  (λ u. absurd u),
-                  (
-                    (λ u t. and-l (p 7) (every p (zonesFrom 8 5)) t),
-                    (
-                      (λ u t. and-l (p 8) (every p (zonesFrom 9 4)) (and-r (p 7) (every p (zonesFrom 8 5)) t)),
-                      (
-                        (λ u t. and-l (p 9) (every p (zonesFrom 10 3)) (and-r (p 8) (every p (zonesFrom 9 4)) (and-r (p 7) (every p (zonesFrom 8 5)) t))),
-                        (
-                          (λ u t. and-l (p 10) (every p (zonesFrom 11 2)) (and-r (p 9) (every p (zonesFrom 10 3)) (and-r (p 8) (every p (zonesFrom 9 4)) (and-r (p 7) (every p (zonesFrom 8 5)) t)))),
-                          (
-                            (λ u t. and-l (p 11) (every p (zonesFrom 12 1)) (and-r (p 10) (every p (zonesFrom 11 2)) (and-r (p 9) (every p (zonesFrom 10 3)) (and-r (p 8) (every p (zonesFrom 9 4)) (and-r (p 7) (every p (zonesFrom 8 5)) t))))),
-                            (
-                              (λ u t. and-l (p 12) true (and-r (p 11) (every p (zonesFrom 12 1)) (and-r (p 10) (every p (zonesFrom 11 2)) (and-r (p 9) (every p (zonesFrom 10 3)) (and-r (p 8) (every p (zonesFrom 9 4)) (and-r (p 7) (every p (zonesFrom 8 5)) t)))))),
-                              ((λ u. absurd u), tt),
-                            ),
-                          ),
-                        ),
-                      ),
-                    ),
-                  ),
-                ),
-              ),
-            ),
-          ),
-        ),
-      )
+  flown-in y u t =
+      every-from (λ y. every (flownOutIn (G .legs) y) (inZone G y)) 7 6 t y (leb→le 7 y (and-l (leb 7 y) (leb y 12) u)) (let h = leb→le y 12 (and-r (leb 7 y) (leb y 12) u) in omega arith)
 
   flown-out : (k : ℕ) → T (isFlyingZone z) → flownOutIn (G .legs) (zoneBefore G (move k m)) (aircraftAt G (zoneBefore G (move k m)) 1) ≡ true
   unfolding allFlownOut
   flown-out k u =
-      let t = flown-in z (lower z z-in) u flown in
+      let t = flown-in z u flown in
       let q = subst (λ (l : List Aircraft). T (every (flownOutIn (G .legs) z) l)) (in-line f (e ∷ b) [] legs z z-in ∙ inside-at [] e b) t in
       ap (λ (y : ℕ). flownOutIn (G .legs) y (aircraftAt G y 1)) (before-is k)
       ∙ ap (flownOutIn (G .legs) z) (head-there f [] e b [] legs (o .different) z-in refl)
