@@ -9,22 +9,22 @@ use native.Mathlib.Omega.{arith}
 use lib.Dec.{T, leb, eqb, leb→le, le→leb}
 use lib.ListN.{length}
 use lib.Ieee.Fits.{and-i, and-l, and-r}
-use borrow.Author.Tests.{eqb-true, eqb-false, leb-false}
 use Rattle.request.specs.Input.{within}
 use Rattle.request.specs.declared.Request.{Request}
 use Rattle.field.specs.declared.Aircraft.{Aircraft}
 use Rattle.field.specs.declared.Legs.{Legs}
 use Rattle.field.specs.declared.Field.{Field}
-use Rattle.field.specs.Boxes.{emptyField, operation, everywhere, zonesFrom}
-use Rattle.field.specs.Counts.{total, howMany, presentOn, inOperation, inArea, perFix}
+use Rattle.field.specs.Boxes.{emptyField, zonesFrom}
+use Rattle.field.specs.Counts.{howMany, presentOn, inOperation, inArea, perFix}
 use Rattle.field.specs.Bounds.{every, legalLegs, boundA, boundB, boundC, boundD, lateralRule}
-use Rattle.order.specs.Model.{Side, right, left, between, count}
-use Rattle.order.proofs.Facts.{okay-empty, okay-length, okay-zones, weights-small}
+use Rattle.field.proofs.Shapes.{one-of-two}
+use Rattle.order.specs.Model.{Side, right}
+use Rattle.order.proofs.Facts.{okay-empty, okay-zones, weights-small}
 use Rattle.rules.specs.Play.{fieldAfter, played, accepted, moves}
 use Rattle.rules.specs.Demand.{allFlownOut, addsMoves, MovesOn, Demand3}
-use Rattle.rules.proofs.Tests.{pass, decided, every-from}
+use Rattle.rules.proofs.Tests.{every-from}
 use Rattle.rules.proofs.Line.{Placed, zonesIn, fieldOf, empty-is}
-use Rattle.rules.proofs.Counted.{in-operation, all-counted, how-many-runway, lower}
+use Rattle.rules.proofs.Counted.{in-operation, all-counted, how-many-runway}
 use Rattle.rules.proofs.Orderly.{Orderly, length-zones}
 use Rattle.rules.proofs.Within.{a-holds, b-holds, c-holds, d-holds}
 use Rattle.rules.proofs.After.{weightOf}
@@ -39,12 +39,7 @@ empty-orderly legs l =
 -- a side is 1 or 2
 by-side : (P : ℕ → Type 0) → P 1 → P 2 → (s : ℕ) → T (within 1 2 s) → P s
 by-side P p q s t =
-    let l = leb→le 1 s (and-l (leb 1 s) (leb s 2) t) in
-    let h = leb→le s 2 (and-r (leb 1 s) (leb s 2) t) in
-    elim (decided (eqb s 1)) [ inl e ↦ subst P (sym (eqb-true s 1 e)) p | inr e ↦ subst P (sym (two s l h (eqb-false s 1 e))) q ]
-  where
-    two : (s : ℕ) → 1 ≤ s → s ≤ 2 → (s ≡ 1 → ⊥) → s ≡ 2
-    two s l h n = elim (decided (leb s 1)) [ inl e ↦ absurd (n (let k = leb→le s 1 (pass e) in omega arith)) | inr e ↦ (let k = leb-false s 1 e in omega arith) ]
+    one-of-two P 1 s (leb→le 1 s (and-l (leb 1 s) (leb s 2) t)) (let h = leb→le s 2 (and-r (leb 1 s) (leb s 2) t) in omega arith) p q
 
 module _ (f : Side) (line : List Placed) (runway : List Aircraft) (legs : Legs) (o : Orderly f line runway legs) where
   abbrev F : Field

@@ -22,6 +22,7 @@ use Rattle.field.specs.Boxes.{isFlyingZone, at3000, lateral, missed, approach}
 use Rattle.field.specs.Counts.{isIn, total, approachHolds, potentialOf}
 use Rattle.field.specs.Find.{placeOf}
 use Rattle.field.specs.Bounds.{isEmpty, withinBounds}
+use Rattle.field.proofs.Shapes.{one-of-two}
 use Rattle.order.specs.Model.{Side, right, left, num, between, countFix, free, potential, mayEnter, mayEnterLateral}
 use Rattle.order.proofs.Facts.{enter, enter-lateral}
 use Rattle.rules.specs.Kinds.{zoneBefore, verticalChecks, lateralChecks, descendChecks, approachChecks, mergeChecks, flownOutChecks, landChecks, exitChecks}
@@ -41,13 +42,7 @@ use Rattle.rules.proofs.Accepted.{three, four, five, six, seven, eight,
 
 -- ---- a side of a request
 side-known : (n : ℕ) → 1 ≤ n → n ≤ 2 → (s : Side) × (n ≡ num s)
-side-known n l h = elim (decided (eqb n 1)) [ inl e ↦ (right, eqb-true n 1 e) | inr e ↦ (left, two n l h (eqb-false n 1 e)) ]
-  where
-    two : (n : ℕ) → 1 ≤ n → n ≤ 2 → (n ≡ 1 → ⊥) → n ≡ 2
-    two n l h k = elim (decided (eqb n 2)) [ inl e ↦ eqb-true n 2 e | inr e ↦ absurd (k (let q = eqb-false n 2 e in one-of n l h q)) ]
-      where
-        one-of : (n : ℕ) → 1 ≤ n → n ≤ 2 → (n ≡ 2 → ⊥) → n ≡ 1
-        one-of n l h q = elim (decided (leb n 1)) [ inl e ↦ (let m = leb→le n 1 (pass e) in omega arith) | inr e ↦ absurd (q (let m = borrow.Author.Tests.leb-false n 1 e in omega arith)) ]
+side-known n l h = one-of-two (λ (m : ℕ). (s : Side) × (m ≡ num s)) 1 n l (omega arith) (right, refl) (left, refl)
 
 -- ---- kinds 1 and 2
 module _ (f : Side) (line : List Placed) (runway : List Aircraft) (legs : Legs) (o : Orderly f line runway legs) (r : Request) where
