@@ -1,44 +1,41 @@
 -- Every request that passes the input rules and the checks of its kind, on a field that an orderly line stands for, leads to a field that
 -- an orderly line stands for. Assumes nothing.
 use mathlib.Core.Path.{_≡_, refl, sym, ap, _∙_, subst}
-use mathlib.Core.Logic.{_⊎_, inl, inr}
-use mathlib.Core.Bool.{Bool, true, false, cond, not, _&&_, _||_, true≢false, false≢true, Bool·not-not}
-use mathlib.Core.List.{List, [], _∷_, _++_, map, append-assoc}
-use Prim.Native.Nat.{ℕ, zero, suc, _+_, _≤_, _<_}
+use mathlib.Core.Logic.{inl, inr}
+use mathlib.Core.Bool.{true, false, cond, not, true≢false, false≢true}
+use mathlib.Core.List.{List, [], _∷_, _++_, append-assoc}
+use Prim.Native.Nat.{ℕ}
 use native.Mathlib.Omega.{arith}
-use lib.Dec.{T, leb, ltb, eqb, leb→le, le→leb, eqb→eq}
+use lib.Dec.{T, leb, eqb, leb→le, eqb→eq}
 use lib.ListN.{length}
-use lib.Ieee.Fits.{and-i, and-l, and-r}
-use borrow.Author.Tests.{eqb-true, eqb-false, eq-eqb}
-use Rattle.request.specs.Input.{within, isEntry, firstRefused, inputNumber}
+use lib.Ieee.Fits.{and-r}
+use borrow.Author.Tests.{eqb-true, eq-eqb}
+use Rattle.request.specs.Input.{firstRefused}
 use Rattle.request.specs.declared.Request.{Request}
 use Rattle.request.proofs.Tests as input
-use Rattle.request.proofs.ByKind.{KindKnown, EntryKnown, TickKnown, kind-known, entry-known, tick-known}
 use Rattle.field.specs.declared.Aircraft.{Aircraft}
 use Rattle.field.specs.declared.Legs.{Legs}
 use Rattle.field.specs.declared.Field.{Field}
-use Rattle.field.specs.declared.Place.{Place}
-use Rattle.field.specs.Boxes.{isFlyingZone, sideOf, at3000, at2000, lateral, missed, approach}
-use Rattle.field.specs.Counts.{isIn, total, howMany, approachHolds, potentialOf}
+use Rattle.field.specs.Boxes.{sideOf, at3000, at2000}
+use Rattle.field.specs.Counts.{howMany}
 use Rattle.field.specs.Find.{placeOf, isFirst}
 use Rattle.field.specs.Bounds.{isEmpty}
-use Rattle.order.specs.Model.{Side, right, left, num, between, count, countFix, free, potential, mayEnter, mayEnterLateral, isNil, okay, one}
-use Rattle.order.proofs.Facts.{enter, enter-lateral, final-first, hold-ahead}
-use Rattle.rules.specs.Kinds.{zoneBefore, startsFrom, verticalChecks, lateralChecks, descendChecks, approachChecks, mergeChecks, flownOutChecks, landChecks, headChecks, exitChecks, moved, held}
-use Rattle.rules.specs.Step.{checksOf, effectOf}
-use Rattle.rules.proofs.Tests.{passed, pass, failed, decided, if-false, zones-imply}
-use Rattle.rules.proofs.Lists.{map-append, absent-both}
-use Rattle.rules.proofs.Line.{Placed, zonesIn, numbersOf, fieldOf}
-use Rattle.rules.proofs.Counted.{lower, how-many, how-many-runway, approach-holds, potential-is}
-use Rattle.rules.proofs.Located.{numbers, at, located, located-runway, first-there}
+use Rattle.order.specs.Model.{Side, between, count, free, isNil, okay, one}
+use Rattle.order.proofs.Facts.{final-first, hold-ahead}
+use Rattle.rules.specs.Kinds.{startsFrom, headChecks, moved, held}
+use Rattle.rules.specs.Step.{effectOf}
+use Rattle.rules.proofs.Tests.{passed, failed, decided, if-false, zones-imply}
+use Rattle.rules.proofs.Line.{Placed, zonesIn, fieldOf}
+use Rattle.rules.proofs.Counted.{lower, how-many-runway}
+use Rattle.rules.proofs.Located.{at, first-there}
 use Rattle.rules.proofs.Members.{count-append}
 use Rattle.rules.proofs.Orderly.{Orderly, Split, first-in}
 use Rattle.rules.proofs.After.{After, zone-in, okay-split}
-use Rattle.rules.proofs.Heads.{InLine, find-line, Heading, Landed, heading}
-use Rattle.rules.proofs.Checks.{checksFor, checks-at, effect-at, HeadPassed, head-passed, besides}
+use Rattle.rules.proofs.Heads.{Heading, heading}
+use Rattle.rules.proofs.Checks.{effect-at, head-passed, besides}
 use Rattle.rules.proofs.OnLine.{MissedZone, eleven-from, zone-before, from-kind, empty-free, after-3, after-4, after-5, after-6, after-11}
 use Rattle.rules.proofs.HoldBoth.{after-both}
-use Rattle.rules.proofs.AtEnds.{after-7, after-8, after-9, after-10, after-entry, after-12}
+use Rattle.rules.proofs.AtEnds.{after-7, after-8, after-9, after-10}
 
 -- ---- zones that kinds start from, where the zone is one of 1 to 13
 land-from : (z : ℕ) → T (between 1 13 z) → T (startsFrom 7 z) → T (eqb z 12)

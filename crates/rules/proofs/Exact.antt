@@ -1,9 +1,9 @@
 -- Exactness holds after every list of requests from an empty field with legs in whole 64ths. Assumes nothing.
 use mathlib.Core.Path.{_≡_, refl, sym, ap, _∙_, subst}
 use mathlib.Core.Logic.{_⊎_, inl, inr}
-use mathlib.Core.Bool.{Bool, true, false, cond, not, _&&_, _||_, true≢false, false≢true}
-use mathlib.Core.List.{List, [], _∷_, _++_, map}
-use Prim.Native.Nat.{ℕ, zero, suc, _+_, _*_, _≤_, _<_, min}
+use mathlib.Core.Bool.{Bool, true, false, cond, _&&_, false≢true}
+use mathlib.Core.List.{List, [], _∷_, map}
+use Prim.Native.Nat.{ℕ, _+_, _*_, min}
 use native.Mathlib.Nat.{mul-add, mul-zero}
 use native.Mathlib.Omega.{arith}
 use lib.Dec.{T, leb, eqb, leb→le, le→leb}
@@ -14,28 +14,26 @@ use Rattle.leg.specs.Ticks.{Between, FlownExactly}
 use Rattle.leg.specs.declared.Progress.{Progress}
 use Rattle.leg.specs.declared.Progress.the-variants.{Waiting, Flying}
 use Rattle.leg.proofs.Theorems.{zero-exact, sixty-fourths-legal, one-tick-exact}
-use Rattle.request.specs.Input.{within, isTick, inputNumber}
+use Rattle.request.specs.Input.{isTick, inputNumber}
 use Rattle.request.specs.declared.Request.{Request}
-use Rattle.request.proofs.ByKind.{TickKnown, tick-known}
+use Rattle.request.proofs.ByKind.{tick-known}
 use Rattle.field.specs.declared.Aircraft.{Aircraft}
-use Rattle.field.specs.declared.Legs.{Legs}
 use Rattle.field.specs.declared.Field.{Field}
 use Rattle.field.specs.Boxes.{isFlyingZone, legOf, progressInto, withProgress, inZone, emptyField}
 use Rattle.field.specs.Bounds.{every, fitsZone, legalLegs}
 use Rattle.field.specs.Edits.{tickedAircraft}
 use Rattle.order.specs.Model.{Side, right, between}
-use Rattle.rules.specs.declared.Answer.{Answer}
 use Rattle.rules.specs.Step.{numberOf, stepOf}
-use Rattle.rules.specs.Play.{fieldAfter, played, isAccepted}
+use Rattle.rules.specs.Play.{fieldAfter, played}
 use Rattle.rules.specs.Exact.{WholeLegs, inMiles, in64ths, ticksWith, ticksAfter, EachAircraft, Exact}
-use Rattle.rules.proofs.Tests.{passed, pass, failed, decided, if-true, if-false, each-zone}
-use Rattle.rules.proofs.Line.{Placed, zonesIn, inside, fieldOf, empty-is}
+use Rattle.rules.proofs.Tests.{passed, decided, if-true, if-false, each-zone}
+use Rattle.rules.proofs.Line.{Placed, inside, fieldOf, empty-is}
 use Rattle.rules.proofs.Counted.{in-line}
 use Rattle.rules.proofs.Orderly.{Orderly}
 use Rattle.rules.proofs.Ticking.{tickPlaced}
 use Rattle.rules.proofs.Kept.{placedFits}
-use Rattle.rules.proofs.After.{Each, After, Carried, Others}
-use Rattle.rules.proofs.Outcomes.{number-is, field-accepted, field-refused, refusable, Accepted, outcome}
+use Rattle.rules.proofs.After.{Each}
+use Rattle.rules.proofs.Outcomes.{number-is, field-accepted, field-refused, Accepted, outcome}
 use Rattle.rules.proofs.Runs.{refusable-range}
 use Rattle.rules.proofs.Demand.{empty-orderly}
 

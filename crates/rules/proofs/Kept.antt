@@ -1,16 +1,15 @@
 -- Each change of the line that a request makes keeps it orderly, given that the finite model keeps its zones okay. Assumes nothing.
 use mathlib.Core.Path.{_≡_, refl, sym, ap, _∙_, subst}
 use mathlib.Core.Logic.{_⊎_, inl, inr}
-use mathlib.Core.Bool.{Bool, true, false, cond, not, _&&_, _||_}
-use mathlib.Core.List.{List, [], _∷_, _++_, map, append-assoc, append-nil}
-use Prim.Native.Nat.{ℕ, zero, suc, _+_, _≤_, _<_}
+use mathlib.Core.Bool.{Bool, true, false, cond, not, _&&_}
+use mathlib.Core.List.{List, [], _∷_, _++_, map, append-assoc}
+use Prim.Native.Nat.{ℕ, _≤_}
 use native.Mathlib.Omega.{arith}
-use lib.Dec.{T, leb, eqb, leb→le, le→leb}
-use lib.ListN.{length}
+use lib.Dec.{T, leb, leb→le, le→leb}
 use lib.Ieee.Fits.{and-i, and-l, and-r}
 use lib.Ieee.{Float}
 use Rattle.leg.specs.Progress.{whole, legalLeg, withinLeg, progressAfter}
-use Rattle.leg.specs.Ticks.{Between, flying}
+use Rattle.leg.specs.Ticks.{Between}
 use Rattle.leg.specs.declared.Progress.{Progress}
 use Rattle.leg.specs.declared.Progress.the-variants.{Waiting, Flying}
 use Rattle.leg.proofs.Theorems.{zero-within, within-kept}
@@ -20,9 +19,9 @@ use Rattle.field.specs.Boxes.{isSide, isFlyingZone, progressInto, entering, wit
 use Rattle.field.specs.Counts.{isIn}
 use Rattle.field.specs.Bounds.{every, allDifferent, isWaiting, fitsZone, legalLegs}
 use Rattle.field.specs.Edits.{tickedAircraft}
-use Rattle.order.specs.Model.{Side, right, left, opp, num, nextFix, between, count, all, okay, firstFix}
+use Rattle.order.specs.Model.{Side, right, left, opp, num, between, count, all, okay, firstFix}
 use Rattle.order.proofs.Facts.{okay-zones}
-use Rattle.rules.proofs.Tests.{passed, pass, failed, decided, if-true, if-false, each-zone}
+use Rattle.rules.proofs.Tests.{pass, failed, decided, if-true, if-false, each-zone}
 use Rattle.rules.proofs.Lists.{map-append, every-append, every-left, every-right, different-with, absent-both}
 use Rattle.rules.proofs.Line.{Placed, zonesIn, numbersOf}
 use Rattle.rules.proofs.Counted.{Alternates, lower}
@@ -30,7 +29,7 @@ use Rattle.rules.proofs.Located.{numbers}
 use Rattle.rules.proofs.Leaders.{nonzero}
 use Rattle.rules.proofs.Members.{count-append, different-count, count-different, nonzero-count, count-nonzero}
 use Rattle.rules.proofs.Orderly.{Orderly}
-use Rattle.rules.proofs.Moves.{into, same-numbers}
+use Rattle.rules.proofs.Moves.{same-numbers}
 use Rattle.rules.proofs.Enters.{entryFix, alternates-after}
 use Rattle.rules.proofs.Ticking.{tickPlaced, zones-same, numbers-same}
 

@@ -1,18 +1,15 @@
 -- Laws of lists of numbers: who is in a list, what is all different, and what stands before a number. Assumes nothing.
-use mathlib.Core.Path.{_≡_, refl, sym, ap, _∙_, subst}
-use mathlib.Core.Logic.{_⊎_, inl, inr}
-use mathlib.Core.Bool.{Bool, true, false, cond, not, _&&_, _||_, true≢false}
+use mathlib.Core.Path.{_≡_, refl, sym, ap, _∙_}
+use mathlib.Core.Bool.{Bool, true, false, not, _||_, true≢false}
 use mathlib.Core.List.{List, [], _∷_, _++_, map}
-use Prim.Native.Nat.{ℕ, zero, suc, _+_, _≤_, _<_}
-use native.Mathlib.Omega.{arith}
+use Prim.Native.Nat.{ℕ}
 use lib.Dec.{T, eqb}
-use lib.ListN.{length}
 use lib.Ieee.Fits.{and-i, and-l, and-r}
 use Rattle.field.specs.Counts.{isIn}
 use Rattle.field.specs.Find.{isHead, aheadOf}
 use Rattle.field.specs.Bounds.{every, allDifferent}
 use Rattle.order.specs.Model.{lastOr, isNil}
-use Rattle.rules.proofs.Tests.{passed, pass, failed, fail, if-true, if-false, same, flip-eqb}
+use Rattle.rules.proofs.Tests.{failed, fail, if-true, if-false, same, flip-eqb}
 
 pub map-append {ℓ ℓ′} : {A : Type ℓ} {B : Type ℓ′} (g : A → B) (xs ys : List A) → map g (xs ++ ys) ≡ map g xs ++ map g ys
 map-append g [] ys = refl

@@ -1,12 +1,11 @@
 -- Where an aircraft is, whether it is first and whom it follows, on a field that an order stands for. Assumes nothing.
 use mathlib.Core.Path.{_≡_, refl, sym, ap, _∙_, subst}
 use mathlib.Core.Logic.{_⊎_, inl, inr}
-use mathlib.Core.Bool.{Bool, true, false, cond, not, _&&_, _||_, true≢false}
+use mathlib.Core.Bool.{Bool, true, false, cond, _||_, true≢false}
 use mathlib.Core.List.{List, [], _∷_, _++_, map, append-assoc}
-use Prim.Native.Nat.{ℕ, zero, suc, _+_, _≤_, _<_}
-use native.Mathlib.Nat.{ne-of-gt}
+use Prim.Native.Nat.{ℕ, suc, _+_, _≤_}
 use native.Mathlib.Omega.{arith}
-use lib.Dec.{T, leb, eqb, leb→le, le→leb, eqb→eq}
+use lib.Dec.{T, leb, eqb, leb→le, le→leb}
 use lib.ListN.{length, getD}
 use lib.Seq.{getD-append-seam}
 use lib.Ieee.Fits.{and-i, and-l, and-r}
@@ -17,12 +16,12 @@ use Rattle.field.specs.declared.Field.{Field}
 use Rattle.field.specs.declared.Place.{Place}
 use Rattle.field.specs.Boxes.{everywhere, inZone, orderOf, nobody}
 use Rattle.field.specs.Counts.{isIn}
-use Rattle.field.specs.Find.{placeFrom, nowhere, findIn, placeOf, aircraftAt, fixOf, isHead, isFirst, aheadOf, leaderOf, leaderZone}
-use Rattle.field.specs.Bounds.{every, allDifferent}
+use Rattle.field.specs.Find.{placeFrom, nowhere, findIn, placeOf, aircraftAt, fixOf, isHead, isFirst, aheadOf, leaderOf}
+use Rattle.field.specs.Bounds.{allDifferent}
 use Rattle.order.specs.Model.{Side, between, lastOr, isNil, all}
-use Rattle.rules.proofs.Tests.{passed, pass, if-true, if-false, decided, same, each-zone}
-use Rattle.rules.proofs.Lists.{map-append, Ends, nothing, with-last, ends, or-false-left, or-false-right, absent-left, absent-right, Alone, alone, head-is, ahead-is, ahead-absent, last-is}
-use Rattle.rules.proofs.Line.{order-for, sequenceFor, Placed, zonesIn, numbersOf, inside, fieldOf}
+use Rattle.rules.proofs.Tests.{pass, if-true, if-false, decided, same, each-zone}
+use Rattle.rules.proofs.Lists.{map-append, or-false-left, or-false-right, absent-left, absent-right, Alone, alone, head-is, ahead-is}
+use Rattle.rules.proofs.Line.{order-for, Placed, zonesIn, numbersOf, inside, fieldOf}
 use Rattle.rules.proofs.Counted.{inside-append, in-line, on-runway}
 
 abbrev pub numbers : List Aircraft → List ℕ

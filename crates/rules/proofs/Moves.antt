@@ -1,15 +1,13 @@
 -- What the moves of one aircraft do to a field that an order stands for: it stands for the order with that aircraft in its new zone,
 -- or without it. Assumes nothing.
-use mathlib.Core.Path.{_≡_, refl, sym, ap, _∙_, subst}
-use mathlib.Core.Logic.{_⊎_, inl, inr}
-use mathlib.Core.Bool.{Bool, true, false, cond, not, _&&_, _||_}
-use mathlib.Core.List.{List, [], _∷_, _++_, map, append-nil, append-assoc}
-use Prim.Native.Nat.{ℕ, zero, suc, _+_, _≤_, _<_}
-use native.Mathlib.Nat.{le-trans}
+use mathlib.Core.Path.{_≡_, refl, sym, ap, _∙_}
+use mathlib.Core.Logic.{inl, inr}
+use mathlib.Core.Bool.{false, cond}
+use mathlib.Core.List.{List, [], _∷_, _++_, append-nil}
+use Prim.Native.Nat.{ℕ, suc, _+_, _≤_, _<_}
 use native.Mathlib.Omega.{arith}
-use lib.Dec.{T, leb, eqb, leb→le, le→leb}
+use lib.Dec.{T, eqb}
 use lib.ListN.{length, length-append}
-use lib.Ieee.Fits.{and-i, and-l, and-r}
 use borrow.Author.Tests.{eqb-true}
 use Rattle.field.specs.declared.Aircraft.{Aircraft}
 use Rattle.field.specs.declared.Zone.{Zone}
@@ -19,15 +17,15 @@ use Rattle.field.specs.declared.Field.{Field}
 use Rattle.field.specs.Boxes.{zoneOf, progressInto, withProgress}
 use Rattle.field.specs.Find.{aircraftAt}
 use Rattle.field.specs.Bounds.{allDifferent}
-use Rattle.field.specs.Edits.{withoutHead, withTail, withZone, withSequence, removed}
+use Rattle.field.specs.Edits.{withoutHead, withTail, withZone}
 use Rattle.order.specs.Model.{Side, opp, num, nextFix, between}
-use Rattle.rules.specs.Kinds.{moved, headGone, outOfSequence, landed, exited}
-use Rattle.rules.proofs.Tests.{passed, pass, if-true, if-false, decided, same}
+use Rattle.rules.specs.Kinds.{moved}
+use Rattle.rules.proofs.Tests.{if-true, if-false, decided}
 use Rattle.rules.proofs.Lists.{map-append}
-use Rattle.rules.proofs.Line.{zoneFor, tail-for, head-for, sequenceFor, removed-for, fieldBy, zone-by, with-by, by-zones, Placed, zonesIn, numbersOf, inside, zonesOf, fieldOf}
-use Rattle.rules.proofs.Counted.{inside-append, lower, not-13, zone-of-line, zone-of-runway, on-runway}
-use Rattle.rules.proofs.Located.{numbers, inside-at, inside-other, head-there, zone-split}
-use Rattle.rules.proofs.Orderly.{inside-le, length-numbers}
+use Rattle.rules.proofs.Line.{zoneFor, tail-for, head-for, sequenceFor, fieldBy, zone-by, with-by, by-zones, Placed, zonesIn, numbersOf, inside, zonesOf, fieldOf}
+use Rattle.rules.proofs.Counted.{lower, not-13, zone-of-line}
+use Rattle.rules.proofs.Located.{numbers, inside-at, inside-other, head-there}
+use Rattle.rules.proofs.Orderly.{inside-le}
 
 -- ---- one zone, or two, written anew
 module _ (g h : ℕ → Zone) (s : Sequence) (next : ℕ) (legs : Legs) where

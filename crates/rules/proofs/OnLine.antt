@@ -1,11 +1,10 @@
 -- The kinds that take an aircraft from one zone of the operation area to another: 3, 4, 5, 6 and 11. Assumes nothing.
 use mathlib.Core.Path.{_≡_, refl, sym, ap, _∙_, subst}
-use mathlib.Core.Logic.{_⊎_, inl, inr}
-use mathlib.Core.Bool.{Bool, true, false, cond, not, _&&_, _||_}
-use mathlib.Core.List.{List, [], _∷_, _++_}
-use Prim.Native.Nat.{ℕ, zero, suc, _+_, _≤_, _<_}
+use mathlib.Core.Bool.{Bool, true, false, cond, _&&_, _||_}
+use mathlib.Core.List.{List, _∷_, _++_}
+use Prim.Native.Nat.{ℕ}
 use native.Mathlib.Omega.{arith}
-use lib.Dec.{T, leb, eqb, leb→le, le→leb}
+use lib.Dec.{T, leb, eqb}
 use lib.Ieee.Fits.{and-i, and-l, and-r}
 use borrow.Author.Tests.{eqb-true}
 use Rattle.request.specs.Input.{within, firstRefused}
@@ -18,13 +17,12 @@ use Rattle.field.specs.declared.Place.{Place}
 use Rattle.field.specs.Boxes.{opposite, sideOf, at3000, at2000, base}
 use Rattle.field.specs.Counts.{howMany}
 use Rattle.field.specs.Find.{placeOf, isFirst, leaderZone}
-use Rattle.field.specs.Bounds.{every, isEmpty}
+use Rattle.field.specs.Bounds.{isEmpty}
 use Rattle.order.specs.Model as model
-use Rattle.order.specs.Model.{Side, between, count, free, isNil, lastOr, descend, approaching, merge, final, hold, needs, target, all}
+use Rattle.order.specs.Model.{Side, between, count, free, isNil, lastOr, descend, approaching, merge, final, hold}
 use Rattle.order.proofs.Facts.{okay-zones}
 use Rattle.rules.specs.Kinds.{startsFrom, zoneBefore, mayApproach, baseFree, moved, approached, held}
-use Rattle.rules.specs.Step.{effectOf}
-use Rattle.rules.proofs.Tests.{passed, pass, if-true, if-false, zones-imply}
+use Rattle.rules.proofs.Tests.{passed, pass, if-true, zones-imply}
 use Rattle.rules.proofs.Lists.{map-append, every-left}
 use Rattle.rules.proofs.Line.{Placed, zonesIn, numbersOf, fieldOf}
 use Rattle.rules.proofs.Counted.{how-many, lower}
@@ -32,7 +30,7 @@ use Rattle.rules.proofs.Located.{numbers, at, first-there}
 use Rattle.rules.proofs.Leaders.{nonzero, leader-zone}
 use Rattle.rules.proofs.Orderly.{Orderly}
 use Rattle.rules.proofs.After.{After, zone-in, line-move, staysOn}
-use Rattle.rules.proofs.Checks.{effectFor, effect-at, besides}
+use Rattle.rules.proofs.Checks.{effect-at, besides}
 
 -- ---- the zones that a kind starts from, and those that it leads to, one by one
 three-from : (z : ℕ) → T (between 1 13 z) → T (startsFrom 3 z) → T (between 1 2 z && between 1 12 (at2000 z))

@@ -2,29 +2,29 @@
 -- that is neither 10 nor 25. Assumes nothing.
 use mathlib.Core.Path.{_≡_, refl, sym, ap, _∙_, subst}
 use mathlib.Core.Logic.{_⊎_, inl, inr}
-use mathlib.Core.Bool.{Bool, true, false, cond, not, _&&_, _||_}
+use mathlib.Core.Bool.{Bool, true, false, cond, _||_}
 use mathlib.Core.List.{List, [], _∷_, _++_}
-use Prim.Native.Nat.{ℕ, zero, suc, _+_, _≤_, _<_}
+use Prim.Native.Nat.{ℕ}
 use native.Mathlib.Omega.{arith}
-use lib.Dec.{T, leb, eqb, leb→le, le→leb}
-use lib.Ieee.Fits.{and-i, and-l, and-r}
+use lib.Dec.{T, leb, eqb, leb→le}
+use lib.Ieee.Fits.{and-l}
 use borrow.Author.Tests.{eqb-true, eqb-false, eq-eqb, ne-eqb}
 use Rattle.request.specs.Input.{firstRefused, inputNumber}
 use Rattle.request.specs.declared.Request.{Request}
 use Rattle.field.specs.declared.Aircraft.{Aircraft}
 use Rattle.field.specs.declared.Legs.{Legs}
 use Rattle.field.specs.declared.Field.{Field}
-use Rattle.field.specs.Bounds.{every, withinBounds}
+use Rattle.field.specs.Bounds.{withinBounds}
 use Rattle.order.specs.Model.{Side, between}
 use Rattle.rules.specs.declared.Answer.{Answer}
 use Rattle.rules.specs.declared.Stepped.{Stepped}
 use Rattle.rules.specs.Step.{checksOf, effectOf, numberOf, numberAndZeros, acceptance, answerOf, stepOf}
-use Rattle.rules.proofs.Tests.{passed, pass, decided, or-left, or-right, if-true, if-false}
+use Rattle.rules.proofs.Tests.{passed, decided, or-left, or-right, if-true, if-false}
 use Rattle.rules.proofs.Line.{Placed, fieldOf}
 use Rattle.rules.proofs.Orderly.{Orderly}
 use Rattle.rules.proofs.Within.{within-bounds}
 use Rattle.rules.proofs.After.{After}
-use Rattle.rules.proofs.Checks.{numberedIn, refused-in, refused-more, refused-first, checks-numbered, wider, input-numbered}
+use Rattle.rules.proofs.Checks.{refused-in, refused-more, refused-first, checks-numbered, wider, input-numbered}
 use Rattle.rules.proofs.Steps.{accepted-after}
 
 -- ---- the step by its number, on any field

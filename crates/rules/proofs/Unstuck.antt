@@ -1,44 +1,43 @@
 -- Somebody can always move: on a field that an orderly line stands for, with everyone's leg flown out, the one on the runway taxies off,
 -- and where there is none the first of the sequence goes on. Assumes nothing.
 use mathlib.Core.Path.{_≡_, refl, sym, ap, _∙_, subst}
-use mathlib.Core.Logic.{_⊎_, inl, inr}
-use mathlib.Core.Bool.{Bool, true, false, cond, not, _&&_, _||_, true≢false}
+use mathlib.Core.Bool.{Bool, true, false, cond, not, _||_}
 use mathlib.Core.List.{List, [], _∷_, _++_}
-use Prim.Native.Nat.{ℕ, zero, suc, _+_, _≤_, _<_}
+use Prim.Native.Nat.{ℕ, _+_, _≤_, _<_}
 use native.Mathlib.Nat.{pos-of-ne-zero}
 use native.Mathlib.Omega.{arith}
-use lib.Dec.{T, leb, eqb, leb→le, le→leb, eqb→eq}
+use lib.Dec.{T, leb, eqb, leb→le}
 use lib.ListN.{length}
-use lib.Ieee.Fits.{and-i, and-l, and-r}
-use borrow.Author.Tests.{eqb-true, eqb-false, eq-eqb}
+use lib.Ieee.Fits.{and-l, and-r}
+use borrow.Author.Tests.{eqb-false}
 use Rattle.request.specs.Input.{within, firstRefused}
 use Rattle.request.specs.declared.Request.{Request}
 use Rattle.request.proofs.Tests as input
-use Rattle.request.proofs.ByKind.{MoveKnown, move-allowed}
+use Rattle.request.proofs.ByKind.{move-allowed}
 use Rattle.field.specs.declared.Aircraft.{Aircraft}
 use Rattle.field.specs.declared.Legs.{Legs}
 use Rattle.field.specs.declared.Field.{Field}
 use Rattle.field.specs.declared.Place.{Place}
-use Rattle.field.specs.Boxes.{sideOf, opposite, at2000, base, inZone, isFlyingZone, flownOutIn, zonesFrom}
+use Rattle.field.specs.Boxes.{sideOf, opposite, at2000, inZone, isFlyingZone, flownOutIn, zonesFrom}
 use Rattle.field.specs.Counts.{howMany}
 use Rattle.field.specs.Find.{placeOf, aircraftAt, isFirst, leaderZone}
-use Rattle.field.specs.Bounds.{every, isEmpty, allDifferent}
+use Rattle.field.specs.Bounds.{every, isEmpty}
 use Rattle.order.specs.Model as model
 use Rattle.order.specs.Model.{Side, between, count, free, needs}
 use Rattle.order.proofs.Facts.{headKind, head-moves}
 use Rattle.rules.specs.Kinds.{zoneBefore, startsFrom, headChecks, mayApproach, baseFree, descendChecks, approachChecks, mergeChecks, flownOutChecks, landChecks}
-use Rattle.rules.specs.Step.{checksOf, stepOf}
+use Rattle.rules.specs.Step.{checksOf}
 use Rattle.rules.specs.Demand.{allFlownOut, movesOn, MovesOn}
-use Rattle.rules.proofs.Tests.{passed, pass, failed, decided, or-left, each-zone, every-from}
-use Rattle.rules.proofs.Lists.{every-left, every-right, alone}
+use Rattle.rules.proofs.Tests.{passed, failed, each-zone, every-from}
+use Rattle.rules.proofs.Lists.{every-right, alone}
 use Rattle.rules.proofs.Line.{Placed, zonesIn, numbersOf, inside, fieldOf}
 use Rattle.rules.proofs.Counted.{lower, in-line, how-many, how-many-runway}
-use Rattle.rules.proofs.Located.{numbers, at, located, located-runway, inside-at, first-there, head-there}
+use Rattle.rules.proofs.Located.{at, located, located-runway, inside-at, first-there, head-there}
 use Rattle.rules.proofs.Leaders.{nonzero}
 use Rattle.rules.proofs.Orderly.{Orderly}
 use Rattle.rules.proofs.After.{zone-in}
 use Rattle.rules.proofs.Checks.{checks-at, besides}
-use Rattle.rules.proofs.Outcomes.{number-is, Accepted, accepted-by}
+use Rattle.rules.proofs.Outcomes.{number-is, accepted-by}
 
 -- a request of a kind by a number
 abbrev pub move : ℕ → ℕ → Request

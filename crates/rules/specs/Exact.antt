@@ -1,6 +1,6 @@
 -- Exactness, of demand 2 (document 01, "The requests"): "From an empty field whose legs are whole 64ths, the miles times 4096 are exactly
 -- the smaller of 64 times the leg in 64ths and the speed times the tick amounts added up since the leg began."
-use mathlib.Core.Bool.{Bool, true, false, cond, _&&_, _||_}
+use mathlib.Core.Bool.{cond, _&&_, _||_}
 use mathlib.Core.List.{List, [], _∷_}
 use Prim.Native.Nat.{ℕ, _+_, _*_, min}
 use lib.Dec.{T, eqb}
