@@ -2,7 +2,7 @@
 """Writes what the program crate leg_bits must write: crates/leg_bits/stdout.
 
 The arithmetic is IEEE 754's binary64 over exact fractions: every result is the exact one, rounded once to nearest,
-ties to even. No float of the machine takes part, and no number here comes from the program.
+ties to even. No float of the machine takes part.
 
     tools/leg_bits.py > crates/leg_bits/stdout
 """
@@ -13,7 +13,8 @@ LEAST_EXPONENT = -1074
 
 SPEEDS = (1, 2, 3, 63, 64, 65, 127, 255, 256, 333, 511, 512)
 WHOLE_LEGS = (1, 63, 64, 100, 4095, 4096)
-OTHER_LEGS = ("0.015625000000000003", "0.1", "0.3333333333333333", "2.7182818284590451", "63.99999999999999")
+OTHER_LEGS = ("0.015625000000000003", "0.1", "0.3333333333333333", "2.7182818284590451", "63.99999999999999", "32.1",
+              "7.8500000000000005")
 AMOUNTS = ((1,) * 4, (2,) * 4, (3,) * 4, (31,) * 4, (63,) * 4, (64,) * 4, (64, 1, 31, 3))
 STARTS = ("0.0", "0.1", "1e-9", "1.1102230246251568e-16")
 

@@ -15,7 +15,7 @@ const AMOUNTS: [u16; 6] = [1, 2, 3, 31, 63, 64];
 
 const MIXED: [u16; 4] = [64, 1, 31, 3];
 
-// The legs, in miles: six of whole 64ths, and five off them.
+// The legs, in miles: six of whole 64ths, and seven off them. Whether 0.1 and four ticks fly the last two out hangs on the rounding.
 fn length_of(i: usize) -> f64 {
     match i {
         0 => leg::of_sixty_fourths(1),
@@ -28,7 +28,9 @@ fn length_of(i: usize) -> f64 {
         7 => 0.1,
         8 => 0.3333333333333333,
         9 => 2.7182818284590451,
-        _ => 63.99999999999999,
+        10 => 63.99999999999999,
+        11 => 32.1,
+        _ => 7.8500000000000005,
     }
 }
 
@@ -118,7 +120,7 @@ fn combination(i: usize) {
 
 // Writes the lines of all combinations.
 fn main() {
-    for i in 0..792 {
+    for i in 0..936 {
         combination(i);
     }
 }

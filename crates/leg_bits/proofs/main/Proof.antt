@@ -6,10 +6,10 @@ use Rattle.leg_bits.proofs.main.Statement.{statement}
 use Rattle.leg_bits.proofs.main.Tie as tie
 
 abbrev Inv-loop : tie.InvT-loop
-Inv-loop i₀ i = i ≤ 792
+Inv-loop i₀ i = i ≤ 936
 
 abbrev μ-loop : tie.MeasureT-loop
-μ-loop i₀ i = 792 - i
+μ-loop i₀ i = 936 - i
 
 loop-holds : tie.Need-loop-holds Inv-loop μ-loop
 loop-holds c = omega arith
