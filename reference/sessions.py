@@ -3,20 +3,25 @@
 
 A readable session (NAME.txt) has the four legs `base intermediate final
 missed` in 64ths of a mile on its first line, then one request a line: `kind
-side number amount`. What follows a # is a comment. A file that is no practice
-file is written as its bytes in hexadecimal instead (NAME.hex).
+side number amount`. Lines that start with # are comments; one that starts with
+`# =` says what the next request answers. A file that is no practice file is
+written as its bytes in hexadecimal instead (NAME.hex).
 
   sessions.py bytes NAME.txt|NAME.hex [OUT]   the bytes, to OUT or standard output
   sessions.py text FILE [OUT]                 a practice file in readable form
   sessions.py hex FILE [OUT]                  any file in hexadecimal
   sessions.py data SESSIONS OUTDIR            the bytes of every session in a
                                               directory, as OUTDIR/NAME.scap
+  sessions.py expect SESSIONS PROGRAM         plays every session by a program
+                                              and writes NAME.expected
+  sessions.py check SESSIONS PROGRAM          plays them and compares
 
 FILE may be - for standard input. Legs and requests are written as given, also
 where the rules would refuse them.
 """
 import os
 import struct
+import subprocess
 import sys
 
 HEADER = 26
@@ -26,11 +31,8 @@ OFFSET = HEADER + LEGS
 
 
 def content(text):
-    """The lines that are not comments, without their comments."""
-    for line in text.splitlines():
-        line = line.split('#', 1)[0].strip()
-        if line:
-            yield line
+    """The lines that are neither comments nor blank."""
+    return [line for line in text.splitlines() if line.strip() and not line.startswith('#')]
 
 
 def numbers(line, most):
@@ -41,7 +43,7 @@ def numbers(line, most):
 
 
 def text_to_bytes(text):
-    lines = list(content(text))
+    lines = content(text)
     if not lines:
         raise SystemExit('sessions.py: no legs')
     legs = numbers(lines[0], (0xffff,) * 4)
@@ -79,6 +81,18 @@ def session_bytes(path):
     return hex_to_bytes(text) if path.endswith('.hex') else text_to_bytes(text)
 
 
+def all_sessions(directory):
+    """Name and bytes of every session in a directory, in order of name."""
+    for name in sorted(os.listdir(directory)):
+        stem, extension = os.path.splitext(name)
+        if extension in ('.txt', '.hex'):
+            yield stem, session_bytes(os.path.join(directory, name))
+
+
+def played(program, data):
+    return subprocess.run([program], input=data, stdout=subprocess.PIPE, check=True).stdout
+
+
 def read(path):
     if path == '-':
         return sys.stdin.buffer.read()
@@ -107,10 +121,16 @@ def main(args):
         write(bytes_to_hex(read(source)).encode('ascii'), target)
     elif command == 'data' and target is not None:
         os.makedirs(target, exist_ok=True)
-        for name in sorted(os.listdir(source)):
-            stem, extension = os.path.splitext(name)
-            if extension in ('.txt', '.hex'):
-                write(session_bytes(os.path.join(source, name)), os.path.join(target, stem + '.scap'))
+        for stem, data in all_sessions(source):
+            write(data, os.path.join(target, stem + '.scap'))
+    elif command == 'expect' and target is not None:
+        for stem, data in all_sessions(source):
+            write(played(target, data), os.path.join(source, stem + '.expected'))
+    elif command == 'check' and target is not None:
+        different = [stem for stem, data in all_sessions(source)
+                     if played(target, data) != read(os.path.join(source, stem + '.expected'))]
+        if different:
+            raise SystemExit('sessions.py: different: ' + ' '.join(different))
     else:
         raise SystemExit(__doc__)
 

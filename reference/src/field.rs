@@ -257,16 +257,16 @@ impl Field {
 impl Field {
     /// The first bound that this field breaks.
     pub fn broken_bound(&self) -> Option<Bound> {
-        let checks: [(Bound, fn(&Field) -> bool); 7] = [
-            (Bound::A, Field::bound_a),
-            (Bound::B, Field::bound_b),
-            (Bound::C, Field::bound_c),
-            (Bound::D, Field::bound_d),
-            (Bound::E, Field::bound_e),
-            (Bound::F, Field::bound_f),
-            (Bound::G, Field::bound_g),
+        let held = [
+            (Bound::A, self.bound_a()),
+            (Bound::B, self.bound_b()),
+            (Bound::C, self.bound_c()),
+            (Bound::D, self.bound_d()),
+            (Bound::E, self.bound_e()),
+            (Bound::F, self.bound_f()),
+            (Bound::G, self.bound_g()),
         ];
-        checks.iter().find(|(_, holds)| !holds(self)).map(|&(bound, _)| bound)
+        held.into_iter().find(|(_, holds)| !holds).map(|(bound, _)| bound)
     }
 
     pub fn within_bounds(&self) -> bool {

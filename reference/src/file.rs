@@ -75,7 +75,7 @@ fn contents_as_said(file: &[u8]) -> bool {
         && entry(6) == (1, LEGS_AT as u32, LEGS_LENGTH as u32)
         && (kind, offset) == (2, REQUESTS_AT as u32)
         && length <= LONGEST_REQUESTS
-        && length % REQUEST == 0
+        && length.is_multiple_of(REQUEST)
         && REQUESTS_AT + length == file.len()
 }
 

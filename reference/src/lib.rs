@@ -5,6 +5,7 @@
 //! [`request`] holds requests and the input rules, [`field`] the zones, the
 //! sequence, the bounds and the twelve kinds of request.
 
+pub mod explore;
 pub mod field;
 pub mod file;
 pub mod refusal;
