@@ -1,4 +1,4 @@
--- `field::bounds::zones_fit` meets its contract: those of each zone that the loop has passed do. Assumes nothing.
+-- `field::bounds::zones_fit` meets its contract: those of each zone that the loop has passed fit it. Assumes nothing.
 use mathlib.Core.Path.{sym, ap, _∙_}
 use mathlib.Core.Bool.{Bool}
 use Prim.Native.Nat.{ℕ, _-_}
