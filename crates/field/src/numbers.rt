@@ -63,9 +63,9 @@ fn each_in(numbers: &[u16], others: &[u16]) -> bool
 }
 
 // Numbers in a row: those within the length.
-pub struct Numbers {
-    pub list: [u16; 52],
-    pub length: usize,
+struct Numbers {
+    list: [u16; 52],
+    length: usize,
 }
 
 // The numbers with those of a queue behind them.

@@ -1,6 +1,6 @@
 -- `field::bounds::bound_f` meets its contract: each that the loop has passed is followed by its opposite. Assumes nothing.
 use mathlib.Core.Path.{_≡_, refl, sym, ap, _∙_}
-use mathlib.Core.Bool.{Bool, true, false, _&&_}
+use mathlib.Core.Bool.{false, _&&_}
 use mathlib.Core.List.{List, [], _∷_, _++_, map}
 use Prim.Native.Nat.{ℕ, zero, suc, _+_, _-_, _≤_, _<_}
 use lib.Dec.{eqb}
@@ -49,11 +49,15 @@ module _ (f : Field) (i : ℕ) (within : i + 1 < length (fixes f)) (w : Walked a
 
   goes : {x o y : ℕ} → x ≡ getD (named f) i (f .next) → o ≡ opposite x → y ≡ getD (named f) (i + 1) (f .next) → y ≡ o
       → Walked alternate (fixes f) 0 (i + 1)
-  goes e g h k = walked-more alternate (fixes f) 0 i w (omega arith) (next-of (fixes f) i (f .next) (omega arith)) (two ∙ and-then (is (behind h) (k ∙ g ∙ here e)) refl)
+  goes e g h k =
+      let this = next-of (fixes f) i (f .next) (omega arith) in
+      walked-more alternate (fixes f) 0 i w (omega arith) this (two ∙ and-then (is (behind h) (k ∙ g ∙ here e)) refl)
 
   stops : {x o y : ℕ} → x ≡ getD (named f) i (f .next) → o ≡ opposite x → y ≡ getD (named f) (i + 1) (f .next) → (y ≡ o → ⊥)
       → alternate (fixes f) ≡ false
-  stops e g h k = walked-stop alternate (fixes f) 0 i w (next-of (fixes f) i (f .next) (omega arith)) (two ∙ and-cut _ (is-not (behind h) (λ same. k (same ∙ sym (g ∙ here e)))))
+  stops e g h k =
+      let this = next-of (fixes f) i (f .next) (omega arith) in
+      walked-stop alternate (fixes f) 0 i w this (two ∙ and-cut _ (is-not (behind h) (λ same. k (same ∙ sym (g ∙ here e)))))
 
 abbrev Inv-loop : tie.InvT-loop
 Inv-loop f end i₀ i = (i ≤ end) × ((length (fixes f) ≡ end + 1) × Walked alternate (fixes f) 0 i)
@@ -68,7 +72,8 @@ loop-holds : tie.Need-loop-holds Inv-loop μ-loop
 unfolding orderLength
 loop-holds c =
     let f = c .before .before .args .f in
-    let long : length (fixes f) ≡ c .order-length .result + 1 = omega (arith, length-append (named f) (f .next ∷ []), length-map (orderOf (f .sequence)) (fixOf f), c .order-length .ensures) in
+    let long : length (fixes f) ≡ c .order-length .result + 1 =
+    omega (arith, length-append (named f) (f .next ∷ []), length-map (orderOf (f .sequence)) (fixOf f), c .order-length .ensures) in
     (omega arith, (long, walked-none _ _ 0 (omega arith)))
 
 fix-at-requires : tie.Need-fix-at-requires Inv-loop μ-loop
@@ -87,8 +92,9 @@ returns : tie.Need-returns Inv-loop μ-loop
 unfolding boundF
 returns c =
     let l = c .before .before .before .before .before .loop in
-    let this = c .before .before .before .fix-at .ensures in
-    sym (stops (c .before .before .before .before .before .before .before .before .args .f) (l .i) (omega arith) (l .inv .1 .1) this (c .before .before .opposite .ensures) (c .before .fix-at2 .ensures) (c .if1 .taken))
+    let o = c .before .before in
+    let f = c .before .before .before .before .before .before .before .before .args .f in
+    sym (stops f (l .i) (omega arith) (l .inv .1 .1) (o .before .fix-at .ensures) (o .opposite .ensures) (c .before .fix-at2 .ensures) (c .if1 .taken))
 
 add-i : tie.Need-add-i Inv-loop μ-loop
 add-i c = search needs
@@ -99,8 +105,9 @@ loop-less c = search needs
 loop-again : tie.Need-loop-again Inv-loop μ-loop
 loop-again c =
     let l = c .before .before .before .before .before .loop in
-    let this = c .before .before .before .fix-at .ensures in
-    let more = goes (c .before .before .before .before .before .before .before .before .args .f) (l .i) (omega arith) (l .inv .1 .1) this (c .before .before .opposite .ensures) (c .before .fix-at2 .ensures) (c .if1 .left) in
+    let o = c .before .before in
+    let f = c .before .before .before .before .before .before .before .before .args .f in
+    let more = goes f (l .i) (omega arith) (l .inv .1 .1) (o .before .fix-at .ensures) (o .opposite .ensures) (c .before .fix-at2 .ensures) (c .if1 .left) in
     (omega arith, (l .inv .1 .0, more))
 
 returns-2 : tie.Need-returns-2 Inv-loop μ-loop
@@ -110,7 +117,8 @@ returns-2 c =
     let l = c .before .loop in
     let x = getD (fixes f) (l .i) (f .next) in
     let none = drop-of-length-le (fixes f) {i = l .i + 1} (omega arith) in
-    sym (walked-stop alternate (fixes f) 0 (l .i) (l .inv .1 .1) (next-of (fixes f) (l .i) (f .next) (omega arith)) (ap (λ (r : List ℕ). alternate (x ∷ r)) none))
+    let this = next-of (fixes f) (l .i) (f .next) (omega arith) in
+    sym (walked-stop alternate (fixes f) 0 (l .i) (l .inv .1 .1) this (ap (λ (r : List ℕ). alternate (x ∷ r)) none))
 
 pub bound-f-spec : {M : Type 1} → statement M
 bound-f-spec =

@@ -1,7 +1,7 @@
 -- `field::bounds::sequence_kept` meets its contract: the places that the loop has passed are zero. Assumes nothing.
 use mathlib.Core.Path.{sym}
 use mathlib.Core.Bool.{Bool}
-use Prim.Native.Nat.{ℕ, _+_, _-_, _≤_, _<_}
+use Prim.Native.Nat.{ℕ, _-_}
 use borrow.Author.Tests.{lt-leb, eq-eqb, ne-eqb}
 use lib.Dec.{eqb}
 use Rattle.field.specs.Bounds.{sequenceKept}

@@ -1,6 +1,6 @@
--- `field::bounds::zone_fits` meets its contract: those that the loop has passed do. Assumes nothing.
+-- `field::bounds::zone_fits` meets its contract: those that the loop has passed fit the zone. Assumes nothing.
 use mathlib.Core.Path.{_≡_, sym}
-use Prim.Native.Nat.{ℕ, _+_, _-_, _≤_, _<_}
+use Prim.Native.Nat.{_-_, _≤_}
 use lib.ListN.{length}
 use Rattle.field.specs.Boxes.{nobody, queueOf, queueLength}
 use Rattle.field.specs.Bounds.{every, fitsZone}

@@ -1,6 +1,6 @@
 -- `field::bounds::zone_kept` meets its contract: the places that the loop has passed are nobody's. Assumes nothing.
 use mathlib.Core.Path.{sym}
-use Prim.Native.Nat.{ℕ, _+_, _-_, _≤_, _<_}
+use Prim.Native.Nat.{_-_}
 use borrow.Author.Tests.{lt-leb}
 use Rattle.field.specs.Boxes.{nobody}
 use Rattle.field.specs.Bounds.{isNobody, zoneKept}
