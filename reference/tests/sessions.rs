@@ -7,7 +7,7 @@ use std::fs;
 use std::path::{Path, PathBuf};
 
 fn sessions(extension: &str) -> Vec<PathBuf> {
-    let directory = Path::new(env!("CARGO_MANIFEST_DIR")).join("sessions");
+    let directory = Path::new(env!("CARGO_MANIFEST_DIR")).join("../crates/cases/data");
     let mut paths: Vec<PathBuf> =
         fs::read_dir(directory).expect("sessions").map(|entry| entry.expect("entry").path()).collect();
     paths.retain(|path| path.extension().is_some_and(|found| found == extension));

@@ -10,8 +10,10 @@ written as its bytes in hexadecimal instead (NAME.hex).
   sessions.py bytes NAME.txt|NAME.hex [OUT]   the bytes, to OUT or standard output
   sessions.py text FILE [OUT]                 a practice file in readable form
   sessions.py hex FILE [OUT]                  any file in hexadecimal
-  sessions.py data SESSIONS OUTDIR            the bytes of every session in a
-                                              directory, as OUTDIR/NAME.scap
+  sessions.py cases CRATE                     of the sessions in CRATE/data: their
+                                              bytes beside them as NAME.scap, their
+                                              names in CRATE/args, and the expected
+                                              outputs under their names in CRATE/stdout
   sessions.py expect SESSIONS PROGRAM         plays every session by a program
                                               and writes NAME.expected
   sessions.py check SESSIONS PROGRAM          plays them and compares
@@ -108,6 +110,18 @@ def write(data, path):
             file.write(data)
 
 
+def write_cases(crate):
+    folder = os.path.join(crate, 'data')
+    names, output = [], []
+    for stem, data in all_sessions(folder):
+        name = stem + '.scap'
+        write(data, os.path.join(folder, name))
+        names.append(name.encode('ascii') + b'\n')
+        output.append(names[-1] + read(os.path.join(folder, stem + '.expected')))
+    write(b''.join(names), os.path.join(crate, 'args'))
+    write(b''.join(output), os.path.join(crate, 'stdout'))
+
+
 def main(args):
     if len(args) not in (2, 3):
         raise SystemExit(__doc__)
@@ -119,10 +133,8 @@ def main(args):
         write(bytes_to_text(read(source)).encode('ascii'), target)
     elif command == 'hex':
         write(bytes_to_hex(read(source)).encode('ascii'), target)
-    elif command == 'data' and target is not None:
-        os.makedirs(target, exist_ok=True)
-        for stem, data in all_sessions(source):
-            write(data, os.path.join(target, stem + '.scap'))
+    elif command == 'cases' and target is None:
+        write_cases(source)
     elif command == 'expect' and target is not None:
         for stem, data in all_sessions(source):
             write(played(target, data), os.path.join(source, stem + '.expected'))
