@@ -4,3 +4,7 @@ pub mod Arrays
 pub mod Tick
 pub mod Parts
 pub mod Listed
+pub mod Tests
+pub mod Lists
+pub mod BoundLaws
+pub mod EditLaws
