@@ -15,8 +15,9 @@ use Rattle.field.specs.declared.Aircraft.{Aircraft}
 use Rattle.field.specs.declared.Zone.{Zone}
 use Rattle.field.specs.declared.Sequence.{Sequence}
 use Rattle.field.specs.declared.Field.{Field}
-use Rattle.field.specs.Boxes.{nobody, emptyZone, zoneOf, queueOf, inZone, orderOf}
-use Rattle.field.specs.Edits.{withoutHead, withTail, appended, before, removed, setFromOne, withZone}
+use Rattle.field.specs.Boxes.{nobody, emptyZone, zoneOf, queueOf, queueLength, inZone, orderOf}
+use Rattle.field.specs.Counts.{haveFix, howMany, howManyWithFix}
+use Rattle.field.specs.Edits.{withoutHead, withTail, appended, before, removed, setFromOne, withZone, withSequence}
 use Rattle.field.proofs.Shapes.{order-fits}
 use Rattle.field.proofs.Arrays.{set-from-one}
 use Rattle.field.proofs.Tests.{decided, if-true, if-false, either-way}
@@ -219,16 +220,75 @@ module _ (f : Field) (z : ℕ) (q : Zone) where
   unfolding withZone
   legs-kept = refl
 
-  -- A zone of the right shape leaves a field of the right shape.
-  pub shaped-with-zone : Between 1 13 z → Shaped f → ShapedZone q → Shaped (withZone f z q)
-  unfolding withZone
-  shaped-with-zone r s h =
-      record {
-        zones = ap length (set-from-one (f .zones) z q (r .least)) ∙ length-set (f .zones) (z - 1) q ∙ s .zones;
-        zone = λ w. go w (decided (eqb w z));
-        sequence = s .sequence;
-      }
-    where
-      go : (w : ℕ) → (eqb w z ≡ true) ⊎ (eqb w z ≡ false) → ShapedZone (zoneOf (withZone f z q) w)
-      go w (inl e) = rw (eqb-true w z e, zone-replaced r (s .zones)) h
-      go w (inr e) = rw (zone-kept w (eqb-false w z e)) (s .zone w)
+  module _ (r : Between 1 13 z) (long : length (f .zones) ≡ 13) where
+    -- What holds of the new zone, and of every other as it was, holds of every zone after.
+    pub each-zone-with {ℓ} : (P : ℕ → Zone → Type ℓ) → P z q → ((w : ℕ) → w ≢ z → P w (zoneOf f w)) → (w : ℕ) → P w (zoneOf (withZone f z q) w)
+    each-zone-with P here there w = go (decided (eqb w z))
+      where
+        go : (eqb w z ≡ true) ⊎ (eqb w z ≡ false) → P w (zoneOf (withZone f z q) w)
+        go (inl e) = rw (eqb-true w z e, zone-replaced r long) here
+        go (inr e) = rw (zone-kept w (eqb-false w z e)) (there w (eqb-false w z e))
+
+    -- The queue of the zone is the new one, ..
+    pub queue-replaced : inZone (withZone f z q) z ≡ queueOf q
+    unfolding inZone
+    queue-replaced = ap queueOf (zone-replaced r long)
+
+    -- .. and so are how many are in it and have a side as fix.
+    pub how-many-replaced : howMany (withZone f z q) z ≡ queueLength q
+    unfolding howMany queueLength
+    how-many-replaced = ap length queue-replaced
+
+    pub with-fix-replaced : (side : ℕ) → howManyWithFix (withZone f z q) side z ≡ haveFix side (queueOf q)
+    unfolding howManyWithFix
+    with-fix-replaced side = ap (haveFix side) queue-replaced
+
+    -- A zone of the right shape leaves a field of the right shape.
+    pub shaped-with-zone : Shaped f → ShapedZone q → Shaped (withZone f z q)
+    unfolding withZone
+    shaped-with-zone s h =
+        record {
+          zones = ap length (set-from-one (f .zones) z q (r .least)) ∙ length-set (f .zones) (z - 1) q ∙ long;
+          zone = each-zone-with (λ w. ShapedZone) h (λ w n. s .zone w);
+          sequence = s .sequence;
+        }
+
+  -- The queues of the other zones, and their counts, are as they were.
+  module _ (w : ℕ) (h : w ≢ z) where
+    pub queue-kept : inZone (withZone f z q) w ≡ inZone f w
+    unfolding inZone
+    queue-kept = ap queueOf (zone-kept w h)
+
+    pub how-many-kept : howMany (withZone f z q) w ≡ howMany f w
+    unfolding howMany
+    how-many-kept = ap length queue-kept
+
+    pub with-fix-kept : (side : ℕ) → howManyWithFix (withZone f z q) side w ≡ howManyWithFix f side w
+    unfolding howManyWithFix
+    with-fix-kept side = ap (haveFix side) queue-kept
+
+-- ---- the head taken off, and one put at the tail, of a zone of the field
+module _ (f : Field) (s : Shaped f) (z : ℕ) where
+  -- As many are in a zone as its length says.
+  pub how-many-is : howMany f z ≡ zoneOf f z .length
+  unfolding howMany inZone queueOf
+  how-many-is = let k = s .zone z in length-take-le (zoneOf f z .length) (zoneOf f z .aircraft) (omega arith)
+
+  -- The queue is what stood behind its head; ..
+  pub queue-taken : Between 1 13 z → inZone (withZone f z (withoutHead (zoneOf f z))) z ≡ drop 1 (inZone f z)
+  unfolding inZone
+  queue-taken r =
+      let k = s .zone z in
+      queue-replaced f z (withoutHead (zoneOf f z)) r (s .zones) ∙ head-taken (zoneOf f z) (omega arith)
+
+  -- .. or has the aircraft behind all others, where there is room.
+  pub queue-put : (a : Aircraft) → Between 1 13 z → howMany f z < 4 → inZone (withZone f z (withTail (zoneOf f z) a)) z ≡ inZone f z ++ (a ∷ [])
+  unfolding inZone
+  queue-put a r h = queue-replaced f z (withTail (zoneOf f z) a) r (s .zones) ∙ tail-put (zoneOf f z) a (s .zone z .places) (omega (arith, how-many-is))
+
+-- ---- the sequence of the field
+
+-- A sequence of the right shape leaves a field of the right shape.
+pub shaped-with-sequence : (f : Field) (s : Sequence) (next : ℕ) → Shaped f → ShapedSequence s → Shaped (withSequence f s next)
+unfolding withSequence zoneOf
+shaped-with-sequence f s next h k = record { zones = h .zones; zone = h .zone; sequence = k }

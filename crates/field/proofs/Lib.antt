@@ -8,3 +8,5 @@ pub mod Tests
 pub mod Lists
 pub mod BoundLaws
 pub mod EditLaws
+pub mod FindLaws
+pub mod CountLaws

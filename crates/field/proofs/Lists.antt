@@ -1,13 +1,17 @@
--- Laws of lists of numbers: who is in a list, and what is all different. Assumes nothing.
+-- Laws of lists of numbers: who is in a list, what is all different, and the lists of zones. Assumes nothing.
 use mathlib.Core.Path.{_≡_, refl, sym, ap, _∙_}
 use mathlib.Core.Bool.{Bool, true, false, not, _&&_, _||_, true≢false, or-assoc, or-true}
 use mathlib.Core.List.{List, [], _∷_, _++_}
-use Prim.Native.Nat.{ℕ}
-use lib.Dec.{T, eqb}
-use lib.Ieee.Fits.{and-l, and-r}
+use Prim.Native.Nat.{ℕ, _+_}
+use native.Mathlib.Omega.{arith}
+use borrow.Author.Tests.{ne-eqb}
+use lib.Dec.{T, eqb, leb, le→leb}
+use lib.Ieee.Fits.{and-i, and-l, and-r}
+use Rattle.leg.specs.Ticks.{Between}
+use Rattle.field.specs.Boxes.{area, everywhere}
 use Rattle.field.specs.Counts.{isIn}
 use Rattle.field.specs.Bounds.{allDifferent}
-use Rattle.field.proofs.Tests.{failed, flip-eqb}
+use Rattle.field.proofs.Tests.{failed, flip-eqb, each-zone}
 
 -- ---- either
 pub or-false-left : (a b : Bool) → (a || b) ≡ false → a ≡ false
@@ -56,7 +60,36 @@ alone (x ∷ xs) n ys t =
     let o = absent-right x xs (n ∷ ys) (failed (and-l (not (isIn x rest)) (allDifferent rest) t)) in
     record { ahead = or-false (flip-eqb n x (or-false-left (eqb n x) (isIn x ys) o)) (i .ahead); behind = i .behind }
 
--- the latter part of a list of different numbers is all different, and has nobody of the former part
+-- the latter part of a list of different numbers is all different, ..
 pub different-right : (xs ys : List ℕ) → T (allDifferent (xs ++ ys)) → T (allDifferent ys)
 different-right [] ys t = t
 different-right (x ∷ xs) ys t = different-right xs ys (and-r (not (isIn x (xs ++ ys))) (allDifferent (xs ++ ys)) t)
+
+-- .. and who is in it is not in the former part
+pub different-apart : (n : ℕ) (xs ys : List ℕ) → T (allDifferent (xs ++ ys)) → isIn n ys ≡ true → isIn n xs ≡ false
+different-apart n [] ys t i = refl
+different-apart n (x ∷ xs) ys t i =
+    let absent = absent-right x xs ys (failed (and-l (not (isIn x (xs ++ ys))) (allDifferent (xs ++ ys)) t)) in
+    or-false (ne-eqb x n (λ e. true≢false (sym (ap (λ (m : ℕ). isIn m ys) e ∙ i) ∙ absent)))
+    (different-apart n xs ys (and-r (not (isIn x (xs ++ ys))) (allDifferent (xs ++ ys)) t) i)
+
+-- ---- lists of zones
+
+-- the thirteen zones are listed
+pub zone-listed : (z : ℕ) → Between 1 13 z → isIn z everywhere ≡ true
+zone-listed z r =
+    each-zone (λ (y : ℕ). isIn y everywhere ≡ true) (refl, (refl, (refl, (refl, (refl, (refl, (refl, (refl, (refl, (refl, (refl, (refl, (refl, tt))))))))))))) z
+    (and-i (leb 1 z) (leb z 13) (le→leb 1 z (r .least)) (le→leb z 13 (r .most)))
+
+-- the zones of a side's area are all different
+pub area-different : (side : ℕ) → T (allDifferent (area side))
+area-different side =
+    simp (
+      ne-eqb (2 + side) side (λ e. omega arith),
+      ne-eqb (4 + side) side (λ e. omega arith),
+      ne-eqb (6 + side) side (λ e. omega arith),
+      ne-eqb (4 + side) (2 + side) (λ e. omega arith),
+      ne-eqb (6 + side) (2 + side) (λ e. omega arith),
+      ne-eqb (6 + side) (4 + side) (λ e. omega arith),
+    )
+    tt
