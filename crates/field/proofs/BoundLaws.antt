@@ -5,11 +5,14 @@ use Prim.Native.Nat.{ℕ, _≤_}
 use native.Mathlib.Omega.{arith}
 use lib.Dec.{T, eqb, leb, leb→le}
 use lib.Ieee.Fits.{and-i, and-l, and-r}
+use lib.ListN.{length, drop}
 use Rattle.field.specs.declared.Legs.{Legs}
 use Rattle.field.specs.declared.Field.{Field}
 use Rattle.field.specs.Boxes.{isSide, zoneOf, queueOf, inZone, orderOf, emptyField, runway, everywhere}
 use Rattle.field.specs.Counts.{howMany, howManyWithFix, presentOn, inOperation, inArea, perFix}
 use Rattle.field.specs.Bounds.{every, boundA, boundB, lateralRule, boundC, boundD, numbersIn, allDifferent, numbersDiffer, sequenceExact, finalFirst, isNobody, zoneKept, sequenceKept, boundE, boundF, legalLegs, boundG, withinBounds}
+use Rattle.field.proofs.EditLaws.{Shaped, shaped-by-zones}
+use Rattle.field.proofs.Lists.{every-listed, zone-listed}
 
 -- The empty field is within the bounds exactly where its legs are legal.
 pub empty-within : (legs : Legs) → withinBounds (emptyField legs) ≡ legalLegs legs
@@ -74,12 +77,47 @@ five-present f w =
     let one = leb→le (howMany f runway) 1 (and-r (leb (inOperation f) 4) (leb (howMany f runway) 1) a) in
     omega arith
 
--- Its numbers are all different.
-pub numbers-different : (f : Field) → T (withinBounds f) → T (allDifferent (numbersIn f everywhere))
-unfolding boundE numbersDiffer
-numbers-different f w =
-    let rest = numbersDiffer f && sequenceExact f && finalFirst f in
+-- ---- the parts of bound e
+pub record WithinE (f : Field) : Type 0 where
+  pub differ : T (numbersDiffer f)
+  pub exact : T (sequenceExact f)
+  pub first : T (finalFirst f)
+  pub zones-kept : T (every (λ z. zoneKept (zoneOf f z)) everywhere)
+  pub sequence-kept : T (sequenceKept (f .sequence))
+
+pub within-e : (f : Field) → T (withinBounds f) → WithinE f
+unfolding boundE
+within-e f w =
+    let two = numbersDiffer f && sequenceExact f in
+    let three = two && finalFirst f in
     let kept = every (λ z. zoneKept (zoneOf f z)) everywhere in
     let e = within-each f w .bound-e in
-    and-r (every (λ n. not (eqb n 0)) (numbersIn f everywhere)) (allDifferent (numbersIn f everywhere))
-    (and-l (numbersDiffer f) (sequenceExact f) (and-l (numbersDiffer f && sequenceExact f) (finalFirst f) (and-l rest kept (and-l (rest && kept) (sequenceKept (f .sequence)) e))))
+    let u = and-l (three && kept) (sequenceKept (f .sequence)) e in
+    let t = and-l three kept u in
+    let s = and-l two (finalFirst f) t in
+    record {
+      differ = and-l (numbersDiffer f) (sequenceExact f) s;
+      exact = and-r (numbersDiffer f) (sequenceExact f) s;
+      first = and-r two (finalFirst f) t;
+      zones-kept = and-r three kept u;
+      sequence-kept = and-r (three && kept) (sequenceKept (f .sequence)) e;
+    }
+
+-- The numbers of a field within the bounds are all different.
+pub numbers-different : (f : Field) → T (withinBounds f) → T (allDifferent (numbersIn f everywhere))
+unfolding numbersDiffer
+numbers-different f w = and-r (every (λ n. not (eqb n 0)) (numbersIn f everywhere)) (allDifferent (numbersIn f everywhere)) (within-e f w .differ)
+
+-- Its lengths fit its arrays, which have their places whatever the field.
+pub shaped-within : (f : Field) → T (withinBounds f) → length (f .zones) ≡ 13 → ((z : ℕ) → length (zoneOf f z .aircraft) ≡ 4) → length (f .sequence .numbers) ≡ 4 → Shaped f
+unfolding zoneKept sequenceKept
+shaped-within f w zones places numbers =
+    let s = f .sequence in
+    shaped-by-zones f zones
+    (λ z r.
+    let q = zoneOf f z in
+    record {
+      places = places z;
+      fits = leb→le (q .length) 4 (and-l (leb (q .length) 4) (every isNobody (drop (q .length) (q .aircraft))) (every-listed (λ y. zoneKept (zoneOf f y)) everywhere z (within-e f w .zones-kept) (zone-listed z r)));
+    })
+    (record { places = numbers; fits = leb→le (s .length) 4 (and-l (leb (s .length) 4) (every (λ n. eqb n 0) (drop (s .length) (s .numbers))) (within-e f w .sequence-kept)) })

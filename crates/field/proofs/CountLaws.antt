@@ -1,13 +1,13 @@
 -- Laws of the counts: what an edit of a zone does to every count, and that an edit of the sequence changes none. Assumes nothing.
 use mathlib.Core.Path.{_≡_, refl, sym, ap, _∙_}
 use mathlib.Core.Logic.{_≢_, _⊎_, inl, inr}
-use mathlib.Core.Bool.{Bool, true, false, cond, not, _&&_, _||_}
+use mathlib.Core.Bool.{Bool, true, false, cond, not, _||_}
 use mathlib.Core.List.{List, [], _∷_, _++_}
-use Prim.Native.Nat.{ℕ, zero, suc, _+_, _-_, _≤_, _<_}
+use Prim.Native.Nat.{ℕ, _+_, _-_, _≤_, _<_}
 use native.Mathlib.Omega.{arith}
-use borrow.Author.Tests.{eqb-true, eqb-false, ne-eqb}
+use borrow.Author.Tests.{eqb-true, eqb-false}
 use lib.Dec.{T, eqb}
-use lib.Ieee.Fits.{and-i, and-l, and-r}
+use lib.Ieee.Fits.{and-l, and-r}
 use lib.ListN.{length, take, drop, length-append, length-drop, take-append-drop}
 use Rattle.leg.specs.Ticks.{Between}
 use Rattle.field.specs.declared.Aircraft.{Aircraft}
@@ -19,7 +19,7 @@ use Rattle.field.specs.Counts.{isIn, total, haveFix, howMany, howManyWit
 use Rattle.field.specs.Find.{findIn, placeOf, aircraftAt, fixOf}
 use Rattle.field.specs.Bounds.{numbersIn, allDifferent}
 use Rattle.field.specs.Edits.{withoutHead, withTail, withZone, withSequence}
-use Rattle.field.proofs.Tests.{failed, decided, if-true, if-false, fail}
+use Rattle.field.proofs.Tests.{failed, decided, if-true, if-false}
 use Rattle.field.proofs.Lists.{zone-listed, area-different}
 use Rattle.field.proofs.FindLaws.{numbers-same}
 use Rattle.field.proofs.EditLaws.{Shaped, head-taken, tail-put, queue-replaced, queue-kept, how-many-is}

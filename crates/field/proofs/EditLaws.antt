@@ -1,21 +1,22 @@
 -- Laws of the edits: what each does to every queue and to the sequence. Assumes nothing.
-use mathlib.Core.Path.{_≡_, refl, sym, ap, _∙_}
+use mathlib.Core.Path.{_≡_, refl, sym, ap, _∙_, subst}
 use mathlib.Core.Logic.{_≢_, _⊎_, inl, inr}
 use mathlib.Core.Bool.{Bool, true, false, cond}
 use mathlib.Core.List.{List, [], _∷_, _++_, append-nil}
-use Prim.Native.Nat.{ℕ, zero, suc, _+_, _-_, _≤_, _<_}
+use Prim.Native.Nat.{ℕ, zero, suc, _-_, _≤_, _<_}
 use native.Mathlib.Numerals.{add-one}
 use native.Mathlib.Omega.{arith}
-use borrow.Author.Tests.{eq-eqb, eqb-true, eqb-false, lt-ltb, le-ltb, ltb-true, ltb-false}
-use lib.Dec.{eqb, ltb}
-use lib.ListN.{length, take, drop, set, getD, length-append, length-take, length-drop, length-set, drop-of-length-le}
+use borrow.Author.Tests.{eq-eqb, eqb-true, eqb-false, lt-ltb, le-ltb, ltb-true, ltb-false, leb-true, leb-false}
+use lib.Dec.{eqb, leb, ltb}
+use lib.ListN.{length, take, drop, set, getD, replicate, length-append, length-take, length-drop, length-set, drop-of-length-le, List·getD-eq-default}
 use lib.Seq.{take-all, length-take-le, take-append-le, take-suc-set, getD-set-same, getD-set-other, set-out}
 use Rattle.leg.specs.Ticks.{Between}
 use Rattle.field.specs.declared.Aircraft.{Aircraft}
 use Rattle.field.specs.declared.Zone.{Zone}
 use Rattle.field.specs.declared.Sequence.{Sequence}
+use Rattle.field.specs.declared.Legs.{Legs}
 use Rattle.field.specs.declared.Field.{Field}
-use Rattle.field.specs.Boxes.{nobody, emptyZone, zoneOf, queueOf, queueLength, inZone, orderOf}
+use Rattle.field.specs.Boxes.{nobody, emptyZone, zoneOf, queueOf, queueLength, inZone, orderOf, emptyField}
 use Rattle.field.specs.Counts.{haveFix, howMany, howManyWithFix}
 use Rattle.field.specs.Edits.{withoutHead, withTail, appended, before, removed, setFromOne, withZone, withSequence}
 use Rattle.field.proofs.Shapes.{order-fits}
@@ -39,6 +40,43 @@ pub record Shaped (f : Field) : Type 0 where
   pub zones : length (f .zones) ≡ 13
   pub zone : (z : ℕ) → ShapedZone (zoneOf f z)
   pub sequence : ShapedSequence (f .sequence)
+
+-- What is no zone is empty, so a field has its shape where the thirteen zones have theirs.
+pub no-zone-empty : (f : Field) → length (f .zones) ≡ 13 → (z : ℕ) → (z ≡ 0) ⊎ (13 < z) → zoneOf f z ≡ emptyZone
+unfolding zoneOf
+no-zone-empty f e zero h = refl
+no-zone-empty f e (suc i) (inl h) = absurd (omega arith)
+no-zone-empty f e (suc i) (inr h) = List·getD-eq-default (f .zones) emptyZone (omega arith)
+
+pub shaped-empty-zone : ShapedZone emptyZone
+shaped-empty-zone = record { places = refl; fits = omega arith }
+
+pub shaped-by-zones : (f : Field) → length (f .zones) ≡ 13 → ((z : ℕ) → Between 1 13 z → ShapedZone (zoneOf f z)) → ShapedSequence (f .sequence) → Shaped f
+shaped-by-zones f e h s = record { zones = e; zone = λ z. low z (decided (leb 1 z)) (decided (leb z 13)); sequence = s }
+  where
+    none : (z : ℕ) → (z ≡ 0) ⊎ (13 < z) → ShapedZone (zoneOf f z)
+    none z n = rw (no-zone-empty f e z n) shaped-empty-zone
+
+    low : (z : ℕ) → (leb 1 z ≡ true) ⊎ (leb 1 z ≡ false) → (leb z 13 ≡ true) ⊎ (leb z 13 ≡ false) → ShapedZone (zoneOf f z)
+    low z (inl a) (inl b) = h z (record { least = leb-true 1 z a; most = leb-true z 13 b })
+    low z (inl a) (inr b) = none z (inr (leb-false z 13 b))
+    low z (inr a) (inl b) = none z (inl (omega (arith, leb-false 1 z a)))
+    low z (inr a) (inr b) = none z (inr (leb-false z 13 b))
+
+-- The empty field has its shape: every zone of it is the empty one.
+pub shaped-empty : (legs : Legs) → Shaped (emptyField legs)
+unfolding emptyField zoneOf
+shaped-empty legs =
+    record {
+      zones = refl;
+      zone = λ z. subst ShapedZone (sym (alike 14 z)) shaped-empty-zone;
+      sequence = record { places = refl; fits = omega arith };
+    }
+  where
+    alike : (n i : ℕ) → getD (replicate n emptyZone) i emptyZone ≡ emptyZone
+    alike zero i = refl
+    alike (suc n) zero = refl
+    alike (suc n) (suc i) = alike n i
 
 -- ---- a list that closes up: of its first m, the one at place k gone, whatever then stands behind them
 module _ {ℓ} {A : Type ℓ} where

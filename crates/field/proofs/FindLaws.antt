@@ -22,7 +22,7 @@ use Rattle.field.specs.Edits.{withZone}
 use Rattle.field.proofs.Listed.{numberOf, numbersAt}
 use Rattle.field.proofs.EditLaws.{each-zone-with, queue-replaced, queue-kept}
 use Rattle.field.proofs.Tests.{decided, if-true, if-false, either-way, same}
-use Rattle.field.proofs.Lists.{or-false-left, or-false-right, absent-left, absent-right, in-append, in-left, in-right, Alone, alone, different-right, different-apart, zone-listed}
+use Rattle.field.proofs.Lists.{or-false-left, or-false-right, absent-left, absent-right, in-append, in-left, in-right, alone, different-right, different-apart, zone-listed}
 
 abbrev pub numbers : List Aircraft → List ℕ
 numbers xs = map numberOf xs

@@ -10,3 +10,5 @@ pub mod BoundLaws
 pub mod EditLaws
 pub mod FindLaws
 pub mod CountLaws
+pub mod Alike
+pub mod TickLaws

@@ -1,17 +1,18 @@
 -- Laws of lists of numbers: who is in a list, what is all different, and the lists of zones. Assumes nothing.
-use mathlib.Core.Path.{_≡_, refl, sym, ap, _∙_}
-use mathlib.Core.Bool.{Bool, true, false, not, _&&_, _||_, true≢false, or-assoc, or-true}
+use mathlib.Core.Path.{_≡_, refl, sym, ap, _∙_, subst}
+use mathlib.Core.Logic.{_⊎_, inl, inr}
+use mathlib.Core.Bool.{Bool, true, false, not, _||_, true≢false, or-assoc, or-true}
 use mathlib.Core.List.{List, [], _∷_, _++_}
 use Prim.Native.Nat.{ℕ, _+_}
 use native.Mathlib.Omega.{arith}
-use borrow.Author.Tests.{ne-eqb}
+use borrow.Author.Tests.{ne-eqb, eqb-true}
 use lib.Dec.{T, eqb, leb, le→leb}
 use lib.Ieee.Fits.{and-i, and-l, and-r}
 use Rattle.leg.specs.Ticks.{Between}
 use Rattle.field.specs.Boxes.{area, everywhere}
 use Rattle.field.specs.Counts.{isIn}
-use Rattle.field.specs.Bounds.{allDifferent}
-use Rattle.field.proofs.Tests.{failed, flip-eqb, each-zone}
+use Rattle.field.specs.Bounds.{every, allDifferent}
+use Rattle.field.proofs.Tests.{failed, decided, flip-eqb, each-zone}
 
 -- ---- either
 pub or-false-left : (a b : Bool) → (a || b) ≡ false → a ≡ false
@@ -72,6 +73,15 @@ different-apart n (x ∷ xs) ys t i =
     let absent = absent-right x xs ys (failed (and-l (not (isIn x (xs ++ ys))) (allDifferent (xs ++ ys)) t)) in
     or-false (ne-eqb x n (λ e. true≢false (sym (ap (λ (m : ℕ). isIn m ys) e ∙ i) ∙ absent)))
     (different-apart n xs ys (and-r (not (isIn x (xs ++ ys))) (allDifferent (xs ++ ys)) t) i)
+
+-- ---- a test of every listed number holds of each
+pub every-listed : (p : ℕ → Bool) (ns : List ℕ) (n : ℕ) → T (every p ns) → isIn n ns ≡ true → T (p n)
+every-listed p [] n t i = absurd (true≢false (sym i))
+every-listed p (m ∷ ns) n t i = go (decided (eqb m n)) (every-listed p ns n (and-r (p m) (every p ns) t))
+  where
+    go : (eqb m n ≡ true) ⊎ (eqb m n ≡ false) → (isIn n ns ≡ true → T (p n)) → T (p n)
+    go (inl e) later = subst (λ (k : ℕ). T (p k)) (eqb-true m n e) (and-l (p m) (every p ns) t)
+    go (inr e) later = later (sym (ap (λ (b : Bool). b || isIn n ns) e) ∙ i)
 
 -- ---- lists of zones
 

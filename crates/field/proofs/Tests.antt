@@ -1,12 +1,12 @@
 -- Laws of tests: a test as a fact, and the numbers from 1 to 13 one by one. Assumes nothing.
 use mathlib.Core.Path.{_≡_, refl, sym, ap, _∙_, subst}
 use mathlib.Core.Logic.{_⊎_, inl, inr}
-use mathlib.Core.Bool.{Bool, true, false, cond, not, _&&_, _||_, true≢false, false≢true}
+use mathlib.Core.Bool.{Bool, true, false, cond, not, _&&_, _||_, true≢false}
 use Prim.Native.Nat.{ℕ, zero, suc, _+_, _≤_, _<_}
 use native.Mathlib.Nat.{eq-or-lt-of-le}
 use native.Mathlib.Omega.{arith}
-use lib.Dec.{T, leb, eqb, leb→le, le→leb, eqb→eq, eqb-refl}
-use lib.Ieee.Fits.{and-i, and-l, and-r}
+use lib.Dec.{T, leb, eqb, leb→le, eqb→eq, eqb-refl}
+use lib.Ieee.Fits.{and-l, and-r}
 use borrow.Author.Tests.{eq-eqb, ne-eqb}
 
 -- ---- a passed test and an equation
@@ -72,7 +72,7 @@ abbrev pub EachFrom {ℓ} : ℕ → ℕ → (ℕ → Type ℓ) → Type ℓ
 EachFrom k zero P = Unit {ℓ}
 EachFrom k (suc n) P = P k × EachFrom (suc k) n P
 
-each-from {ℓ} : (k n : ℕ) (P : ℕ → Type ℓ) → EachFrom k n P → (z : ℕ) → k ≤ z → z < k + n → P z
+pub each-from {ℓ} : (k n : ℕ) (P : ℕ → Type ℓ) → EachFrom k n P → (z : ℕ) → k ≤ z → z < k + n → P z
 each-from k zero P p z l h = absurd (omega arith)
 each-from k (suc n) P p z l h =
     elim (eq-or-lt-of-le l) [
