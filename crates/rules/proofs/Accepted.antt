@@ -24,10 +24,11 @@ use Rattle.order.specs.Model.{Side, between, count, free, isNil, okay, one}
 use Rattle.order.proofs.Facts.{final-first, hold-ahead}
 use Rattle.rules.specs.Kinds.{startsFrom, headChecks, moved, held}
 use Rattle.rules.specs.Step.{effectOf}
-use Rattle.rules.proofs.Tests.{passed, failed, decided, if-false, zones-imply}
+use Rattle.field.proofs.Tests.{passed, failed, decided, if-false, zones-imply}
 use Rattle.rules.proofs.Line.{Placed, zonesIn, fieldOf}
 use Rattle.rules.proofs.Counted.{lower, how-many-runway}
-use Rattle.rules.proofs.Located.{at, first-there}
+use Rattle.field.proofs.FindLaws.{at}
+use Rattle.rules.proofs.Located.{first-there}
 use Rattle.rules.proofs.Members.{count-append}
 use Rattle.rules.proofs.Orderly.{Orderly, Split, first-in}
 use Rattle.rules.proofs.After.{After, zone-in, okay-split}

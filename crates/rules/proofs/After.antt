@@ -21,11 +21,13 @@ use Rattle.order.proofs.Facts.{okay-length, okay-zones, moves}
 use Rattle.rules.specs.Kinds.{moved}
 use Rattle.rules.specs.Step.{effectOf}
 use Rattle.rules.specs.Demand.{addsMoves}
-use Rattle.rules.proofs.Tests.{failed}
-use Rattle.rules.proofs.Lists.{map-append, or-false-left, or-false-right, absent-left, Alone, alone}
+use Rattle.field.proofs.Tests.{failed}
+use Rattle.field.proofs.Lists.{or-false-left, or-false-right, absent-left, Alone, alone}
+use Rattle.rules.proofs.Lists.{map-append}
 use Rattle.rules.proofs.Line.{Placed, zonesIn, numbersOf, inside, fieldOf}
 use Rattle.rules.proofs.Counted.{free-inside}
-use Rattle.rules.proofs.Located.{numbers, numbers-split}
+use Rattle.field.proofs.FindLaws.{numbers}
+use Rattle.rules.proofs.Located.{numbers-split}
 use Rattle.rules.proofs.Leaders.{all-at}
 use Rattle.rules.proofs.Orderly.{Orderly, length-zones}
 use Rattle.rules.proofs.Moves.{into, MayMove, moved-line, same-length}

@@ -20,10 +20,10 @@ use Rattle.order.proofs.Facts.{okay-length, first-leaves, misses}
 use Rattle.rules.specs.Step.{effectOf}
 use Rattle.rules.specs.Kinds.{entered}
 use Rattle.rules.specs.Demand.{addsMoves}
-use Rattle.rules.proofs.Tests.{passed, failed, fail}
-use Rattle.rules.proofs.Lists.{absent-left}
+use Rattle.field.proofs.Tests.{passed, failed, fail}
+use Rattle.field.proofs.Lists.{absent-left}
 use Rattle.rules.proofs.Line.{Placed, zonesIn, numbersOf, fieldOf}
-use Rattle.rules.proofs.Located.{numbers}
+use Rattle.field.proofs.FindLaws.{numbers}
 use Rattle.rules.proofs.Leaders.{nonzero}
 use Rattle.rules.proofs.Orderly.{Orderly, length-zones}
 use Rattle.rules.proofs.Leaves.{taxied, first-exits, first-lands}
@@ -131,7 +131,7 @@ after-8 f line x legs o r named h =
     }
   where
     not-in-line : isIn (x .number) (numbersOf line) ≡ false
-    not-in-line = Rattle.rules.proofs.Lists.alone (numbersOf line) (x .number) [] (o .different) .ahead
+    not-in-line = Rattle.field.proofs.Lists.alone (numbersOf line) (x .number) [] (o .different) .ahead
 
 -- kinds 1 and 2, into zone w
 pub after-entry : (s f : Side) (line : List Placed) (runway : List Aircraft) (legs : Legs) (o : Orderly f line runway legs) (r : Request) (w : ℕ) → T (between 1 12 w) → T (not (isFlyingZone w)) → r .side ≡ num s

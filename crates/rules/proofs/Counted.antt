@@ -14,7 +14,7 @@ use Rattle.field.specs.declared.Field.{Field}
 use Rattle.field.specs.Boxes.{zoneOf, queueOf, inZone, area, approach, operation, runway}
 use Rattle.field.specs.Counts.{isIn, total, haveFix, howMany, howManyWithFix, inOperation, inArea, perFix, approachHolds, countedFor, potentialOf}
 use Rattle.order.specs.Model.{Side, right, left, opp, num, nextFix, between, count, countFix, free, potential, all}
-use Rattle.rules.proofs.Tests.{if-false, each-zone}
+use Rattle.field.proofs.Tests.{if-false, each-zone}
 use Rattle.rules.proofs.Line.{zoneFor, queue-for, zone-by, Placed, zonesIn, numbersOf, inside, zonesOf, sequenceFor, fieldOf}
 
 -- ---- what is inside a zone

@@ -21,7 +21,7 @@ use Rattle.order.specs.Model.{Side, right}
 use Rattle.order.proofs.Facts.{okay-empty, okay-zones, weights-small}
 use Rattle.rules.specs.Play.{fieldAfter, played, accepted, moves}
 use Rattle.rules.specs.Demand.{allFlownOut, addsMoves, MovesOn, Demand3}
-use Rattle.rules.proofs.Tests.{every-from}
+use Rattle.field.proofs.Tests.{every-from}
 use Rattle.rules.proofs.Line.{Placed, zonesIn, fieldOf, empty-is}
 use Rattle.rules.proofs.Counted.{in-operation, all-counted, how-many-runway}
 use Rattle.rules.proofs.Orderly.{Orderly, length-zones}

@@ -18,11 +18,12 @@ use Rattle.field.specs.Edits.{withTail, withZone, withSequence, appended, remov
 use Rattle.request.specs.declared.Request.{Request}
 use Rattle.order.specs.Model.{Side, right, left, opp, num, nextFix, between, firstFix}
 use Rattle.rules.specs.Kinds.{headGone, fixTaken, entered, fixAfterMiss, missedApproach}
-use Rattle.rules.proofs.Tests.{if-false, flip-eqb}
+use Rattle.field.proofs.Tests.{if-false, flip-eqb}
 use Rattle.rules.proofs.Lists.{map-append}
 use Rattle.rules.proofs.Line.{zoneFor, tail-for, sequenceFor, order-for, appended-for, fieldBy, zone-by, Placed, zonesIn, numbersOf, inside, zonesOf, fieldOf}
 use Rattle.rules.proofs.Counted.{lower, not-13, Alternates}
-use Rattle.rules.proofs.Located.{numbers, inside-at, inside-other, head-there}
+use Rattle.field.proofs.FindLaws.{numbers}
+use Rattle.rules.proofs.Located.{inside-at, inside-other, head-there}
 use Rattle.rules.proofs.Orderly.{inside-le, length-numbers, opposite-num}
 use Rattle.rules.proofs.Moves.{one-zone}
 use Rattle.rules.proofs.Leaves.{head-gone, sequence-left}

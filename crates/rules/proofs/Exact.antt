@@ -26,7 +26,7 @@ use Rattle.order.specs.Model.{Side, right, between}
 use Rattle.rules.specs.Step.{numberOf, stepOf}
 use Rattle.rules.specs.Play.{fieldAfter, played}
 use Rattle.rules.specs.Exact.{WholeLegs, inMiles, in64ths, ticksWith, ticksAfter, EachAircraft, Exact}
-use Rattle.rules.proofs.Tests.{passed, decided, if-true, if-false, each-zone}
+use Rattle.field.proofs.Tests.{passed, decided, if-true, if-false, each-zone}
 use Rattle.rules.proofs.Line.{Placed, inside, fieldOf, empty-is}
 use Rattle.rules.proofs.Counted.{in-line}
 use Rattle.rules.proofs.Orderly.{Orderly}

@@ -18,10 +18,11 @@ use Rattle.field.specs.Counts.{isIn}
 use Rattle.field.specs.Find.{placeOf}
 use Rattle.order.specs.Model.{Side, count, free}
 use Rattle.rules.specs.Kinds.{startsFrom, zoneBefore}
-use Rattle.rules.proofs.Tests.{decided, pass}
+use Rattle.field.proofs.Tests.{decided, pass}
 use Rattle.rules.proofs.Line.{Placed, zonesIn, numbersOf, inside, fieldOf}
 use Rattle.rules.proofs.Counted.{length-inside}
-use Rattle.rules.proofs.Located.{at, located, located-runway, not-located}
+use Rattle.field.proofs.FindLaws.{at}
+use Rattle.rules.proofs.Located.{located, located-runway, not-located}
 use Rattle.rules.proofs.Orderly.{Orderly}
 use Rattle.rules.proofs.After.{zone-in}
 

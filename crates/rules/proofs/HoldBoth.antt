@@ -17,7 +17,7 @@ use Rattle.order.specs.Model.{Side, between, count, free, okay, weight, one}
 use Rattle.order.proofs.Facts.{BothMoved, hold-both}
 use Rattle.rules.specs.Kinds.{moved}
 use Rattle.rules.specs.Step.{effectOf}
-use Rattle.rules.proofs.Tests.{pass, failed, zones-imply}
+use Rattle.field.proofs.Tests.{pass, failed, zones-imply}
 use Rattle.rules.proofs.Lists.{map-append}
 use Rattle.rules.proofs.Line.{Placed, zonesIn, fieldOf}
 use Rattle.rules.proofs.Counted.{lower}

@@ -11,10 +11,11 @@ use Rattle.field.specs.declared.Place.{Place}
 use Rattle.field.specs.Find.{placeOf, leaderOf, leaderZone}
 use Rattle.field.specs.Bounds.{every, allDifferent}
 use Rattle.order.specs.Model.{Side, between, lastOr, all}
-use Rattle.rules.proofs.Tests.{if-false, failed}
+use Rattle.field.proofs.Tests.{if-false, failed}
 use Rattle.rules.proofs.Lists.{map-append, Ends, nothing, with-last, ends, last-is}
 use Rattle.rules.proofs.Line.{Placed, zonesIn, numbersOf, fieldOf}
-use Rattle.rules.proofs.Located.{numbers, located, leader-there}
+use Rattle.field.proofs.FindLaws.{numbers}
+use Rattle.rules.proofs.Located.{located, leader-there}
 
 abbrev pub nonzero : ℕ → Bool
 nonzero n = not (eqb n 0)

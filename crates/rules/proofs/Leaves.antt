@@ -18,7 +18,7 @@ use Rattle.field.specs.Edits.{withoutHead, withTail, withZone, withSequence, re
 use Rattle.request.specs.declared.Request.{Request}
 use Rattle.order.specs.Model.{Side, opp, num, nextFix, between}
 use Rattle.rules.specs.Kinds.{moved, headGone, outOfSequence, landed, exited}
-use Rattle.rules.proofs.Tests.{if-false, flip-eqb}
+use Rattle.field.proofs.Tests.{if-false, flip-eqb}
 use Rattle.rules.proofs.Line.{zoneFor, tail-for, head-for, sequenceFor, removed-for, fieldBy, Placed, zonesIn, numbersOf, inside, zonesOf, fieldOf}
 use Rattle.rules.proofs.Counted.{lower, not-13, zone-of-line, zone-of-runway}
 use Rattle.rules.proofs.Located.{inside-at, inside-other, head-there}

@@ -1,5 +1,4 @@
 pub mod Cases
-pub mod Tests
 pub mod Lists
 pub mod Line
 pub mod Counted

@@ -17,7 +17,7 @@ use Rattle.field.specs.declared.Field.{Field}
 use Rattle.field.specs.Boxes.{everywhere, nobody, zoneOf, queueOf, orderOf, emptyField}
 use Rattle.field.specs.Edits.{withoutHead, withTail, appended, removed, withZone}
 use Rattle.order.specs.Model.{Side, right, num, nextFix, between}
-use Rattle.rules.proofs.Tests.{same, each-zone}
+use Rattle.field.proofs.Tests.{same, each-zone}
 
 -- ---- queues
 

@@ -16,10 +16,10 @@ use Rattle.field.specs.Boxes.{everywhere, operation, inZone}
 use Rattle.field.specs.Counts.{isIn, total}
 use Rattle.field.specs.Bounds.{every, numbersIn, allDifferent}
 use Rattle.order.specs.Model.{Side, between, count, all, one}
-use Rattle.rules.proofs.Tests.{pass, failed, fail, decided, if-true, if-false, same, each-zone}
+use Rattle.field.proofs.Tests.{pass, failed, fail, decided, if-true, if-false, same, each-zone}
 use Rattle.rules.proofs.Line.{Placed, zonesIn, numbersOf, inside, fieldOf}
 use Rattle.rules.proofs.Counted.{in-line, on-runway, total-same, total-add}
-use Rattle.rules.proofs.Located.{numbers}
+use Rattle.field.proofs.FindLaws.{numbers}
 use Rattle.rules.proofs.Leaders.{nonzero}
 
 -- ---- by how often a number stands in a list

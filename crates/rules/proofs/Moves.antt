@@ -20,11 +20,12 @@ use Rattle.field.specs.Bounds.{allDifferent}
 use Rattle.field.specs.Edits.{withoutHead, withTail, withZone}
 use Rattle.order.specs.Model.{Side, opp, num, nextFix, between}
 use Rattle.rules.specs.Kinds.{moved}
-use Rattle.rules.proofs.Tests.{if-true, if-false, decided}
+use Rattle.field.proofs.Tests.{if-true, if-false, decided}
 use Rattle.rules.proofs.Lists.{map-append}
 use Rattle.rules.proofs.Line.{zoneFor, tail-for, head-for, sequenceFor, fieldBy, zone-by, with-by, by-zones, Placed, zonesIn, numbersOf, inside, zonesOf, fieldOf}
 use Rattle.rules.proofs.Counted.{lower, not-13, zone-of-line}
-use Rattle.rules.proofs.Located.{numbers, inside-at, inside-other, head-there}
+use Rattle.field.proofs.FindLaws.{numbers}
+use Rattle.rules.proofs.Located.{inside-at, inside-other, head-there}
 use Rattle.rules.proofs.Orderly.{inside-le}
 
 -- ---- one zone, or two, written anew
@@ -128,7 +129,7 @@ module _ (f : Side) (a : List Placed) (e : Placed) (b : List Placed) (runway : L
       ∙ sym (if-false (zoneFor runway) (zoneFor (inside z (a ++ into w e ∷ b))) (not-13 z (m .from-zone)) ∙ ap zoneFor (inside-other z a (into w e) b (m .other-zone) ∙ ap (λ (l : List Aircraft). l ++ inside z b) (m .heads)))
 
   flipped : eqb z w ≡ false
-  flipped = Rattle.rules.proofs.Tests.flip-eqb w z (m .other-zone)
+  flipped = Rattle.field.proofs.Tests.flip-eqb w z (m .other-zone)
 
   before-zone : inside w (a ++ e ∷ b) ≡ inside w a
   before-zone = inside-other w a e b flipped ∙ ap (λ (l : List Aircraft). inside w a ++ l) (m .none-behind) ∙ append-nil (inside w a)
@@ -144,7 +145,7 @@ module _ (f : Side) (a : List Placed) (e : Placed) (b : List Placed) (runway : L
   kept-zone : (y : ℕ) → T (between 1 13 y) → eqb y z ≡ false → eqb y w ≡ false → G y ≡ H y
   kept-zone y t p q =
       ap (λ (l : List Aircraft). cond (eqb y 13) (zoneFor runway) (zoneFor l))
-      (inside-other y a e b (Rattle.rules.proofs.Tests.flip-eqb y z p) ∙ sym (inside-other y a (into w e) b (Rattle.rules.proofs.Tests.flip-eqb y w q)))
+      (inside-other y a e b (Rattle.field.proofs.Tests.flip-eqb y z p) ∙ sym (inside-other y a (into w e) b (Rattle.field.proofs.Tests.flip-eqb y w q)))
 
   head-is : aircraftAt F z 1 ≡ e .aircraft
   head-is = head-there f a e b runway legs d (m .from-zone) (m .heads)

@@ -22,11 +22,12 @@ use Rattle.order.specs.Model as model
 use Rattle.order.specs.Model.{Side, between, count, free, isNil, lastOr, descend, approaching, merge, final, hold}
 use Rattle.order.proofs.Facts.{okay-zones}
 use Rattle.rules.specs.Kinds.{startsFrom, zoneBefore, mayApproach, baseFree, moved, approached, held}
-use Rattle.rules.proofs.Tests.{passed, pass, if-true, zones-imply}
+use Rattle.field.proofs.Tests.{passed, pass, if-true, zones-imply}
 use Rattle.rules.proofs.Lists.{map-append, every-left}
 use Rattle.rules.proofs.Line.{Placed, zonesIn, numbersOf, fieldOf}
 use Rattle.rules.proofs.Counted.{how-many, lower}
-use Rattle.rules.proofs.Located.{numbers, at, first-there}
+use Rattle.field.proofs.FindLaws.{numbers, at}
+use Rattle.rules.proofs.Located.{first-there}
 use Rattle.rules.proofs.Leaders.{nonzero, leader-zone}
 use Rattle.rules.proofs.Orderly.{Orderly}
 use Rattle.rules.proofs.After.{After, zone-in, line-move, staysOn}

@@ -15,10 +15,10 @@ use Rattle.field.specs.declared.Legs.{Legs}
 use Rattle.field.specs.Boxes.{opposite}
 use Rattle.field.specs.Bounds.{every, allDifferent, isNobody, zoneKept, sequenceKept, alternate, fitsZone, legalLegs}
 use Rattle.order.specs.Model.{Side, right, left, opp, num, nextFix, between, count, free, all, okay}
-use Rattle.rules.proofs.Tests.{pass, decided}
+use Rattle.field.proofs.Tests.{pass, decided}
 use Rattle.rules.proofs.Line.{zoneFor, sequenceFor, Placed, zonesIn, numbersOf, inside}
 use Rattle.rules.proofs.Counted.{length-inside, Alternates}
-use Rattle.rules.proofs.Located.{numbers}
+use Rattle.field.proofs.FindLaws.{numbers}
 use Rattle.rules.proofs.Leaders.{nonzero}
 
 -- ---- what is kept

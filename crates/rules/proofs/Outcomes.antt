@@ -19,7 +19,7 @@ use Rattle.order.specs.Model.{Side, between}
 use Rattle.rules.specs.declared.Answer.{Answer}
 use Rattle.rules.specs.declared.Stepped.{Stepped}
 use Rattle.rules.specs.Step.{checksOf, effectOf, numberOf, numberAndZeros, acceptance, answerOf, stepOf}
-use Rattle.rules.proofs.Tests.{passed, decided, or-left, or-right, if-true, if-false}
+use Rattle.field.proofs.Tests.{passed, decided, or-left, or-right, if-true, if-false}
 use Rattle.rules.proofs.Line.{Placed, fieldOf}
 use Rattle.rules.proofs.Orderly.{Orderly}
 use Rattle.rules.proofs.Within.{within-bounds}

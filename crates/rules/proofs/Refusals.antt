@@ -13,7 +13,7 @@ use Rattle.field.specs.declared.Field.{Field}
 use Rattle.field.specs.Bounds.{withinBounds}
 use Rattle.rules.specs.declared.Stepped.{Stepped}
 use Rattle.rules.specs.Step.{checksOf, effectOf, numberOf, numberAndZeros, answerOf, stepOf}
-use Rattle.rules.proofs.Tests.{pass, if-true, if-false}
+use Rattle.field.proofs.Tests.{pass, if-true, if-false}
 use Rattle.rules.proofs.Checks.{numberedIn, checks-numbered, wider}
 use Rattle.rules.proofs.Outcomes.{number-is, input-of, field-accepted, field-refused}
 

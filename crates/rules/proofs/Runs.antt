@@ -19,7 +19,7 @@ use Rattle.order.specs.Model.{Side, between, one}
 use Rattle.rules.specs.Step.{numberOf, stepOf}
 use Rattle.rules.specs.Play.{fieldAfter, played, isAccepted, accepted, letIn, taxiedOff, exitedFrom, moves}
 use Rattle.rules.specs.Demand.{neverAnswers, addsMoves}
-use Rattle.rules.proofs.Tests.{pass, fail, decided}
+use Rattle.field.proofs.Tests.{pass, fail, decided}
 use Rattle.rules.proofs.Line.{Placed, fieldOf}
 use Rattle.rules.proofs.Orderly.{Orderly}
 use Rattle.rules.proofs.After.{leaves, weightOf}

@@ -27,11 +27,12 @@ use Rattle.order.specs.Model.{Side, right, left, num, between, countFix, free, 
 use Rattle.order.proofs.Facts.{enter, enter-lateral}
 use Rattle.rules.specs.Kinds.{zoneBefore, verticalChecks, lateralChecks, descendChecks, approachChecks, mergeChecks, flownOutChecks, landChecks, exitChecks}
 use Rattle.rules.specs.Step.{checksOf}
-use Rattle.rules.proofs.Tests.{passed, pass, decided, each-zone}
-use Rattle.rules.proofs.Lists.{absent-both}
+use Rattle.field.proofs.Tests.{passed, pass, decided, each-zone}
+use Rattle.field.proofs.Lists.{absent-both}
 use Rattle.rules.proofs.Line.{Placed, zonesIn, numbersOf, fieldOf}
 use Rattle.rules.proofs.Counted.{how-many, approach-holds, potential-is}
-use Rattle.rules.proofs.Located.{numbers, at, located, located-runway}
+use Rattle.field.proofs.FindLaws.{numbers, at}
+use Rattle.rules.proofs.Located.{located, located-runway}
 use Rattle.rules.proofs.Orderly.{Orderly}
 use Rattle.rules.proofs.After.{After, zone-in}
 use Rattle.rules.proofs.Heads.{find-line}

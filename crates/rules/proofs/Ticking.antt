@@ -16,7 +16,7 @@ use Rattle.field.specs.declared.Legs.{Legs}
 use Rattle.field.specs.Boxes.{isFlyingZone, legOf, withProgress}
 use Rattle.field.specs.Edits.{tickedAircraft, tickedZone, ticked}
 use Rattle.order.specs.Model.{Side, num, nextFix}
-use Rattle.rules.proofs.Tests.{if-true, if-false, decided}
+use Rattle.field.proofs.Tests.{if-true, if-false, decided}
 use Rattle.rules.proofs.Line.{zoneFor, sequenceFor, fieldBy, by-zones, Placed, zonesIn, numbersOf, inside, zonesOf, fieldOf}
 use Rattle.rules.proofs.Counted.{not-13}
 use Rattle.rules.proofs.Located.{zone-split}

@@ -28,11 +28,13 @@ use Rattle.order.proofs.Facts.{headKind, head-moves}
 use Rattle.rules.specs.Kinds.{zoneBefore, startsFrom, headChecks, mayApproach, baseFree, descendChecks, approachChecks, mergeChecks, flownOutChecks, landChecks}
 use Rattle.rules.specs.Step.{checksOf}
 use Rattle.rules.specs.Demand.{allFlownOut, movesOn, MovesOn}
-use Rattle.rules.proofs.Tests.{passed, failed, each-zone, every-from}
-use Rattle.rules.proofs.Lists.{every-right, alone}
+use Rattle.field.proofs.Tests.{passed, failed, each-zone, every-from}
+use Rattle.field.proofs.Lists.{alone}
+use Rattle.rules.proofs.Lists.{every-right}
 use Rattle.rules.proofs.Line.{Placed, zonesIn, numbersOf, inside, fieldOf}
 use Rattle.rules.proofs.Counted.{lower, in-line, how-many, how-many-runway}
-use Rattle.rules.proofs.Located.{at, located, located-runway, inside-at, first-there, head-there}
+use Rattle.field.proofs.FindLaws.{at}
+use Rattle.rules.proofs.Located.{located, located-runway, inside-at, first-there, head-there}
 use Rattle.rules.proofs.Leaders.{nonzero}
 use Rattle.rules.proofs.Orderly.{Orderly}
 use Rattle.rules.proofs.After.{zone-in}
@@ -132,7 +134,7 @@ module _ (f : Side) (e : Placed) (b : List Placed) (legs : Legs) (o : Orderly f 
       (ap firstRefused c ∙ head-checks f (e ∷ b) [] legs o k m z place (not-zero z z-in) s (besides G (move k m) k) d)
     where
       not-zero : (y : ℕ) → T (between 1 12 y) → T (not (eqb y 0))
-      not-zero y t = Rattle.rules.proofs.Tests.fail (borrow.Author.Tests.ne-eqb y 0 (λ q. let l = leb→le 1 y (and-l (leb 1 y) (leb y 12) t) in omega arith))
+      not-zero y t = Rattle.field.proofs.Tests.fail (borrow.Author.Tests.ne-eqb y 0 (λ q. let l = leb→le 1 y (and-l (leb 1 y) (leb y 12) t) in omega arith))
 
   pub first-moves : MovesOn G
   unfolding startsFrom isFlyingZone descendChecks approachChecks mergeChecks flownOutChecks landChecks mayApproach baseFree sideOf opposite

@@ -19,11 +19,12 @@ use Rattle.field.specs.Find.{aircraftAt, fixOf, isFirst}
 use Rattle.field.specs.Bounds.{every, boundA, boundB, isEmpty, lateralRule, boundC, boundD, numbersIn, allDifferent, numbersDiffer, sequenceExact, finalFirst, zoneKept, sequenceKept, boundE, alternate, boundF, fitsZone, legalLegs, boundG, withinBounds}
 use Rattle.order.specs.Model.{Side, right, left, num, nextFix, between, count, free, isNil, all, okay}
 use Rattle.order.proofs.Facts.{okay-length, okay-zones, Bounds, okay-bounds, final-first}
-use Rattle.rules.proofs.Tests.{pass, decided, or-left, or-right}
+use Rattle.field.proofs.Tests.{pass, decided, or-left, or-right}
 use Rattle.rules.proofs.Lists.{map-append}
 use Rattle.rules.proofs.Line.{order-for, Placed, zonesIn, numbersOf, inside, fieldOf}
 use Rattle.rules.proofs.Counted.{free-inside, zone-of-line, zone-of-runway, in-line, on-runway, how-many, how-many-runway, in-operation, in-area, per-fix, all-counted}
-use Rattle.rules.proofs.Located.{numbers, zone-split, fix-there, first-there, head-there}
+use Rattle.field.proofs.FindLaws.{numbers}
+use Rattle.rules.proofs.Located.{zone-split, fix-there, first-there, head-there}
 use Rattle.rules.proofs.Leaders.{nonzero, all-at}
 use Rattle.rules.proofs.Members.{count-append, different-count, count-different, nonzero-count, count-nonzero, every-in, operation-numbers, field-numbers}
 use Rattle.rules.proofs.Orderly.{Orderly, every-zone, every-same, kept-for, sequence-kept, length-zones, length-numbers, inside-le, Split, first-in, fixesOf, alternates-pass}

@@ -53,6 +53,11 @@ if-true x y e = ap (λ (t : Bool). cond t x y) e
 pub if-false {ℓ} : {A : Type ℓ} {b : Bool} (x y : A) → b ≡ false → cond b x y ≡ y
 if-false x y e = ap (λ (t : Bool). cond t x y) e
 
+-- what holds of each arm where its side of the test is known holds of `cond`
+pub either-way {ℓ ℓ′} : {A : Type ℓ} (P : A → Type ℓ′) (b : Bool) (x y : A) → (b ≡ true → P x) → (b ≡ false → P y) → P (cond b x y)
+either-way P true x y h k = h refl
+either-way P false x y h k = k refl
+
 -- ---- numbers
 pub same : (n : ℕ) → eqb n n ≡ true
 same n = passed (eqb-refl n)
@@ -69,7 +74,7 @@ abbrev pub EachFrom {ℓ} : ℕ → ℕ → (ℕ → Type ℓ) → Type ℓ
 EachFrom k zero P = Unit {ℓ}
 EachFrom k (suc n) P = P k × EachFrom (suc k) n P
 
-each-from {ℓ} : (k n : ℕ) (P : ℕ → Type ℓ) → EachFrom k n P → (z : ℕ) → k ≤ z → z < k + n → P z
+pub each-from {ℓ} : (k n : ℕ) (P : ℕ → Type ℓ) → EachFrom k n P → (z : ℕ) → k ≤ z → z < k + n → P z
 each-from k zero P p z l h = absurd (omega arith)
 each-from k (suc n) P p z l h =
     elim (eq-or-lt-of-le l) [
