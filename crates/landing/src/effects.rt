@@ -30,7 +30,7 @@ ghost use Rattle.rules.specs.Kinds.{zoneBefore, mayApproach, baseFree, moved, h
 ghost use Rattle.rules.specs.Step.{effectOf};
 
 // The field with the head of a zone taken off it.
-pub fn head_gone(f: Field, zone: usize) -> Field
+fn head_gone(f: Field, zone: usize) -> Field
     ensures { λ r. ⌜ r ≡ headGone f zone ⌝ }
 {
     with_zone(f, zone, without_head(zone_of(f, zone)))
@@ -44,7 +44,7 @@ fn tail_put(f: Field, zone: usize, a: Aircraft) -> Field
 }
 
 // The field with the head of a zone moved to the tail of another.
-pub fn moved(f: Field, from: usize, to: usize) -> Field
+fn moved(f: Field, from: usize, to: usize) -> Field
     ensures { λ r. ⌜ r ≡ moved f from to ⌝ }
 {
     let a = with_progress(aircraft_at(f, from, 1), progress_into(to));
@@ -52,7 +52,7 @@ pub fn moved(f: Field, from: usize, to: usize) -> Field
 }
 
 // The field with a number out of the landing sequence.
-pub fn out_of_sequence(f: Field, number: u16) -> Field
+fn out_of_sequence(f: Field, number: u16) -> Field
     ensures { λ r. ⌜ r ≡ outOfSequence f number ⌝ }
 {
     let s = f.sequence;
@@ -60,7 +60,7 @@ pub fn out_of_sequence(f: Field, number: u16) -> Field
 }
 
 // The fix that an entry from a side takes.
-pub fn fix_taken(f: Field, side: u8) -> u8
+fn fix_taken(f: Field, side: u8) -> u8
     ensures { λ r. ⌜ r ≡ fixTaken f side ⌝ }
 {
     let s = f.sequence;
@@ -68,7 +68,7 @@ pub fn fix_taken(f: Field, side: u8) -> u8
 }
 
 // Kinds 1 and 2: the field with the request's aircraft entered into a zone.
-pub fn entered(f: Field, r: Request, zone: usize) -> Field
+fn entered(f: Field, r: Request, zone: usize) -> Field
     ensures { λ g. ⌜ g ≡ entered f r zone ⌝ }
 {
     let fix = fix_taken(f, r.side);
@@ -78,7 +78,7 @@ pub fn entered(f: Field, r: Request, zone: usize) -> Field
 }
 
 // Kind 3: the field with the request's aircraft moved from 3000 to 2000, two zones on.
-pub fn descended(f: Field, r: Request) -> Field
+fn descended(f: Field, r: Request) -> Field
     ensures { λ g. ⌜ g ≡ moved f (zoneBefore f r) (at2000 (zoneBefore f r)) ⌝ }
 {
     let zone = zone_before(f, r);
@@ -99,7 +99,7 @@ fn approach_zone(f: Field, number: u16, side: u8) -> usize
 }
 
 // Kind 4: the field with the request's aircraft moved to base, or to 2000 where a need of the approach is not met.
-pub fn approached(f: Field, r: Request) -> Field
+fn approached(f: Field, r: Request) -> Field
     ensures { λ g. ⌜ g ≡ approached f r ⌝ }
 {
     let zone = zone_before(f, r);
@@ -107,21 +107,21 @@ pub fn approached(f: Field, r: Request) -> Field
 }
 
 // Kind 7: the field with the head of final on the runway and the request's aircraft out of the sequence.
-pub fn landed(f: Field, r: Request) -> Field
+fn landed(f: Field, r: Request) -> Field
     ensures { λ g. ⌜ g ≡ landed f r ⌝ }
 {
     out_of_sequence(moved(f, 12, 13), r.number)
 }
 
 // Kind 9: the field with the head of intermediate gone and the request's aircraft out of the sequence.
-pub fn exited(f: Field, r: Request) -> Field
+fn exited(f: Field, r: Request) -> Field
     ensures { λ g. ⌜ g ≡ exited f r ⌝ }
 {
     out_of_sequence(head_gone(f, 11), r.number)
 }
 
 // The fix of an aircraft after its missed approach.
-pub fn fix_after_miss(f: Field, a: Aircraft) -> u8
+fn fix_after_miss(f: Field, a: Aircraft) -> u8
     ensures { λ r. ⌜ r ≡ fixAfterMiss f a ⌝ }
 {
     let s = f.sequence;
@@ -129,7 +129,7 @@ pub fn fix_after_miss(f: Field, a: Aircraft) -> u8
 }
 
 // Kind 10: the field with the head of final in the missed zone of its old fix, last in the sequence.
-pub fn missed_approach(f: Field, r: Request) -> Field
+fn missed_approach(f: Field, r: Request) -> Field
     ensures { λ g. ⌜ g ≡ missedApproach f r ⌝ }
 {
     let a = aircraft_at(f, 12, 1);
@@ -142,7 +142,7 @@ pub fn missed_approach(f: Field, r: Request) -> Field
 }
 
 // Kind 11: the field with the request's aircraft held at 2000 or 3000, and the one at 3000 moved to 2000 where both are needed.
-pub fn held(f: Field, r: Request) -> Field
+fn held(f: Field, r: Request) -> Field
     ensures { λ g. ⌜ g ≡ held f r ⌝ }
 {
     let zone = zone_before(f, r);
