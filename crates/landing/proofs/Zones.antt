@@ -23,7 +23,9 @@ found-below : (f : Field) (n : ℕ) (zs : List ℕ) → T (every (λ z. leb z 13
 unfolding findIn
 found-below f n [] t = omega arith
 found-below f n (z ∷ zs) t =
-    either (λ (p : Place). p .zone ≤ 13) (eqb (placeFrom 1 n (inZone f z)) 0) (found-below f n zs (and-r (leb z 13) _ t)) (leb→le z 13 (and-l (leb z 13) _ t))
+    either (λ (p : Place). p .zone ≤ 13) (eqb (placeFrom 1 n (inZone f z)) 0)
+    (found-below f n zs (and-r (leb z 13) _ t))
+    (leb→le z 13 (and-l (leb z 13) _ t))
 
 pub zone-below : (f : Field) (n : ℕ) → placeOf f n .zone ≤ 13
 unfolding placeOf
@@ -34,17 +36,23 @@ module _ (kind z : ℕ) where
   pub from-3000 : 1 ≤ z → z < 3 → startsFrom kind z ≡ eqb kind 3
   unfolding startsFrom
   from-3000 low high =
-      one-of-two (λ (z : ℕ). startsFrom kind z ≡ eqb kind 3) 1 z low high (simp (and-true, and-false, or-false)) (simp (and-true, and-false, or-false))
+      one-of-two (λ (z : ℕ). startsFrom kind z ≡ eqb kind 3) 1 z low high
+      (simp (and-true, and-false, or-false))
+      (simp (and-true, and-false, or-false))
 
   pub from-missed : 7 ≤ z → z < 9 → startsFrom kind z ≡ eqb kind 11
   unfolding startsFrom
   from-missed low high =
-      one-of-two (λ (z : ℕ). startsFrom kind z ≡ eqb kind 11) 7 z low high (simp (and-true, and-false, or-false)) (simp (and-true, and-false, or-false))
+      one-of-two (λ (z : ℕ). startsFrom kind z ≡ eqb kind 11) 7 z low high
+      (simp (and-true, and-false, or-false))
+      (simp (and-true, and-false, or-false))
 
   pub from-base : 9 ≤ z → z < 11 → startsFrom kind z ≡ eqb kind 5
   unfolding startsFrom
   from-base low high =
-      one-of-two (λ (z : ℕ). startsFrom kind z ≡ eqb kind 5) 9 z low high (simp (and-true, and-false, or-false)) (simp (and-true, and-false, or-false))
+      one-of-two (λ (z : ℕ). startsFrom kind z ≡ eqb kind 5) 9 z low high
+      (simp (and-true, and-false, or-false))
+      (simp (and-true, and-false, or-false))
 
   pub from-2000-or-lateral : 3 ≤ z → z < 7 → startsFrom kind z ≡ eqb kind 4
   unfolding startsFrom

@@ -1,15 +1,21 @@
 -- `landing::needs::approach_number` meets its contract, need by need. Assumes nothing.
 use mathlib.Core.Path.{_≡_, sym, ap, _∙_}
 use mathlib.Core.Bool.{false}
+use Prim.Native.Nat.{ℕ}
 use Rattle.request.specs.Input.{within}
 use Rattle.field.specs.Boxes.{sideOf}
 use Rattle.field.proofs.Parts.{or-first, or-else, holds, fails}
-use Rattle.rules.specs.Kinds.{zoneBefore, baseFree, approachChecks}
+use Rattle.rules.specs.Kinds.{zoneBefore, baseFree, headChecks, approachChecks}
 use Rattle.rules.proofs.Tests.{if-true, if-false}
-use Rattle.landing.proofs.Refused.{head-met, head-unmet}
+use Rattle.landing.proofs.Refused.{refusedOr, head-met, head-unmet}
 use borrow.Author.Needs.{needs}
 use Rattle.landing.proofs.needs.approach_number.Statement.{statement}
 use Rattle.landing.proofs.needs.approach_number.Tie as tie
+
+-- the needs of the head are met
+at-head : (c : tie.Else1) (x : ℕ)
+    → refusedOr (headChecks (c .before .before .args .f) (c .before .before .args .r)) x ≡ x
+at-head c x = head-met (c .before .before .args .f) (c .before .before .args .r) (c .before .head-number .ensures) (c .if1 .left) x
 
 -- the aircraft is in no lateral zone
 elsewhere : (c : tie.Else2)
@@ -18,7 +24,8 @@ elsewhere c = sym (c .before .is-lateral .ensures ∙ ap (within 5 6) (c .before
 
 -- the test of the opposite base goes by the side of its zone
 free : (c : tie.After-base-free)
-    → let a = c .before .before .before .before .before .before .before .before .before .args in c .base-free .result ≡ baseFree (a .f) (sideOf (zoneBefore (a .f) (a .r)))
+    → let a = c .before .before .before .before .before .before .before .before .before .args in
+    c .base-free .result ≡ baseFree (a .f) (sideOf (zoneBefore (a .f) (a .r)))
 free c = cc
 
 head-number-requires : tie.Need-head-number-requires
@@ -37,10 +44,9 @@ is-lateral-requires c κs = search needs
 returns-2 : tie.Need-returns-2
 unfolding approachChecks
 returns-2 c =
-    let a = c .before .before .before .before .before .args in
     let lateral = sym (c .before .is-lateral .ensures ∙ ap (within 5 6) (c .before .before .zone-before .ensures)) ∙ c .if2 .taken in
     sym
-    (head-met (a .f) (a .r) (c .before .before .before .before .head-number .ensures) (c .before .before .before .if1 .left) _
+    (at-head (c .before .before .before) _
     ∙ if-true _ _ (or-first _ lateral)
     ∙ if-true _ _ (or-first _ lateral))
 
@@ -50,10 +56,9 @@ may-approach-requires c κs = search needs
 returns-3 : tie.Need-returns-3
 unfolding approachChecks
 returns-3 c =
-    let a = c .before .before .before .before .before .before .before .args in
     let behind = or-else (elsewhere (c .before .before)) (fails (c .before .may-approach .ensures) (c .if3 .taken)) in
     sym
-    (head-met (a .f) (a .r) (c .before .before .before .before .before .before .head-number .ensures) (c .before .before .before .before .before .if1 .left) _
+    (at-head (c .before .before .before .before .before) _
     ∙ if-false _ _ behind)
 
 side-of-requires : tie.Need-side-of-requires
@@ -65,24 +70,22 @@ base-free-requires c κs = search needs
 returns-4 : tie.Need-returns-4
 unfolding approachChecks
 returns-4 c =
-    let a = c .before .before .before .before .before .before .before .before .before .before .args in
     let b = c .before .before .before .before .before in
     let next = or-else (elsewhere b) (holds (c .before .before .before .before .may-approach .ensures) (c .before .before .before .if3 .left)) in
     let crowded = or-else (elsewhere b) (fails (free (c .before)) (c .if4 .taken)) in
     sym
-    (head-met (a .f) (a .r) (c .before .before .before .before .before .before .before .before .before .head-number .ensures) (c .before .before .before .before .before .before .before .before .if1 .left) _
+    (at-head (c .before .before .before .before .before .before .before .before) _
     ∙ if-true _ _ next
     ∙ if-false _ _ crowded)
 
 returns-5 : tie.Need-returns-5
 unfolding approachChecks
 returns-5 c =
-    let a = c .before .before .before .before .before .before .before .before .before .before .args in
     let b = c .before .before .before .before .before in
     let next = or-else (elsewhere b) (holds (c .before .before .before .before .may-approach .ensures) (c .before .before .before .if3 .left)) in
     let uncrowded = or-else (elsewhere b) (holds (free (c .before)) (c .if4 .left)) in
     sym
-    (head-met (a .f) (a .r) (c .before .before .before .before .before .before .before .before .before .head-number .ensures) (c .before .before .before .before .before .before .before .before .if1 .left) _
+    (at-head (c .before .before .before .before .before .before .before .before) _
     ∙ if-true _ _ next
     ∙ if-true _ _ uncrowded)
 

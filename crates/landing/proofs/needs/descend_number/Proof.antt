@@ -34,14 +34,16 @@ unfolding descendChecks
 returns-2 c =
     let a = c .before .before .before .before .before .args in
     let below = c .before .is-empty .ensures ∙ ap (λ (z : ℕ). isEmpty (a .f) (2 + z)) (c .before .before .zone-before .ensures) in
-    sym (head-then (a .f) (a .r) (c .before .before .before .before .head-number .ensures) (c .before .before .before .if1 .left) 21 (fails below (c .if2 .taken)))
+    sym (head-then (a .f) (a .r) (c .before .before .before .before .head-number .ensures) (c .before .before .before .if1 .left) 21
+    (fails below (c .if2 .taken)))
 
 returns-3 : tie.Need-returns-3
 unfolding descendChecks
 returns-3 c =
     let a = c .before .before .before .before .before .args in
     let below = c .before .is-empty .ensures ∙ ap (λ (z : ℕ). isEmpty (a .f) (2 + z)) (c .before .before .zone-before .ensures) in
-    sym (head-then (a .f) (a .r) (c .before .before .before .before .head-number .ensures) (c .before .before .before .if1 .left) 21 (holds below (c .if2 .left)))
+    sym (head-then (a .f) (a .r) (c .before .before .before .before .head-number .ensures) (c .before .before .before .if1 .left) 21
+    (holds below (c .if2 .left)))
 
 pub descend-number-spec : {M : Type 1} → statement M
 descend-number-spec =

@@ -21,13 +21,15 @@ returns-2 : tie.Need-returns-2
 unfolding exitChecks
 returns-2 c =
     let a = c .before .before .before .before .before .args in
-    sym (head-then (a .f) (a .r) (c .before .before .before .before .head-number .ensures) (c .before .before .before .if1 .left) 22 (fails (c .before .is-first .ensures) (c .if2 .taken)))
+    sym (head-then (a .f) (a .r) (c .before .before .before .before .head-number .ensures) (c .before .before .before .if1 .left) 22
+    (fails (c .before .is-first .ensures) (c .if2 .taken)))
 
 returns-3 : tie.Need-returns-3
 unfolding exitChecks
 returns-3 c =
     let a = c .before .before .before .before .before .args in
-    sym (head-then (a .f) (a .r) (c .before .before .before .before .head-number .ensures) (c .before .before .before .if1 .left) 22 (holds (c .before .is-first .ensures) (c .if2 .left)))
+    sym (head-then (a .f) (a .r) (c .before .before .before .before .head-number .ensures) (c .before .before .before .if1 .left) 22
+    (holds (c .before .is-first .ensures) (c .if2 .left)))
 
 pub exit-number-spec : {M : Type 1} → statement M
 exit-number-spec =

@@ -21,13 +21,15 @@ returns-2 : tie.Need-returns-2
 unfolding flownOutChecks
 returns-2 c =
     let a = c .before .before .before .before .args in
-    sym (head-then (a .f) (a .r) (c .before .before .before .head-number .ensures) (c .before .before .if1 .left) 15 (fails (c .before .has-flown-out .ensures) (c .if2 .taken)))
+    sym (head-then (a .f) (a .r) (c .before .before .before .head-number .ensures) (c .before .before .if1 .left) 15
+    (fails (c .before .has-flown-out .ensures) (c .if2 .taken)))
 
 returns-3 : tie.Need-returns-3
 unfolding flownOutChecks
 returns-3 c =
     let a = c .before .before .before .before .args in
-    sym (head-then (a .f) (a .r) (c .before .before .before .head-number .ensures) (c .before .before .if1 .left) 15 (holds (c .before .has-flown-out .ensures) (c .if2 .left)))
+    sym (head-then (a .f) (a .r) (c .before .before .before .head-number .ensures) (c .before .before .if1 .left) 15
+    (holds (c .before .has-flown-out .ensures) (c .if2 .left)))
 
 pub flown-out-number-spec : {M : Type 1} → statement M
 flown-out-number-spec =

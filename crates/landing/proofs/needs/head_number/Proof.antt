@@ -16,7 +16,7 @@ present c = ap not (is-not (ap (λ (p : Place). p .zone) (c .before .place-of .e
 
 -- the test of its zone is the definition's
 starts : (c : tie.After-starts-from)
-    → c .starts-from .result ≡ startsFrom (c .before .before .before .args .r .kind) (zoneBefore (c .before .before .before .args .f) (c .before .before .before .args .r))
+    → let a = c .before .before .before .args in c .starts-from .result ≡ startsFrom (a .r .kind) (zoneBefore (a .f) (a .r))
 starts c = cc
 
 place-of-requires : tie.Need-place-of-requires

@@ -21,13 +21,15 @@ returns-2 : tie.Need-returns-2
 unfolding landChecks flownOutChecks
 returns-2 c =
     let a = c .before .before .before .before .args in
-    sym (leg-then (a .f) (a .r) (c .before .before .before .flown-out-number .ensures) (c .before .before .if1 .left) 24 (fails (c .before .is-empty .ensures) (c .if2 .taken)))
+    sym (leg-then (a .f) (a .r) (c .before .before .before .flown-out-number .ensures) (c .before .before .if1 .left) 24
+    (fails (c .before .is-empty .ensures) (c .if2 .taken)))
 
 returns-3 : tie.Need-returns-3
 unfolding landChecks flownOutChecks
 returns-3 c =
     let a = c .before .before .before .before .args in
-    sym (leg-then (a .f) (a .r) (c .before .before .before .flown-out-number .ensures) (c .before .before .if1 .left) 24 (holds (c .before .is-empty .ensures) (c .if2 .left)))
+    sym (leg-then (a .f) (a .r) (c .before .before .before .flown-out-number .ensures) (c .before .before .if1 .left) 24
+    (holds (c .before .is-empty .ensures) (c .if2 .left)))
 
 pub land-number-spec : {M : Type 1} → statement M
 land-number-spec =

@@ -21,13 +21,15 @@ returns-2 : tie.Need-returns-2
 unfolding mergeChecks flownOutChecks
 returns-2 c =
     let a = c .before .before .before .before .args in
-    sym (leg-then (a .f) (a .r) (c .before .before .before .flown-out-number .ensures) (c .before .before .if1 .left) 22 (fails (c .before .may-merge .ensures) (c .if2 .taken)))
+    sym (leg-then (a .f) (a .r) (c .before .before .before .flown-out-number .ensures) (c .before .before .if1 .left) 22
+    (fails (c .before .may-merge .ensures) (c .if2 .taken)))
 
 returns-3 : tie.Need-returns-3
 unfolding mergeChecks flownOutChecks
 returns-3 c =
     let a = c .before .before .before .before .args in
-    sym (leg-then (a .f) (a .r) (c .before .before .before .flown-out-number .ensures) (c .before .before .if1 .left) 22 (holds (c .before .may-merge .ensures) (c .if2 .left)))
+    sym (leg-then (a .f) (a .r) (c .before .before .before .flown-out-number .ensures) (c .before .before .if1 .left) 22
+    (holds (c .before .may-merge .ensures) (c .if2 .left)))
 
 pub merge-number-spec : {M : Type 1} → statement M
 merge-number-spec =
