@@ -1,7 +1,7 @@
 -- Tests that have several parts: a conjunction and a disjunction by their parts, and a test of each zone from `first` to `last`, one
 -- zone a turn. Assumes nothing.
 use mathlib.Core.Path.{_≡_, refl, sym, ap, _∙_}
-use mathlib.Core.Bool.{Bool, true, false, not, _&&_, _||_}
+use mathlib.Core.Bool.{Bool, true, false, cond, not, _&&_, _||_}
 use Prim.Native.Nat.{ℕ, suc, _+_, _-_, _≤_, _<_}
 use native.Mathlib.Numerals.{add-one}
 use native.Mathlib.Omega.{arith}
@@ -21,6 +21,12 @@ or-first y e = ap (λ (t : Bool). t || y) e
 
 pub or-else : {x y r : Bool} → x ≡ false → y ≡ r → (x || y) ≡ r
 or-else {y = y} e h = ap (λ (t : Bool). t || y) e ∙ h
+
+pub cond-then {ℓ} : {A : Type ℓ} {t : Bool} {x r : A} (y : A) → t ≡ true → x ≡ r → cond t x y ≡ r
+cond-then {A = A} {x = x} y e h = ap (λ (b : Bool). cond {A = A} b x y) e ∙ h
+
+pub cond-else {ℓ} : {A : Type ℓ} {t : Bool} (x : A) {y r : A} → t ≡ false → y ≡ r → cond t x y ≡ r
+cond-else {A = A} x {y = y} e h = ap (λ (b : Bool). cond {A = A} b x y) e ∙ h
 
 -- a part x whose test a function has yielded as r, where the code goes by `!r`
 pub holds : {x r : Bool} → r ≡ x → not r ≡ false → x ≡ true

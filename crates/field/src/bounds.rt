@@ -1,14 +1,36 @@
 // Document 01, "The bounds", a to g (specs/Bounds.antt).
+use crate::Aircraft;
 use crate::Field;
+use crate::Legs;
+use crate::Sequence;
+use crate::Zone;
+use crate::boxes::is_flying_zone;
+use crate::boxes::is_side;
+use crate::boxes::leg_of;
+use crate::boxes::opposite;
+use crate::boxes::order_length;
+use crate::boxes::queue_length;
+use crate::boxes::zone_of;
 use crate::counts::how_many;
 use crate::counts::in_area;
 use crate::counts::in_operation;
 use crate::counts::per_fix;
+use crate::find::aircraft_at;
+use crate::find::fix_of;
+use crate::find::is_first;
+use crate::numbers::numbers_differ;
+use crate::numbers::sequence_exact;
+use leg::Progress;
+use leg::legal;
+use leg::within;
 ghost use mathlib.Core.Path.{_≡_};
+ghost use mathlib.Core.List.{map};
 ghost use lib.Dec.{leb};
-ghost use Rattle.field.specs.Boxes.{zonesFrom};
+ghost use lib.ListN.{getD};
+ghost use Rattle.field.specs.Boxes.{zonesFrom, everywhere, zoneOf, queueOf, inZone, orderOf};
 ghost use Rattle.field.specs.Counts.{howMany};
-ghost use Rattle.field.specs.Bounds.{every, boundA, boundB, lateralRule, boundC, boundD};
+ghost use Rattle.field.specs.Find.{fixOf};
+ghost use Rattle.field.specs.Bounds.{every, boundA, boundB, lateralRule, boundC, boundD, finalFirst, isWaiting, isNobody, zoneKept, sequenceKept, boundE, boundF, fitsZone, legalLegs, boundG, withinBounds};
 
 // Bound a: at most four in the operation area, one on the runway.
 pub fn bound_a(f: Field) -> bool
@@ -80,4 +102,240 @@ pub fn bound_d(f: Field) -> bool
         return false;
     }
     per_fix(f, 2) <= 2
+}
+
+// Whether the head of final, if any, heads the sequence.
+pub fn final_first(f: Field) -> bool
+    ensures { λ r. ⌜ r ≡ finalFirst f ⌝ }
+{
+    if how_many(f, 12) == 0 {
+        return true;
+    }
+    let s = f.sequence;
+    let a = aircraft_at(f, 12, 1);
+    is_first(s, a.number)
+}
+
+// Whether a progress is waiting.
+pub fn is_waiting(p: Progress) -> bool
+    ensures { λ r. ⌜ r ≡ isWaiting p ⌝ }
+{
+    match p {
+        Progress::Waiting => true,
+        Progress::Flying(_) => false,
+    }
+}
+
+// Whether a place is all zero and waiting.
+pub fn is_nobody(a: Aircraft) -> bool
+    ensures { λ r. ⌜ r ≡ isNobody a ⌝ }
+{
+    if a.number != 0 {
+        return false;
+    }
+    if a.fix != 0 {
+        return false;
+    }
+    if a.speed != 0 {
+        return false;
+    }
+    let p = a.progress;
+    is_waiting(p)
+}
+
+// Whether a zone's length fits its array, and the places past it are all zero and waiting.
+pub fn zone_kept(q: Zone) -> bool
+    ensures { λ r. ⌜ r ≡ zoneKept q ⌝ }
+{
+    let n = q.length;
+    if 4 < n {
+        return false;
+    }
+    for i in n..4 {
+        let a = q.aircraft[i];
+        if !is_nobody(a) {
+            return false;
+        }
+    }
+    true
+}
+
+// Whether all thirteen zones are so kept.
+fn zones_kept(f: Field) -> bool
+    ensures { λ r. ⌜ r ≡ every (λ z. zoneKept (zoneOf f z)) everywhere ⌝ }
+{
+    for zone in 1..=13 {
+        if !zone_kept(zone_of(f, zone)) {
+            return false;
+        }
+    }
+    true
+}
+
+// Whether the sequence's length fits its array, and the places past it are zero.
+pub fn sequence_kept(s: Sequence) -> bool
+    ensures { λ r. ⌜ r ≡ sequenceKept s ⌝ }
+{
+    let n = s.length;
+    if 4 < n {
+        return false;
+    }
+    for i in n..4 {
+        if s.numbers[i] != 0 {
+            return false;
+        }
+    }
+    true
+}
+
+// Bound e: numbers, the sequence, the head of final, lengths and the places past them.
+pub fn bound_e(f: Field) -> bool
+    ensures { λ r. ⌜ r ≡ boundE f ⌝ }
+{
+    if !numbers_differ(f) {
+        return false;
+    }
+    if !sequence_exact(f) {
+        return false;
+    }
+    if !final_first(f) {
+        return false;
+    }
+    if !zones_kept(f) {
+        return false;
+    }
+    let s = f.sequence;
+    sequence_kept(s)
+}
+
+// The fix of the one at an index of the sequence; past its end the next fix.
+fn fix_at(f: Field, i: usize) -> u8
+    ensures { λ r. ⌜ r ≡ getD (map (fixOf f) (orderOf (f .sequence))) i (f .next) ⌝ }
+{
+    let s = f.sequence;
+    if i < order_length(s) {
+        return fix_of(f, s.numbers[i]);
+    }
+    f.next
+}
+
+// Bound f: fixes alternate along the sequence, and the next fix is the opposite of the last one's.
+pub fn bound_f(f: Field) -> bool
+    ensures { λ r. ⌜ r ≡ boundF f ⌝ }
+{
+    let s = f.sequence;
+    let end = order_length(s);
+    for i in 0..end {
+        let other = opposite(fix_at(f, i));
+        if fix_at(f, i + 1) != other {
+            return false;
+        }
+    }
+    true
+}
+
+// Whether an aircraft of a zone has a side as fix, a speed from 1 to 512, and flies within the zone's leg where the zone is flown in
+// and waits elsewhere.
+pub fn fits_zone(legs: Legs, zone: usize, a: Aircraft) -> bool
+    ensures { λ r. ⌜ r ≡ fitsZone legs zone a ⌝ }
+{
+    if !is_side(a.fix) {
+        return false;
+    }
+    if a.speed < 1 {
+        return false;
+    }
+    if 512 < a.speed {
+        return false;
+    }
+    let p = a.progress;
+    if is_flying_zone(zone) {
+        if is_waiting(p) {
+            return false;
+        }
+        return within(p, leg_of(legs, zone));
+    }
+    is_waiting(p)
+}
+
+// Whether all of a zone's queue do.
+fn zone_fits(legs: Legs, zone: usize, q: Zone) -> bool
+    ensures { λ r. ⌜ r ≡ every (fitsZone legs zone) (queueOf q) ⌝ }
+{
+    let end = queue_length(q);
+    for i in 0..end {
+        let a = q.aircraft[i];
+        if !fits_zone(legs, zone, a) {
+            return false;
+        }
+    }
+    true
+}
+
+// Whether all on the field do.
+fn zones_fit(f: Field) -> bool
+    ensures { λ r. ⌜ r ≡ every (λ z. every (fitsZone (f .legs) z) (inZone f z)) everywhere ⌝ }
+{
+    let legs = f.legs;
+    for zone in 1..=13 {
+        if !zone_fits(legs, zone, zone_of(f, zone)) {
+            return false;
+        }
+    }
+    true
+}
+
+// Whether all four legs are from 1/64 of a mile to 64 miles.
+pub fn legal_legs(legs: Legs) -> bool
+    ensures { λ r. ⌜ r ≡ legalLegs legs ⌝ }
+{
+    if !legal(legs.missed) {
+        return false;
+    }
+    if !legal(legs.base) {
+        return false;
+    }
+    if !legal(legs.intermediate) {
+        return false;
+    }
+    legal(legs.final_approach)
+}
+
+// Bound g: sides, speeds, miles, legs, and who flies.
+pub fn bound_g(f: Field) -> bool
+    ensures { λ r. ⌜ r ≡ boundG f ⌝ }
+{
+    if !zones_fit(f) {
+        return false;
+    }
+    if !is_side(f.next) {
+        return false;
+    }
+    let legs = f.legs;
+    legal_legs(legs)
+}
+
+// All seven bounds.
+pub fn within_bounds(f: Field) -> bool
+    ensures { λ r. ⌜ r ≡ withinBounds f ⌝ }
+{
+    if !bound_a(f) {
+        return false;
+    }
+    if !bound_b(f) {
+        return false;
+    }
+    if !bound_c(f) {
+        return false;
+    }
+    if !bound_d(f) {
+        return false;
+    }
+    if !bound_e(f) {
+        return false;
+    }
+    if !bound_f(f) {
+        return false;
+    }
+    bound_g(f)
 }

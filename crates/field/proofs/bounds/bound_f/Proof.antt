@@ -1,0 +1,116 @@
+-- `field::bounds::bound_f` meets its contract: each that the loop has passed is followed by its opposite. Assumes nothing.
+use mathlib.Core.Path.{_≡_, refl, sym, ap, _∙_}
+use mathlib.Core.Bool.{Bool, true, false, _&&_}
+use mathlib.Core.List.{List, [], _∷_, _++_, map}
+use Prim.Native.Nat.{ℕ, zero, suc, _+_, _-_, _≤_, _<_}
+use lib.Dec.{eqb}
+use lib.ListN.{length, getD, drop, length-map, length-append, drop-of-length-le}
+use Rattle.field.specs.declared.Field.{Field}
+use Rattle.field.specs.Boxes.{opposite, orderOf, orderLength}
+use Rattle.field.specs.Find.{fixOf}
+use Rattle.field.specs.Bounds.{alternate, boundF}
+use Rattle.field.proofs.Parts.{and-then, and-cut, is, is-not}
+use Rattle.field.proofs.Arrays.{Walked, next-of, walked-none, walked-more, walked-stop}
+use borrow.Author.Needs.{needs}
+use native.Mathlib.Omega.{arith}
+use Rattle.field.proofs.bounds.bound_f.Statement.{statement}
+use Rattle.field.proofs.bounds.bound_f.Tie as tie
+
+-- the fixes along the sequence, and the next fix
+abbrev fixes : Field → List ℕ
+fixes f = map (fixOf f) (orderOf (f .sequence)) ++ (f .next ∷ [])
+
+-- past the end of a list its default may stand
+last-is : (l : List ℕ) (i d : ℕ) → getD (l ++ (d ∷ [])) i d ≡ getD l i d
+last-is [] zero d = refl
+last-is [] (suc i) d = refl
+last-is (x ∷ l) zero d = refl
+last-is (x ∷ l) (suc i) d = last-is l i d
+
+-- one that another follows
+followed : (x : ℕ) {y : ℕ} {l m : List ℕ} → l ≡ y ∷ m → alternate (x ∷ l) ≡ (eqb y (opposite x) && alternate l)
+followed x {y} e = ap (λ (r : List ℕ). alternate (x ∷ r)) e ∙ ap (λ (r : List ℕ). eqb y (opposite x) && alternate r) (sym e)
+
+abbrev Inv-loop : tie.InvT-loop
+Inv-loop f end i₀ i = (i ≤ end) × ((length (fixes f) ≡ end + 1) × Walked alternate (fixes f) 0 i)
+
+abbrev μ-loop : tie.MeasureT-loop
+μ-loop f end i₀ i = end - i
+
+order-length-requires : tie.Need-order-length-requires Inv-loop μ-loop
+order-length-requires c κs = search needs
+
+loop-holds : tie.Need-loop-holds Inv-loop μ-loop
+unfolding orderLength
+loop-holds c =
+    let f = c .before .before .args .f in
+    let named = map (fixOf f) (orderOf (f .sequence)) in
+    let long : length (fixes f) ≡ c .order-length .result + 1 = omega (arith, length-append named (f .next ∷ []), length-map (orderOf (f .sequence)) (fixOf f), c .order-length .ensures) in
+    (omega arith, (long, walked-none _ _ 0 (omega arith)))
+
+fix-at-requires : tie.Need-fix-at-requires Inv-loop μ-loop
+fix-at-requires c κs = search needs
+
+opposite-requires : tie.Need-opposite-requires Inv-loop μ-loop
+opposite-requires c κs = search needs
+
+add-fix-at : tie.Need-add-fix-at Inv-loop μ-loop
+add-fix-at c = search needs
+
+fix-at-requires-2 : tie.Need-fix-at-requires-2 Inv-loop μ-loop
+fix-at-requires-2 c κs = search needs
+
+returns : tie.Need-returns Inv-loop μ-loop
+unfolding boundF
+returns c =
+    let f = c .before .before .before .before .before .before .before .before .args .f in
+    let l = c .before .before .before .before .before .loop in
+    let i = l .i in
+    let here = c .before .before .before .fix-at .ensures ∙ sym (last-is (map (fixOf f) (orderOf (f .sequence))) i (f .next)) in
+    let other = c .before .before .opposite .ensures ∙ ap opposite here in
+    let then = c .before .fix-at2 .ensures ∙ sym (last-is (map (fixOf f) (orderOf (f .sequence))) (i + 1) (f .next)) in
+    let two = followed (getD (fixes f) i (f .next)) (next-of (fixes f) (i + 1) (f .next) (omega arith)) in
+    sym (walked-stop alternate (fixes f) 0 i (l .inv .1 .1) (next-of (fixes f) i (f .next) (omega arith)) (two ∙ and-cut _ (is-not then (λ e. c .if1 .taken (e ∙ sym other)))))
+
+add-i : tie.Need-add-i Inv-loop μ-loop
+add-i c = search needs
+
+loop-less : tie.Need-loop-less Inv-loop μ-loop
+loop-less c = search needs
+
+loop-again : tie.Need-loop-again Inv-loop μ-loop
+loop-again c =
+    let f = c .before .before .before .before .before .before .before .before .args .f in
+    let l = c .before .before .before .before .before .loop in
+    let i = l .i in
+    let here = c .before .before .before .fix-at .ensures ∙ sym (last-is (map (fixOf f) (orderOf (f .sequence))) i (f .next)) in
+    let other = c .before .before .opposite .ensures ∙ ap opposite here in
+    let then = c .before .fix-at2 .ensures ∙ sym (last-is (map (fixOf f) (orderOf (f .sequence))) (i + 1) (f .next)) in
+    let two = followed (getD (fixes f) i (f .next)) (next-of (fixes f) (i + 1) (f .next) (omega arith)) in
+    (omega arith, (l .inv .1 .0, walked-more alternate (fixes f) 0 i (l .inv .1 .1) (omega arith) (next-of (fixes f) i (f .next) (omega arith)) (two ∙ and-then (is then (c .if1 .left ∙ other)) refl)))
+
+returns-2 : tie.Need-returns-2 Inv-loop μ-loop
+unfolding boundF
+returns-2 c =
+    let f = c .before .before .before .before .args .f in
+    let l = c .before .loop in
+    let x = getD (fixes f) (l .i) (f .next) in
+    sym (walked-stop alternate (fixes f) 0 (l .i) (l .inv .1 .1) (next-of (fixes f) (l .i) (f .next) (omega arith)) (ap (λ (r : List ℕ). alternate (x ∷ r)) (drop-of-length-le (fixes f) {i = l .i + 1} (omega arith))))
+
+pub bound-f-spec : {M : Type 1} → statement M
+bound-f-spec =
+    tie.close
+    (tie.spec
+    Inv-loop
+    μ-loop
+    order-length-requires
+    loop-holds
+    fix-at-requires
+    opposite-requires
+    add-fix-at
+    fix-at-requires-2
+    returns
+    add-i
+    loop-less
+    loop-again
+    returns-2)

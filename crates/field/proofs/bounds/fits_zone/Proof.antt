@@ -1,0 +1,94 @@
+-- `field::bounds::fits_zone` meets its contract, part by part. Assumes nothing.
+use mathlib.Core.Path.{sym, ap, _∙_}
+use mathlib.Core.Bool.{not}
+use borrow.Author.Tests.{le-leb, lt-leb}
+use Rattle.leg.specs.Progress.{withinLeg}
+use Rattle.field.specs.Bounds.{fitsZone}
+use Rattle.field.proofs.Parts.{and-then, and-cut, cond-then, cond-else, holds, fails}
+use borrow.Author.Needs.{needs}
+use Rattle.field.proofs.bounds.fits_zone.Statement.{statement}
+use Rattle.field.proofs.bounds.fits_zone.Tie as tie
+
+is-side-requires : tie.Need-is-side-requires
+is-side-requires c κs = search needs
+
+returns : tie.Need-returns
+unfolding fitsZone
+returns c = sym (and-cut _ (and-cut _ (fails (c .before .is-side .ensures) (c .if1 .taken))))
+
+returns-2 : tie.Need-returns-2
+unfolding fitsZone
+returns-2 c =
+    let side = holds (c .before .before .before .is-side .ensures) (c .before .before .if1 .left) in
+    sym (and-cut _ (and-then side (and-cut _ (lt-leb _ _ (c .if2 .taken)))))
+
+returns-3 : tie.Need-returns-3
+unfolding fitsZone
+returns-3 c =
+    let side = holds (c .before .before .before .before .before .is-side .ensures) (c .before .before .before .before .if1 .left) in
+    let low = le-leb _ _ (c .before .before .if2 .left) in
+    sym (and-cut _ (and-then side (and-then low (lt-leb _ _ (c .if3 .taken)))))
+
+is-flying-zone-requires : tie.Need-is-flying-zone-requires
+is-flying-zone-requires c κs = search needs
+
+is-waiting-requires : tie.Need-is-waiting-requires
+is-waiting-requires c κs = search needs
+
+returns-4 : tie.Need-returns-4
+unfolding fitsZone
+returns-4 c =
+    let side = holds (c .before .before .before .before .before .before .before .before .before .is-side .ensures) (c .before .before .before .before .before .before .before .before .if1 .left) in
+    let low = le-leb _ _ (c .before .before .before .before .before .before .if2 .left) in
+    let high = le-leb _ _ (c .before .before .before .before .if3 .left) in
+    let fit = and-then side (and-then low high) in
+    let flying = sym (c .before .before .before .is-flying-zone .ensures) ∙ c .before .before .if4 .taken in
+    sym (and-then fit (cond-then _ flying (and-cut _ (ap not (sym (c .before .is-waiting .ensures) ∙ c .if5 .taken)))))
+
+leg-of-requires : tie.Need-leg-of-requires
+leg-of-requires c κs = search needs
+
+within-requires : tie.Need-within-requires
+within-requires c κs = search needs
+
+returns-5 : tie.Need-returns-5
+unfolding fitsZone
+returns-5 c =
+    let side = holds (c .before .before .before .before .before .before .before .before .before .before .before .is-side .ensures) (c .before .before .before .before .before .before .before .before .before .before .if1 .left) in
+    let low = le-leb _ _ (c .before .before .before .before .before .before .before .before .if2 .left) in
+    let high = le-leb _ _ (c .before .before .before .before .before .before .if3 .left) in
+    let fit = and-then side (and-then low high) in
+    let flying = sym (c .before .before .before .before .before .is-flying-zone .ensures) ∙ c .before .before .before .before .if4 .taken in
+    let moving = ap not (sym (c .before .before .before .is-waiting .ensures) ∙ c .before .before .if5 .left) in
+    let miles = c .within .ensures ∙ ap (withinLeg (c .before .before .before .before .before .before .before .before .before .before .before .before .args .a .progress)) (c .before .leg-of .ensures) in
+    sym (and-then fit (cond-then _ flying (and-then moving (sym miles))))
+
+is-waiting-requires-2 : tie.Need-is-waiting-requires-2
+is-waiting-requires-2 c κs = search needs
+
+returns-6 : tie.Need-returns-6
+unfolding fitsZone
+returns-6 c =
+    let side = holds (c .before .before .before .before .before .before .before .before .is-side .ensures) (c .before .before .before .before .before .before .before .if1 .left) in
+    let low = le-leb _ _ (c .before .before .before .before .before .if2 .left) in
+    let high = le-leb _ _ (c .before .before .before .if3 .left) in
+    let fit = and-then side (and-then low high) in
+    let still = sym (c .before .before .is-flying-zone .ensures) ∙ c .before .if4 .left in
+    sym (and-then fit (cond-else _ still (sym (c .is-waiting2 .ensures))))
+
+pub fits-zone-spec : {M : Type 1} → statement M
+fits-zone-spec =
+    tie.close
+    (tie.spec
+    is-side-requires
+    returns
+    returns-2
+    returns-3
+    is-flying-zone-requires
+    is-waiting-requires
+    returns-4
+    leg-of-requires
+    within-requires
+    returns-5
+    is-waiting-requires-2
+    returns-6)

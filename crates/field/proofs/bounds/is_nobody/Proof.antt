@@ -1,0 +1,39 @@
+-- `field::bounds::is_nobody` meets its contract, part by part. Assumes nothing.
+use mathlib.Core.Path.{sym}
+use borrow.Author.Tests.{eq-eqb, ne-eqb}
+use Rattle.field.specs.Bounds.{isNobody}
+use Rattle.field.proofs.Parts.{and-then, and-cut}
+use borrow.Author.Needs.{needs}
+use Rattle.field.proofs.bounds.is_nobody.Statement.{statement}
+use Rattle.field.proofs.bounds.is_nobody.Tie as tie
+
+returns : tie.Need-returns
+unfolding isNobody
+returns c = sym (and-cut _ (and-cut _ (and-cut _ (ne-eqb _ _ (c .if1 .taken)))))
+
+returns-2 : tie.Need-returns-2
+unfolding isNobody
+returns-2 c =
+    let number = eq-eqb _ _ (c .before .before .if1 .left) in
+    sym (and-cut _ (and-cut _ (and-then number (ne-eqb _ _ (c .if2 .taken)))))
+
+returns-3 : tie.Need-returns-3
+unfolding isNobody
+returns-3 c =
+    let number = eq-eqb _ _ (c .before .before .before .before .if1 .left) in
+    let fix = eq-eqb _ _ (c .before .before .if2 .left) in
+    sym (and-cut _ (and-then (and-then number fix) (ne-eqb _ _ (c .if3 .taken))))
+
+is-waiting-requires : tie.Need-is-waiting-requires
+is-waiting-requires c κs = search needs
+
+returns-4 : tie.Need-returns-4
+unfolding isNobody
+returns-4 c =
+    let number = eq-eqb _ _ (c .before .before .before .before .before .if1 .left) in
+    let fix = eq-eqb _ _ (c .before .before .before .if2 .left) in
+    let speed = eq-eqb _ _ (c .before .if3 .left) in
+    sym (and-then (and-then (and-then number fix) speed) (sym (c .is-waiting .ensures)))
+
+pub is-nobody-spec : {M : Type 1} → statement M
+is-nobody-spec = tie.close (tie.spec returns returns-2 returns-3 is-waiting-requires returns-4)

@@ -1,0 +1,18 @@
+-- `landing::effects::landed` meets its contract. Assumes nothing.
+use Rattle.rules.specs.Kinds.{landed}
+use borrow.Author.Needs.{needs}
+use Rattle.landing.proofs.effects.landed.Statement.{statement}
+use Rattle.landing.proofs.effects.landed.Tie as tie
+
+moved-requires : tie.Need-moved-requires
+moved-requires c κs = search needs
+
+out-of-sequence-requires : tie.Need-out-of-sequence-requires
+out-of-sequence-requires c κs = search needs
+
+returns : tie.Need-returns
+unfolding landed
+returns c = cc
+
+pub landed-spec : {M : Type 1} → statement M
+landed-spec = tie.close (tie.spec moved-requires out-of-sequence-requires returns)

@@ -1,0 +1,13 @@
+-- `landing::needs::is_empty` meets its contract. Assumes nothing.
+use borrow.Author.Needs.{needs}
+use Rattle.landing.proofs.needs.is_empty.Statement.{statement}
+use Rattle.landing.proofs.needs.is_empty.Tie as tie
+
+how-many-requires : tie.Need-how-many-requires
+how-many-requires c κs = search needs
+
+returns : tie.Need-returns
+returns c = cc
+
+pub is-empty-spec : {M : Type 1} → statement M
+is-empty-spec = tie.close (tie.spec how-many-requires returns)

@@ -1,0 +1,293 @@
+// Document 01, "Turned away by the field": what each kind of request needs, in order (rules' specs/Kinds.antt).
+use field::Field;
+use field::boxes::flown_out_in;
+use field::boxes::opposite;
+use field::counts::approach_holds;
+use field::counts::how_many;
+use field::counts::potential_of;
+use field::find::aircraft_at;
+use field::find::is_first;
+use field::find::leader_zone;
+use field::find::place_of;
+use request::Request;
+ghost use mathlib.Core.Path.{_≡_};
+ghost use mathlib.Core.Bool.{_||_};
+ghost use Rattle.request.specs.Input.{within, firstRefused};
+ghost use Rattle.field.specs.Boxes.{sideOf};
+ghost use Rattle.field.specs.Bounds.{isEmpty};
+ghost use Rattle.field.specs.Find.{isFirst, leaderZone};
+ghost use Rattle.rules.specs.Kinds.{zoneBefore, startsFrom, headChecks, flownOutCheck, mayApproach, baseFree, verticalChecks, lateralChecks, descendChecks, approachChecks, mergeChecks, flownOutChecks, landChecks, exitChecks};
+ghost use Rattle.rules.specs.Step.{checksOf};
+
+// The side of a holding, lateral, missed or base zone.
+pub fn side_of(zone: usize) -> u8
+    ensures { λ r. ⌜ r ≡ sideOf zone ⌝ }
+{
+    if zone % 2 == 1 { 1 } else { 2 }
+}
+
+// Whether a zone is empty.
+pub fn is_empty(f: Field, zone: usize) -> bool
+    ensures { λ r. ⌜ r ≡ isEmpty f zone ⌝ }
+{
+    how_many(f, zone) == 0
+}
+
+// The zone of a request's aircraft; 0 where it is not on the field.
+pub fn zone_before(f: Field, r: Request) -> usize
+    ensures { λ z. ⌜ z ≡ zoneBefore f r ⌝ }
+{
+    let at = place_of(f, r.number);
+    at.zone
+}
+
+// Whether a kind starts from a zone.
+pub fn starts_from(kind: u8, zone: usize) -> bool
+    ensures { λ r. ⌜ r ≡ startsFrom kind zone ⌝ }
+{
+    match zone {
+        1..=2 => kind == 3,
+        3..=6 => kind == 4,
+        7..=8 => kind == 11,
+        9..=10 => kind == 5,
+        11 => match kind {
+            6 | 9 => true,
+            _ => false,
+        },
+        12 => match kind {
+            7 | 10 => true,
+            _ => false,
+        },
+        13 => kind == 8,
+        _ => false,
+    }
+}
+
+// Whether the aircraft with a number is first in sequence, or its leader is on the approach.
+pub fn may_approach(f: Field, number: u16) -> bool
+    ensures { λ r. ⌜ r ≡ mayApproach f number ⌝ }
+{
+    let s = f.sequence;
+    if is_first(s, number) {
+        return true;
+    }
+    match leader_zone(f, number) {
+        9..=12 => true,
+        _ => false,
+    }
+}
+
+// Whether the base opposite to a side holds at most one aircraft.
+pub fn base_free(f: Field, side: u8) -> bool
+    ensures { λ r. ⌜ r ≡ baseFree f side ⌝ }
+{
+    how_many(f, 8 + opposite(side) as usize) <= 1
+}
+
+// The first need of a request for an aircraft at the head of its zone that is not met, by its number: 12, 13 or 14; 0 where all are.
+pub fn head_number(f: Field, r: Request) -> u16
+    ensures { λ n. ⌜ n ≡ firstRefused (headChecks f r) ⌝ }
+{
+    let at = place_of(f, r.number);
+    let zone = at.zone;
+    let place = at.place;
+    if zone == 0 {
+        return 12;
+    }
+    if !starts_from(r.kind, zone) {
+        return 13;
+    }
+    if place != 1 {
+        return 14;
+    }
+    0
+}
+
+// Kind 1: the first need of a vertical entry that is not met; 0 where all are.
+pub fn vertical_number(f: Field, r: Request) -> u16
+    ensures { λ n. ⌜ n ≡ firstRefused (verticalChecks f r) ⌝ }
+{
+    if zone_before(f, r) != 0 {
+        return 11;
+    }
+    if 2 <= potential_of(f, r.side) {
+        return 16;
+    }
+    if approach_holds(f, r.side) {
+        return 17;
+    }
+    let side = r.side as usize;
+    if !is_empty(f, 6 + side) {
+        return 18;
+    }
+    if !is_empty(f, 4 + side) {
+        return 19;
+    }
+    if !is_empty(f, side) {
+        return 20;
+    }
+    0
+}
+
+// Kind 2: the first need of a lateral entry that is not met; 0 where both are.
+pub fn lateral_number(f: Field, r: Request) -> u16
+    ensures { λ n. ⌜ n ≡ firstRefused (lateralChecks f r) ⌝ }
+{
+    if zone_before(f, r) != 0 {
+        return 11;
+    }
+    if potential_of(f, r.side) != 0 {
+        return 16;
+    }
+    0
+}
+
+// Kind 3: the first need of a descent that is not met; 0 where all are.
+pub fn descend_number(f: Field, r: Request) -> u16
+    ensures { λ n. ⌜ n ≡ firstRefused (descendChecks f r) ⌝ }
+{
+    let n = head_number(f, r);
+    if n != 0 {
+        return n;
+    }
+    if !is_empty(f, 2 + zone_before(f, r)) {
+        return 21;
+    }
+    0
+}
+
+// Whether a zone is a lateral zone.
+fn is_lateral(zone: usize) -> bool
+    ensures { λ r. ⌜ r ≡ within 5 6 zone ⌝ }
+{
+    match zone {
+        5..=6 => true,
+        _ => false,
+    }
+}
+
+// Kind 4: the first need of an approach that is not met; 0 where all are, and from a lateral zone.
+pub fn approach_number(f: Field, r: Request) -> u16
+    ensures { λ n. ⌜ n ≡ firstRefused (approachChecks f r) ⌝ }
+{
+    let n = head_number(f, r);
+    if n != 0 {
+        return n;
+    }
+    let zone = zone_before(f, r);
+    if is_lateral(zone) {
+        return 0;
+    }
+    if !may_approach(f, r.number) {
+        return 22;
+    }
+    if !base_free(f, side_of(zone)) {
+        return 23;
+    }
+    0
+}
+
+// Whether the head of the zone of the request's aircraft has flown its leg out.
+pub fn has_flown_out(f: Field, r: Request) -> bool
+    ensures { λ b. ⌜ b ≡ flownOutCheck f r .1 ⌝ }
+{
+    let zone = zone_before(f, r);
+    let legs = f.legs;
+    flown_out_in(legs, zone, aircraft_at(f, zone, 1))
+}
+
+// Whether the aircraft with a number is first in sequence, or its leader is in intermediate or final.
+pub fn may_merge(f: Field, number: u16) -> bool
+    ensures { λ r. ⌜ r ≡ (isFirst (f .sequence) number || within 11 12 (leaderZone f number)) ⌝ }
+{
+    let s = f.sequence;
+    if is_first(s, number) {
+        return true;
+    }
+    match leader_zone(f, number) {
+        11..=12 => true,
+        _ => false,
+    }
+}
+
+// Kinds 6 and 11: the first need of a request from the end of a leg that is not met; 0 where all are.
+pub fn flown_out_number(f: Field, r: Request) -> u16
+    ensures { λ n. ⌜ n ≡ firstRefused (flownOutChecks f r) ⌝ }
+{
+    let n = head_number(f, r);
+    if n != 0 {
+        return n;
+    }
+    if !has_flown_out(f, r) {
+        return 15;
+    }
+    0
+}
+
+// Kind 5: the first need of a merge that is not met; 0 where all are.
+pub fn merge_number(f: Field, r: Request) -> u16
+    ensures { λ n. ⌜ n ≡ firstRefused (mergeChecks f r) ⌝ }
+{
+    let n = head_number(f, r);
+    if n != 0 {
+        return n;
+    }
+    if !has_flown_out(f, r) {
+        return 15;
+    }
+    if !may_merge(f, r.number) {
+        return 22;
+    }
+    0
+}
+
+// Kind 7: the first need of a landing that is not met; 0 where all are.
+pub fn land_number(f: Field, r: Request) -> u16
+    ensures { λ n. ⌜ n ≡ firstRefused (landChecks f r) ⌝ }
+{
+    let n = head_number(f, r);
+    if n != 0 {
+        return n;
+    }
+    if !has_flown_out(f, r) {
+        return 15;
+    }
+    if !is_empty(f, 13) {
+        return 24;
+    }
+    0
+}
+
+// Kind 9: the first need of an exit that is not met; 0 where all are.
+pub fn exit_number(f: Field, r: Request) -> u16
+    ensures { λ n. ⌜ n ≡ firstRefused (exitChecks f r) ⌝ }
+{
+    let n = head_number(f, r);
+    if n != 0 {
+        return n;
+    }
+    let s = f.sequence;
+    if !is_first(s, r.number) {
+        return 22;
+    }
+    0
+}
+
+// The first need of a request that its kind has and the field does not meet; 0 where all are met.
+pub fn check_number(f: Field, r: Request) -> u16
+    ensures { λ n. ⌜ n ≡ firstRefused (checksOf f r) ⌝ }
+{
+    let kind = r.kind;
+    match kind {
+        1 => vertical_number(f, r),
+        2 => lateral_number(f, r),
+        3 => descend_number(f, r),
+        4 => approach_number(f, r),
+        5 => merge_number(f, r),
+        6 | 11 => flown_out_number(f, r),
+        7 => land_number(f, r),
+        8 | 10 => head_number(f, r),
+        9 => exit_number(f, r),
+        _ => 0,
+    }
+}
