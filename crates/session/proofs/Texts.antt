@@ -8,7 +8,7 @@ use native.Mathlib.Numerals.{add-one}
 use native.Mathlib.Omega.{arith}
 use lib.Dec.{ltb}
 use lib.ListN.{length, set, getD, drop, length-append}
-use lib.Seq.{sets, drop-cons, drop-nil, append-snoc}
+use lib.Seq.{sets, length-sets, drop-cons, drop-nil, append-snoc}
 use borrow.Author.Tests.{lt-ltb, le-ltb, ltb-true, ltb-false}
 use Rattle.session.specs.Text.{digitsUpTo, decimal, space, newline, markBefore, line, Put}
 
@@ -70,6 +70,10 @@ sets-append b at (x ∷ xs) ys = sets-append (set b at x) (suc at) xs ys ∙ ap 
 pub put-none : (b : List ℕ) (at : ℕ) → Put b at [] b at
 put-none b at = record { next = omega arith; buffer = refl }
 
+-- the buffer keeps its length
+pub put-same : {b a : List ℕ} {at e : ℕ} {xs : List ℕ} → Put b at xs a e → length a ≡ length b
+put-same {b} {at = at} {xs = xs} p = ap length (p .buffer) ∙ length-sets b at xs
+
 pub put-more : {b m a : List ℕ} {at e f : ℕ} {xs ys : List ℕ} → Put b at xs m e → Put m e ys a f → Put b at (xs ++ ys) a f
 put-more {b} {m} {a} {at} {e} {f} {xs} {ys} p q =
     record {
@@ -79,13 +83,14 @@ put-more {b} {m} {a} {at} {e} {f} {xs} {ys} p q =
 
 -- ---- a loop that puts: what is left to put, after which all is put
 pub record Left (before : List ℕ) (at : ℕ) (all : List ℕ) (buffer : List ℕ) (end : ℕ) (rest : List ℕ) : Type 0 where
+  pub same : length buffer ≡ length before
   pub put : (after : List ℕ) (next : ℕ) → Put buffer end rest after next → Put before at all after next
 
 pub left-all : (b : List ℕ) (at : ℕ) (xs : List ℕ) → Left b at xs b at xs
-left-all b at xs = record { put = λ a e p. p }
+left-all b at xs = record { same = refl; put = λ a e p. p }
 
 pub left-more : {b m n all : List ℕ} {at e f : ℕ} {rest : List ℕ} (xs ys : List ℕ) → Left b at all m e rest → rest ≡ xs ++ ys → Put m e xs n f → Left b at all n f ys
-left-more {m = m} {e = e} xs ys l s p = record { put = λ a g q. l .put a g (subst (λ (r : List ℕ). Put m e r a g) (sym s) (put-more p q)) }
+left-more {m = m} {e = e} xs ys l s p = record { same = put-same p ∙ l .same; put = λ a g q. l .put a g (subst (λ (r : List ℕ). Put m e r a g) (sym s) (put-more p q)) }
 
 pub left-none : {b m all : List ℕ} {at e : ℕ} {rest : List ℕ} → Left b at all m e rest → rest ≡ [] → Put b at all m e
 left-none {m = m} {e = e} l s = l .put m e (subst (λ (r : List ℕ). Put m e r m e) (sym s) (put-none m e))

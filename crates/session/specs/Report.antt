@@ -11,8 +11,10 @@ use Rattle.field.specs.declared.Legs.{Legs}
 use Rattle.field.specs.Boxes.{emptyField}
 use Rattle.field.specs.Counts.{presentOn}
 use Rattle.rules.specs.declared.Answer.{Answer}
-use Rattle.rules.specs.Play.{fieldAfter, played, letIn, taxiedOff, exitedFrom, misses}
+use Rattle.rules.specs.Play.{fieldAfter, played}
+use Rattle.session.specs.declared.tally.Tally.{Tally}
 use Rattle.session.specs.Text.{space, line, room}
+use Rattle.session.specs.Tally.{tallyOf}
 
 -- the legs of a file, "in 64ths of a mile", as the field holds them
 abbrev pub legsInMiles : FileLegs → Legs
@@ -33,15 +35,15 @@ abbrev pub answerLines : ℕ → List (Request × Answer) → List ℕ
 answerLines index [] = []
 answerLines index (p ∷ ps) = answerLine index (p .1) ++ answerLines (suc index) ps
 
--- "The last line is `end`, then accepted entries, taxis, exits, misses, and aircraft present, counted as for demand 3"
-unfoldable pub endLine : List (Request × Answer) → ℕ → List ℕ
-endLine ps present = 101 ∷ 110 ∷ 100 ∷ space ∷ line (letIn ps ∷ taxiedOff ps ∷ exitedFrom ps ∷ misses ps ∷ present ∷ [])
+-- "The last line is `end`, then accepted entries, taxis, exits, misses, and aircraft present"
+unfoldable pub endLine : Tally → ℕ → List ℕ
+endLine t present = 101 ∷ 110 ∷ 100 ∷ space ∷ line (t .entries ∷ t .taxis ∷ t .exits ∷ t .misses ∷ present ∷ [])
 
 -- "starts empty, and prints for each request: index from 1, .. The last line is `end`"
 unfoldable pub sessionReport : Legs → List Request → List ℕ
 sessionReport legs requests =
     answerLines 1 (played (emptyField legs) requests)
-    ++ endLine (played (emptyField legs) requests) (presentOn (fieldAfter (emptyField legs) requests))
+    ++ endLine (tallyOf (played (emptyField legs) requests)) (presentOn (fieldAfter (emptyField legs) requests))
 
 -- "A refused file gives only `file` and the number."
 unfoldable pub refusedReport : ℕ → List ℕ
@@ -56,9 +58,9 @@ practiceReport (holds legs requests) = sessionReport (legsInMiles legs) requests
 unfoldable pub reportOf : List ℕ → List ℕ
 reportOf file = practiceReport (practiceOf file)
 
--- n bytes are written: they are the file's report, and what stands after them in the buffer is as before
-pub record Reported (file : List ℕ) (before : List ℕ) (n : ℕ) (after : List ℕ) : Type 0 where
-  pub size : n ≡ length (reportOf file)
+-- n bytes of the buffer are written: they are the report, and what stands after them is as before
+pub record Written (report : List ℕ) (before : List ℕ) (n : ℕ) (after : List ℕ) : Type 0 where
+  pub size : n ≡ length report
   pub fits : n ≤ room
-  pub bytes : take n after ≡ reportOf file
+  pub bytes : take n after ≡ report
   pub rest : drop n after ≡ drop n before

@@ -1,12 +1,17 @@
--- The closing counts, kept answer by answer: "accepted entries, taxis, exits, misses". Definitions only.
+-- Document 01, "The practice file": the closing counts, of a list of answers and answer by answer. Definitions only.
 use Prim.Native.Nat.{ℕ, _+_, _<_}
 use mathlib.Core.Bool.{Bool, cond}
+use mathlib.Core.List.{List}
 use lib.Dec.{eqb}
 use Rattle.request.specs.declared.Request.{Request}
 use Rattle.request.specs.Input.{isEntry}
 use Rattle.rules.specs.declared.Answer.{Answer}
-use Rattle.rules.specs.Play.{isAccepted}
+use Rattle.rules.specs.Play.{isAccepted, letIn, taxiedOff, exitedFrom, misses}
 use Rattle.session.specs.declared.tally.Tally.{Tally}
+
+-- "accepted entries, taxis, exits, misses, .. counted as for demand 3"
+unfoldable pub tallyOf : List (Request × Answer) → Tally
+tallyOf ps = record { entries = letIn ps; taxis = taxiedOff ps; exits = exitedFrom ps; misses = misses ps }
 
 -- 1 for an answer with number 0 to a request of the kinds, else 0
 abbrev pub one : (ℕ → Bool) → Request × Answer → ℕ

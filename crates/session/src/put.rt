@@ -1,6 +1,7 @@
 // Text put into the caller's buffer, from a place on. Each function yields the place after what it put.
 use crate::Buffer;
-ghost use mathlib.Core.List.{[], _∷_, _++_};
+ghost use mathlib.Core.Path.{_≡_};
+ghost use mathlib.Core.List.{[], _∷_};
 ghost use Prim.Native.Nat.{_+_, _<_, _≤_};
 ghost use lib.ListN.{length};
 ghost use Rattle.session.specs.Text.{decimal, line, room, Put};
@@ -9,15 +10,18 @@ ghost use Rattle.session.specs.Text.{decimal, line, room, Put};
 pub fn put_byte(out: &mut Buffer, at: usize, byte: u8) -> usize
     requires { ⌜ at < room ⌝ }
     ensures { λ r. ⌜ Put (now (out .entry)) at (byte ∷ []) (now (out .exit)) r ⌝ }
+    ensures { λ r. ⌜ length (now (out .entry)) ≡ room ⌝ }
 {
-    out[at] = byte;
+    let bytes: &mut [u8] = out;
+    bytes[at] = byte;
     at + 1
 }
 
-// A text.
+// A text of one byte or more.
 pub fn put_text(out: &mut Buffer, at: usize, text: &[u8]) -> usize
-    requires { ⌜ at + length (now text) ≤ room ⌝ }
+    requires { ⌜ (0 < length (now text)) × (at + length (now text) ≤ room) ⌝ }
     ensures { λ r. ⌜ Put (now (out .entry)) at (now (text .entry)) (now (out .exit)) r ⌝ }
+    ensures { λ r. ⌜ length (now (out .entry)) ≡ room ⌝ }
 {
     let mut end = at;
     let mut i = 0;

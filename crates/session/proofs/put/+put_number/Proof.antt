@@ -62,7 +62,7 @@ put-number-returns : (t : ℕ) → put-number-lts.Need-returns (
 ) (put-number-at t) put-number.Post
 put-number-returns t c =
     subst⁻¹ (λ (bytes : List ℕ). Put (now (c .before .before .before .args .out)) (c .before .before .before .args .at) bytes (c .put-byte .last .0) (c .put-byte .result))
-    (decimal-one (c .before .before .before .args .n) (c .before .before .if1 .taken)) (c .put-byte .ensures)
+    (decimal-one (c .before .before .before .args .n) (c .before .before .if1 .taken)) (c .put-byte .ensures .0)
 
 put-number-put-number-requires : (t : ℕ) → put-number-lts.Need-put-number-requires (
   put-byte-reads.Asked,
@@ -113,7 +113,7 @@ put-number-returns-2 : (t : ℕ) → put-number-lts.Need-returns-2 (
 put-number-returns-2 t c =
     let s = c .before .before .before .before .before in
     subst⁻¹ (λ (bytes : List ℕ). Put (now (s .args .out)) (s .args .at) bytes (c .put-byte2 .last .0) (c .put-byte2 .result))
-    (decimal-more (s .args .n) (c .before .before .before .before .if1 .left)) (put-more (c .before .before .put-number .ensures) (c .put-byte2 .ensures))
+    (decimal-more (s .args .n) (c .before .before .before .before .if1 .left)) (put-more (c .before .before .put-number .ensures) (c .put-byte2 .ensures .0))
 
 pub +put-number-spec : {M : Type 1} → statement M
 +put-number-spec = close μ-put-number λ t. put-number-lts.spec (

@@ -51,7 +51,7 @@ loop-again : tie.Need-loop-again Inv-loop μ-loop
 loop-again c =
     let l = c .before .before .before .before .before .before .before .loop in
     let ns = now (c .before .before .before .before .before .before .before .before .before .args .numbers) in
-    (omega arith, line-more ns (l .i) space (omega arith) (mark-between ns (l .i + 1) (c .before .before .if1 .taken)) (l .inv .1) (c .before .before .before .put-number .ensures) (c .put-byte .ensures))
+    (omega arith, line-more ns (l .i) space (omega arith) (mark-between ns (l .i + 1) (c .before .before .if1 .taken)) (l .inv .1) (c .before .before .before .put-number .ensures) (c .put-byte .ensures .0))
 
 put-byte-requires-2 : tie.Need-put-byte-requires-2 Inv-loop μ-loop
 put-byte-requires-2 c κs =
@@ -68,7 +68,7 @@ loop-again-2 : tie.Need-loop-again-2 Inv-loop μ-loop
 loop-again-2 c =
     let l = c .before .before .before .before .before .before .before .loop in
     let ns = now (c .before .before .before .before .before .before .before .before .before .args .numbers) in
-    (omega arith, line-more ns (l .i) newline (omega arith) (mark-last ns (l .i + 1) (c .before .before .if1 .left)) (l .inv .1) (c .before .before .before .put-number .ensures) (c .put-byte2 .ensures))
+    (omega arith, line-more ns (l .i) newline (omega arith) (mark-last ns (l .i + 1) (c .before .before .if1 .left)) (l .inv .1) (c .before .before .before .put-number .ensures) (c .put-byte2 .ensures .0))
 
 returns : tie.Need-returns Inv-loop μ-loop
 returns c =

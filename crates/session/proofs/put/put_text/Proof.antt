@@ -1,23 +1,24 @@
 -- `session::put::put_text` meets its contract. The loop's invariant: what is left to put are the bytes from i on. Assumes nothing.
-use mathlib.Core.Path.{ap}
+use mathlib.Core.Path.{_≡_, sym, ap, _∙_}
 use mathlib.Core.List.{[], _∷_}
-use Prim.Native.Nat.{_+_, _≤_, _-_}
+use Prim.Native.Nat.{_+_, _≤_, _<_, _-_}
 use native.Mathlib.Omega.{arith}
 use lib.ListN.{length, getD, drop}
 use denote.Ref.{now}
 use borrow.Author.Needs.{needs}
+use Rattle.session.specs.Text.{room}
 use Rattle.session.proofs.Texts.{Left, left-all, left-more, left-none, left-room, from-here, past-all}
 use Rattle.session.proofs.put.put_text.Statement.{statement}
 use Rattle.session.proofs.put.put_text.Tie as tie
 
 abbrev Inv-loop : tie.InvT-loop
-Inv-loop out₀ at text end₀ i₀ out end i = (i ≤ length text) × Left out₀ at text out end (drop i text)
+Inv-loop out₀ at text end₀ i₀ out end i = (i ≤ length text) × Left out₀ at text out end (drop i text) × (0 < i → length out₀ ≡ room)
 
 abbrev μ-loop : tie.MeasureT-loop
 μ-loop out₀ at text end₀ i₀ out end i = length text - i
 
 loop-holds : tie.Need-loop-holds Inv-loop μ-loop
-loop-holds c = (omega arith, left-all _ _ _)
+loop-holds c = (omega arith, left-all _ _ _, λ h. absurd (omega arith))
 
 shared-slice-read-put-byte : tie.Need-shared-slice-read-put-byte Inv-loop μ-loop
 shared-slice-read-put-byte c = search needs
@@ -40,12 +41,13 @@ loop-again : tie.Need-loop-again Inv-loop μ-loop
 loop-again c =
     let l = c .before .before .before .before .loop in
     let text = now (c .before .before .before .before .before .before .args .text) in
-    (omega arith, left-more (getD text (l .i) 0 ∷ []) (drop (l .i + 1) text) (l .inv .1) (from-here text (l .i) (omega arith)) (c .put-byte .ensures))
+    (omega arith, left-more (getD text (l .i) 0 ∷ []) (drop (l .i + 1) text) (l .inv .1) (from-here text (l .i) (omega arith)) (c .put-byte .ensures .0), λ h. sym (l .inv .1 .same) ∙ c .put-byte .ensures .1)
 
 returns : tie.Need-returns Inv-loop μ-loop
 returns c =
     let l = c .before .loop in
-    left-none (l .inv .1) (past-all (now (c .before .before .before .args .text)) (l .i) (omega arith))
+    let s = c .before .before .before in
+    (left-none (l .inv .1) (past-all (now (s .args .text)) (l .i) (omega arith)), l .inv .2 (omega (arith, s .pre .0)))
 
 pub put-text-spec : {M : Type 1} → statement M
 put-text-spec =
