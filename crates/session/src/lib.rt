@@ -73,3 +73,11 @@ pub fn report(file: &[u8], out: &mut Buffer) -> usize
     }
     play_all(&file[34..], legs_in_miles(file_legs(file)), out)
 }
+
+// The same for C and Rust (include/session.h).
+#[no_mangle]
+pub extern "C" fn baguymo_report(file: &[u8], out: &mut Buffer) -> usize
+    ensures { λ r. ⌜ Written (reportOf (now (file .entry))) (now (out .entry)) r (now (out .exit)) ⌝ }
+{
+    report(file, out)
+}
