@@ -1,0 +1,5 @@
+pub mod Answers
+pub mod Texts
+pub mod Tallies
+pub mod Playing
+pub mod Reports

@@ -1,0 +1,66 @@
+-- Document 01, "The practice file": what the program `play` prints. Definitions only.
+use Prim.Native.Nat.{ℕ, suc, _≤_}
+use mathlib.Core.Path.{_≡_}
+use mathlib.Core.List.{List, [], _∷_, _++_}
+use lib.ListN.{length, take, drop}
+use Rattle.leg.specs.Progress.{sixtyFourths}
+use Rattle.request.specs.declared.Request.{Request}
+use Rattle.practice.specs.declared.FileLegs.{FileLegs}
+use Rattle.practice.specs.Practice.{Practice, refused, holds, practiceOf}
+use Rattle.field.specs.declared.Legs.{Legs}
+use Rattle.field.specs.Boxes.{emptyField}
+use Rattle.field.specs.Counts.{presentOn}
+use Rattle.rules.specs.declared.Answer.{Answer}
+use Rattle.rules.specs.Play.{fieldAfter, played}
+use Rattle.session.specs.declared.tally.Tally.{Tally}
+use Rattle.session.specs.Text.{space, line, room}
+use Rattle.session.specs.Tally.{tallyOf}
+
+-- the legs of a file, "in 64ths of a mile", as the field holds them
+abbrev pub legsInMiles : FileLegs → Legs
+legsInMiles legs =
+    record {
+      missed = sixtyFourths (legs .missed);
+      base = sixtyFourths (legs .base);
+      intermediate = sixtyFourths (legs .intermediate);
+      «final_approach» = sixtyFourths (legs .last);
+    }
+
+-- "prints for each request: index .., number, aircraft, zone, fix, leader, along"
+unfoldable pub answerLine : ℕ → Answer → List ℕ
+answerLine index a = line (index ∷ a .number ∷ a .aircraft ∷ a .zone ∷ a .fix ∷ a .leader ∷ a .along ∷ [])
+
+-- the lines of requests and their answers, the first with this index
+abbrev pub answerLines : ℕ → List (Request × Answer) → List ℕ
+answerLines index [] = []
+answerLines index (p ∷ ps) = answerLine index (p .1) ++ answerLines (suc index) ps
+
+-- "The last line is `end`, then accepted entries, taxis, exits, misses, and aircraft present"
+unfoldable pub endLine : Tally → ℕ → List ℕ
+endLine t present = 101 ∷ 110 ∷ 100 ∷ space ∷ line (t .entries ∷ t .taxis ∷ t .exits ∷ t .misses ∷ present ∷ [])
+
+-- "starts empty, and prints for each request: index from 1, .. The last line is `end`"
+unfoldable pub sessionReport : Legs → List Request → List ℕ
+sessionReport legs requests =
+    answerLines 1 (played (emptyField legs) requests)
+    ++ endLine (tallyOf (played (emptyField legs) requests)) (presentOn (fieldAfter (emptyField legs) requests))
+
+-- "A refused file gives only `file` and the number."
+unfoldable pub refusedReport : ℕ → List ℕ
+refusedReport number = 102 ∷ 105 ∷ 108 ∷ 101 ∷ space ∷ line (number ∷ [])
+
+-- the report of what a file means
+abbrev pub practiceReport : Practice → List ℕ
+practiceReport (refused number) = refusedReport number
+practiceReport (holds legs requests) = sessionReport (legsInMiles legs) requests
+
+-- "The program `play` reads one file .. and prints": the report of a file of these bytes
+unfoldable pub reportOf : List ℕ → List ℕ
+reportOf file = practiceReport (practiceOf file)
+
+-- n bytes of the buffer are written: they are the report, and what stands after them is as before
+pub record Written (report : List ℕ) (before : List ℕ) (n : ℕ) (after : List ℕ) : Type 0 where
+  pub size : n ≡ length report
+  pub fits : n ≤ room
+  pub bytes : take n after ≡ report
+  pub rest : drop n after ≡ drop n before
