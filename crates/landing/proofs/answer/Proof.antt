@@ -9,7 +9,7 @@ use Rattle.field.specs.declared.Field.{Field}
 use Rattle.rules.specs.declared.Answer.{Answer}
 use Rattle.rules.specs.Kinds.{heldAlong}
 use Rattle.rules.specs.Step.{numberAndZeros, acceptance}
-use Rattle.rules.proofs.Tests.{if-false}
+use Rattle.field.proofs.Tests.{if-false}
 use borrow.Author.Needs.{needs}
 use Rattle.landing.proofs.answer.Statement.{statement}
 use Rattle.landing.proofs.answer.Tie as tie

@@ -12,7 +12,7 @@ use Rattle.rules.specs.declared.Answer.{Answer}
 use Rattle.rules.specs.declared.Stepped.{Stepped}
 use Rattle.rules.specs.Kinds.{heldAlong}
 use Rattle.rules.specs.Step.{effectOf, numberOf, numberAndZeros, acceptance, answerOf}
-use Rattle.rules.proofs.Tests.{if-true, if-false}
+use Rattle.field.proofs.Tests.{if-true, if-false}
 use Rattle.landing.proofs.Steps.{number-by, turned-away, let-through}
 use borrow.Author.Needs.{needs}
 use Rattle.landing.proofs.step.Statement.{statement}

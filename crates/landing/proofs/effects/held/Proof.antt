@@ -8,7 +8,7 @@ use Rattle.field.specs.Boxes.{at3000, at2000, sideOf}
 use Rattle.field.specs.Bounds.{isEmpty}
 use Rattle.field.proofs.Parts.{holds, fails}
 use Rattle.rules.specs.Kinds.{zoneBefore, moved, held}
-use Rattle.rules.proofs.Tests.{if-true, if-false}
+use Rattle.field.proofs.Tests.{if-true, if-false}
 use borrow.Author.Needs.{needs}
 use Rattle.landing.proofs.effects.held.Statement.{statement}
 use Rattle.landing.proofs.effects.held.Tie as tie

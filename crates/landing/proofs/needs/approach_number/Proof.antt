@@ -6,7 +6,7 @@ use Rattle.request.specs.Input.{within}
 use Rattle.field.specs.Boxes.{sideOf}
 use Rattle.field.proofs.Parts.{or-first, or-else, holds, fails}
 use Rattle.rules.specs.Kinds.{zoneBefore, baseFree, headChecks, approachChecks}
-use Rattle.rules.proofs.Tests.{if-true, if-false}
+use Rattle.field.proofs.Tests.{if-true, if-false}
 use Rattle.landing.proofs.Refused.{refusedOr, head-met, head-unmet}
 use borrow.Author.Needs.{needs}
 use Rattle.landing.proofs.needs.approach_number.Statement.{statement}

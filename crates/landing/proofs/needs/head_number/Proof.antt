@@ -5,7 +5,7 @@ use lib.Dec.{eqb}
 use Rattle.field.specs.declared.Place.{Place}
 use Rattle.field.proofs.Parts.{is, is-not, holds, fails}
 use Rattle.rules.specs.Kinds.{zoneBefore, startsFrom}
-use Rattle.rules.proofs.Tests.{if-true, if-false}
+use Rattle.field.proofs.Tests.{if-true, if-false}
 use borrow.Author.Needs.{needs}
 use Rattle.landing.proofs.needs.head_number.Statement.{statement}
 use Rattle.landing.proofs.needs.head_number.Tie as tie

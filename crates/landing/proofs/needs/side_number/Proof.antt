@@ -1,7 +1,7 @@
 -- `landing::needs::side_number` meets its contract, zone by zone. Assumes nothing.
 use mathlib.Core.Path.{sym, _∙_}
 use Rattle.field.proofs.Parts.{holds, fails}
-use Rattle.rules.proofs.Tests.{if-true, if-false}
+use Rattle.field.proofs.Tests.{if-true, if-false}
 use borrow.Author.Needs.{needs}
 use Rattle.landing.proofs.needs.side_number.Statement.{statement}
 use Rattle.landing.proofs.needs.side_number.Tie as tie

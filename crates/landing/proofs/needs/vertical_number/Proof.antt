@@ -8,7 +8,7 @@ use borrow.Author.Tests.{lt-ltb, le-ltb}
 use Rattle.field.specs.Counts.{potentialOf}
 use Rattle.field.proofs.Parts.{is, is-not}
 use Rattle.rules.specs.Kinds.{zoneBefore, verticalChecks}
-use Rattle.rules.proofs.Tests.{if-true, if-false}
+use Rattle.field.proofs.Tests.{if-true, if-false}
 use borrow.Author.Needs.{needs}
 use Rattle.landing.proofs.needs.vertical_number.Statement.{statement}
 use Rattle.landing.proofs.needs.vertical_number.Tie as tie
