@@ -25,3 +25,6 @@ pub mod Outcomes
 pub mod Runs
 pub mod Unstuck
 pub mod Demand
+pub mod AlongLine
+pub mod Crowded
+pub mod Reason

@@ -3,3 +3,4 @@ pub mod Step
 pub mod Play
 pub mod Demand
 pub mod Cases
+pub mod Reason

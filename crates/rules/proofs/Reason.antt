@@ -1,0 +1,2 @@
+-- placeholder
+use lib.Dec.{T}
