@@ -22,7 +22,7 @@ use Rattle.order.specs.Model.{Side, right, left, opp, num, between, sameArea, o
 use Rattle.order.specs.Model as model
 use Rattle.order.proofs.Facts.{okay-zones}
 use Rattle.rules.specs.Reason.{Listed, listed, along, those, isInZone, isInArea, hasFix, neverFalls, eachAmong, fromLanding, approachOrder, heightIn, areaOrder, hasRoom, roomToMiss, lateralFree, lateralEntry, Reason}
-use Rattle.rules.proofs.Tests.{passed, pass, failed, fail, decided, if-true, if-false, each-zone}
+use Rattle.rules.proofs.Tests.{pass, failed, fail, decided, or-left, or-right, each-zone}
 use Rattle.rules.proofs.Line.{Placed, zonesIn, numbersOf, inside, fieldOf, order-for}
 use Rattle.rules.proofs.Counted.{Alternates, in-line, lower}
 use Rattle.rules.proofs.Located.{numbers, located, fix-there}
@@ -212,11 +212,119 @@ area-line s f (e ∷ l) t = go (decided (isIn (e .zone) (area (num s)))) (area-l
             let c = height-is s (e .zone) (k .here) v in
             let h = height-is s (d .zone) u w in
             let n = m .heights s v w in
-            Rattle.rules.proofs.Tests.or-right (not (p (seen d))) (leb (heightIn (num s) (e .zone)) (heightIn (num s) (d .zone))) (le→leb (heightIn (num s) (e .zone)) (heightIn (num s) (d .zone)) (omega arith))
-        either d u m (inr b) = Rattle.rules.proofs.Tests.or-left (not (p (seen d))) (leb (heightIn (num s) (e .zone)) (heightIn (num s) (d .zone))) (fail b)
+            or-right (not (p (seen d))) (leb (heightIn (num s) (e .zone)) (heightIn (num s) (d .zone))) (le→leb (heightIn (num s) (e .zone)) (heightIn (num s) (d .zone)) (omega arith))
+        either d u m (inr b) = or-left (not (p (seen d))) (leb (heightIn (num s) (e .zone)) (heightIn (num s) (d .zone))) (fail b)
 
     go : (isIn (e .zone) (area (num s)) ≡ true) ⊎ (isIn (e .zone) (area (num s)) ≡ false) → T (neverFalls (map g (those p (map seen l)))) → T (neverFalls (map g (cond (isIn (e .zone) (area (num s))) (seen e ∷ those p (map seen l)) (those p (map seen l)))))
     go (inl b) h =
         subst (λ (c : Bool). T (neverFalls (map g (cond c (seen e ∷ those p (map seen l)) (those p (map seen l)))))) (sym b)
         (and-i (every (leb (g (seen e))) (map g (those p (map seen l)))) (neverFalls (map g (those p (map seen l)))) (behind (pass (sym (area-is s (e .zone) (k .here)) ∙ b))) h)
     go (inr b) h = subst (λ (c : Bool). T (neverFalls (map g (cond c (seen e ∷ those p (map seen l)) (those p (map seen l)))))) (sym b) h
+
+-- ---- 3
+area-number : (s : Side) (l : List Placed) → T (all (between 1 12) (zonesIn l)) → length (those (isInArea (num s)) (map seen l)) ≡ number (ofArea s) (zonesIn l)
+area-number s [] t = refl
+area-number s (e ∷ l) t =
+    ap (λ (b : Bool). length (cond b (seen e ∷ those (isInArea (num s)) (map seen l)) (those (isInArea (num s)) (map seen l)))) (area-is s (e .zone) (and-l (between 1 12 (e .zone)) (all (between 1 12) (zonesIn l)) t))
+    ∙ go (ofArea s (e .zone)) (area-number s l (and-r (between 1 12 (e .zone)) (all (between 1 12) (zonesIn l)) t))
+  where
+    go : (b : Bool) → length (those (isInArea (num s)) (map seen l)) ≡ number (ofArea s) (zonesIn l)
+        → length (cond b (seen e ∷ those (isInArea (num s)) (map seen l)) (those (isInArea (num s)) (map seen l))) ≡ one b + number (ofArea s) (zonesIn l)
+    go true h = omega arith
+    go false h = omega arith
+
+-- how many of those ahead have the side as fix, with one more ahead
+ahead-more : (s g : Side) (e : Placed) (ahead : List Listed) → e .aircraft .fix ≡ num g → length (those (hasFix (num s)) (seen e ∷ ahead)) ≡ one (eqb (num g) (num s)) + length (those (hasFix (num s)) ahead)
+ahead-more s g e ahead h =
+    ap (λ (n : ℕ). length (cond (eqb n (num s)) (seen e ∷ those (hasFix (num s)) ahead) (those (hasFix (num s)) ahead))) h ∙ go (eqb (num g) (num s))
+  where
+    go : (b : Bool) → length (cond b (seen e ∷ those (hasFix (num s)) ahead) (those (hasFix (num s)) ahead)) ≡ one b + length (those (hasFix (num s)) ahead)
+    go true = omega arith
+    go false = omega arith
+
+pub same-fix : (f : Side) → one (eqb (num f) (num f)) ≡ 1
+same-fix right = refl
+same-fix left = refl
+
+pub other-fix : (f : Side) → one (eqb (num f) (num (opp f))) ≡ 0
+other-fix right = refl
+other-fix left = refl
+
+opp-opp : (f : Side) → opp (opp f) ≡ f
+opp-opp right = refl
+opp-opp left = refl
+
+-- with k ahead in turn, k / 2 have the fix of the next one
+pub room-line : (k : ℕ) (f : Side) (ahead : List Listed) (l : List Placed) → length (those (hasFix (num f)) ahead) ≡ k / 2 → length (those (hasFix (num (opp f))) ahead) ≡ suc k / 2
+    → Alternates f l → T (all (between 1 12) (zonesIn l)) → T (model.roomToMiss k f (zonesIn l)) → T (eachAmong hasRoom ahead (map seen l))
+room-line k f ahead [] p q a t r = tt
+room-line k f ahead (e ∷ l) p q a t r =
+    let ins = and-r (between 1 12 (e .zone)) (all (between 1 12) (zonesIn l)) t in
+    let n = number (ofArea f) (zonesIn l) in
+    let rest = model.roomToMiss (suc k) (opp f) (zonesIn l) in
+    let c = area-number f l ins in
+    let h = leb→le (n + k / 2) 1 (and-l (leb (n + k / 2) 1) rest r) in
+    let room : T (leb (length (those (isInArea (num f)) (map seen l)) + length (those (hasFix (num f)) ahead)) 1) = le→leb (length (those (isInArea (num f)) (map seen l)) + length (those (hasFix (num f)) ahead)) 1 (omega arith) in
+    let same = ahead-more f f e ahead (a .0) in
+    let other = ahead-more (opp f) f e ahead (a .0) in
+    let one-more = same-fix f in
+    let no-more = other-fix f in
+    let p₂ : length (those (hasFix (num (opp f))) (seen e ∷ ahead)) ≡ suc k / 2 = omega arith in
+    let q₁ : length (those (hasFix (num f)) (seen e ∷ ahead)) ≡ suc (suc k) / 2 = omega arith in
+    let q₂ : length (those (hasFix (num (opp (opp f)))) (seen e ∷ ahead)) ≡ suc (suc k) / 2 = subst (λ (g : Side). length (those (hasFix (num g)) (seen e ∷ ahead)) ≡ suc (suc k) / 2) (sym (opp-opp f)) q₁ in
+    and-i (hasRoom ahead (seen e) (map seen l)) (eachAmong hasRoom (seen e ∷ ahead) (map seen l))
+    (subst (λ (s : ℕ). T (leb (length (those (isInArea s) (map seen l)) + length (those (hasFix s) ahead)) 1)) (sym (a .0)) room)
+    (room-line (suc k) (opp f) (seen e ∷ ahead) l p₂ q₂ (a .1) ins (and-r (leb (n + k / 2) 1) rest r))
+
+-- ---- 4
+-- nobody of those ahead has the side of a lateral zone w as fix
+abbrev clear : List Listed → ℕ → Bool
+clear ahead w = not (within 5 6 w) || eqb (length (those (hasFix (sideOf w)) ahead)) 0
+
+clear-more : (f : Side) (e : Placed) (ahead : List Listed) (w : ℕ) → e .aircraft .fix ≡ num f → T (between 1 12 w) → Leads f (e .zone) w → T (clear ahead w) → T (clear (seen e ∷ ahead) w)
+clear-more f e ahead w h u m t = go (decided (within 5 6 w))
+  where
+    go : (within 5 6 w ≡ true) ⊎ (within 5 6 w ≡ false) → T (clear (seen e ∷ ahead) w)
+    go (inl b) =
+        let other : eqb (e .aircraft .fix) (sideOf w) ≡ false = ap (λ (n : ℕ). eqb n (sideOf w)) h ∙ lateral-side f w u (pass b) (m .laterals (pass b)) in
+        subst (λ (c : Bool). T (not (within 5 6 w) || eqb (length (cond c (seen e ∷ those (hasFix (sideOf w)) ahead) (those (hasFix (sideOf w)) ahead))) 0)) (sym other) t
+    go (inr b) = or-left (not (within 5 6 w)) (eqb (length (those (hasFix (sideOf w)) (seen e ∷ ahead))) 0) (fail b)
+
+clear-behind : (f : Side) (e : Placed) (ahead : List Listed) (zs : List ℕ) → e .aircraft .fix ≡ num f → T (all (between 1 12) zs) → T (all (mayLead f (e .zone)) zs) → T (all (clear ahead) zs) → T (all (clear (seen e ∷ ahead)) zs)
+clear-behind f e ahead [] h u m t = tt
+clear-behind f e ahead (w ∷ zs) h u m t =
+    and-i (clear (seen e ∷ ahead) w) (all (clear (seen e ∷ ahead)) zs)
+    (clear-more f e ahead w h (and-l (between 1 12 w) (all (between 1 12) zs) u) (leads f (e .zone) w (and-l (mayLead f (e .zone) w) (all (mayLead f (e .zone)) zs) m)) (and-l (clear ahead w) (all (clear ahead) zs) t))
+    (clear-behind f e ahead zs h (and-r (between 1 12 w) (all (between 1 12) zs) u) (and-r (mayLead f (e .zone) w) (all (mayLead f (e .zone)) zs) m) (and-r (clear ahead w) (all (clear ahead) zs) t))
+
+pub lateral-line : (f : Side) (ahead : List Listed) (l : List Placed) → Alternates f l → T (chain f (zonesIn l)) → T (all (clear ahead) (zonesIn l)) → T (eachAmong lateralFree ahead (map seen l))
+lateral-line f ahead [] a t c = tt
+lateral-line f ahead (e ∷ l) a t c =
+    let k = link f (e .zone) (zonesIn l) t in
+    and-i (lateralFree ahead (seen e) (map seen l)) (eachAmong lateralFree (seen e ∷ ahead) (map seen l))
+    (and-l (clear ahead (e .zone)) (all (clear ahead) (zonesIn l)) c)
+    (lateral-line (opp f) (seen e ∷ ahead) l (a .1) (k .rest)
+    (clear-behind f e ahead (zonesIn l) (a .0) (chained (opp f) (zonesIn l) (k .rest)) (k .leading) (and-r (clear ahead (e .zone)) (all (clear ahead) (zonesIn l)) c)))
+
+-- nobody is ahead of the first
+none-ahead : (zs : List ℕ) → T (all (clear []) zs)
+none-ahead [] = tt
+none-ahead (z ∷ zs) = and-i (clear [] z) (all (clear []) zs) (or-right (not (within 5 6 z)) true tt) (none-ahead zs)
+
+-- ---- the five together
+pub orderly-reason : (f : Side) (line : List Placed) (runway : List Aircraft) (legs : Legs) → Orderly f line runway legs → Reason (fieldOf f line runway legs)
+unfolding okay approachOrder areaOrder roomToMiss lateralEntry
+orderly-reason f line runway legs o =
+    let zs = zonesIn line in
+    let is = along-line f line runway legs o in
+    let ok = and-l (leb (length zs) 4 && chain f zs) (model.roomToMiss 0 f zs) (o .okay-line) in
+    let chains = and-r (leb (length zs) 4) (chain f zs) ok in
+    let ins = okay-zones f zs (o .okay-line) in
+    let side : (s : Side) → T (areaOrder (fieldOf f line runway legs) (num s)) = λ s. subst (λ (l : List Listed). T (neverFalls (map (λ (a : Listed). heightIn (num s) (a .zone)) (those (isInArea (num s)) l)))) (sym is) (area-line s f line chains) in
+    record {
+      approach-order = subst (λ (l : List Listed). T (neverFalls (map (λ (a : Listed). fromLanding (a .zone)) l))) (sym is) (approach-line f line chains);
+      area-order = and-i (areaOrder (fieldOf f line runway legs) 1) (areaOrder (fieldOf f line runway legs) 2) (side right) (side left);
+      room-to-miss = subst (λ (l : List Listed). T (eachAmong hasRoom [] l)) (sym is) (room-line 0 f [] line refl refl (o .alternates) ins (and-r (leb (length zs) 4 && chain f zs) (model.roomToMiss 0 f zs) (o .okay-line)));
+      lateral-entry = subst (λ (l : List Listed). T (eachAmong lateralFree [] l)) (sym is) (lateral-line f [] line (o .alternates) chains (none-ahead zs));
+      queues-agree = queues-line f line runway legs o;
+    }
