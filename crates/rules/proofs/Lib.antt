@@ -26,5 +26,6 @@ pub mod Runs
 pub mod Unstuck
 pub mod Demand
 pub mod AlongLine
+pub mod Room
 pub mod Crowded
 pub mod Reason
