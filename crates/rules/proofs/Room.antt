@@ -7,7 +7,7 @@ use mathlib.Core.List.{List, [], _∷_, _++_, map}
 use Prim.Native.Nat.{ℕ, zero, suc, _+_, _≤_, _<_}
 use native.Mathlib.Omega.{arith}
 use lib.Dec.{T, leb, eqb, leb→le, eqb→eq}
-use lib.ListN.{length, getD}
+use lib.ListN.{length, length-map, getD}
 use lib.Ieee.Fits.{and-i, and-l, and-r}
 use borrow.Author.Tests.{eqb-true, eqb-false, eq-eqb, ne-eqb}
 use Rattle.request.specs.Input.{within}
@@ -119,10 +119,6 @@ final-begins f n queue (m ∷ ms) t e = go (decided (eqb (placeOf f m .zone) 12)
         absurd (let h = ap length p in omega arith)
 
 -- ---- the count of an area's queues is a count along the sequence
-length-map : {A : Type 0} (g : A → ℕ) (xs : List A) → length (map g xs) ≡ length xs
-length-map g [] = refl
-length-map g (x ∷ xs) = ap suc (length-map g xs)
-
 -- one aircraft counts in one zone at the most
 in-one : (w : ℕ) (zs : List ℕ) → T (allDifferent zs) → total (λ z. one (eqb w z)) zs ≤ one (isIn w zs)
 in-one w zs t = elim (decided (isIn w zs)) [
@@ -151,3 +147,84 @@ in-zones zs t (x ∷ xs) =
     split : (p : Listed → Bool) (b : Bool) → length (cond b (x ∷ those p xs) (those p xs)) ≡ one b + length (those p xs)
     split p true = omega arith
     split p false = omega arith
+
+-- ---- bound g: the fix of an aircraft is a side
+every-listed : (p : ℕ → Bool) (zs : List ℕ) (w : ℕ) → T (every p zs) → isIn w zs ≡ true → T (p w)
+every-listed p [] w t i = absurd (false≢true i)
+every-listed p (z ∷ zs) w t i = go (decided (eqb z w)) (every-listed p zs w (and-r (p z) (every p zs) t))
+  where
+    go : (eqb z w ≡ true) ⊎ (eqb z w ≡ false) → (isIn w zs ≡ true → T (p w)) → T (p w)
+    go (inl e) later = subst (λ (y : ℕ). T (p y)) (eqb-true z w e) (and-l (p z) (every p zs) t)
+    go (inr e) later = later (sym (ap (λ (b : Bool). b || isIn w zs) e) ∙ i)
+
+g-of : (f : Field) → T (withinBounds f) → T (boundG f)
+unfolding withinBounds
+g-of f t = and-r (boundA f && boundB f && boundC f && boundD f && boundE f && boundF f) (boundG f) t
+
+fix-side : (f : Field) → T (withinBounds f) → (x : Aircraft) (rest : List Aircraft) → inZone f 12 ≡ x ∷ rest → T (isSide (x .fix))
+unfolding boundG fitsZone
+fix-side f t x rest e =
+    let zones = every (λ z. every (fitsZone (f .legs) z) (inZone f z)) everywhere in
+    let fits = and-l zones (isSide (f .next)) (and-l (zones && isSide (f .next)) (legalLegs (f .legs)) (g-of f t)) in
+    let all-12 = subst (λ (q : List Aircraft). T (every (fitsZone (f .legs) 12) q)) e (every-listed (λ z. every (fitsZone (f .legs) z) (inZone f z)) everywhere 12 fits refl) in
+    let one-12 = and-l (fitsZone (f .legs) 12 x) (every (fitsZone (f .legs) 12) rest) all-12 in
+    and-first (isSide (x .fix)) _ _ one-12
+  where
+    and-first : (a b c : Bool) → T (a && b && c) → T a
+    and-first a b c t = and-l a b (and-l (a && b) c t)
+
+side-is : (P : ℕ → Type 0) → P 1 → P 2 → (s : ℕ) → T (isSide s) → P s
+unfolding isSide
+side-is P p q s t = elim (decided (eqb s 1)) [
+  | inl e ↦ subst P (sym (eqb-true s 1 e)) p
+  | inr e ↦ subst P (sym (eqb→eq s 2 (subst (λ (b : Bool). T (b || eqb s 2)) e t))) q
+]
+
+-- ---- room at the side
+module _ (f : Field) (c : Reason f) where
+  -- the count of a zone's queue is a count along the sequence
+  how-many-along : (z : ℕ) → T (within 1 12 z) → howMany f z ≡ length (those (isInZone z) (along f))
+  unfolding howMany
+  how-many-along z t = sym (length-map (inZone f z) (λ (a : Aircraft). a .number)) ∙ ap length (c .queues-agree z t) ∙ length-map (those (isInZone z) (along f)) (λ (a : Listed). a .number)
+
+  total-along : (zs : List ℕ) → T (every (within 1 12) zs) → total (howMany f) zs ≡ total (λ z. length (those (isInZone z) (along f))) zs
+  total-along [] t = refl
+  total-along (z ∷ zs) t =
+      let a = how-many-along z (and-l (within 1 12 z) (every (within 1 12) zs) t) in
+      let b = total-along zs (and-r (within 1 12 z) (every (within 1 12) zs) t) in
+      omega arith
+
+  area-along : (s : ℕ) → T (isSide s) → inArea f s ≤ length (those (isInArea s) (along f))
+  unfolding inArea
+  area-along = side-is (λ s. total (howMany f) (area s) ≤ length (those (isInArea s) (along f)))
+      (let a = total-along (area 1) tt in let b = in-zones (area 1) tt (along f) in omega arith)
+      (let a = total-along (area 2) tt in let b = in-zones (area 2) tt (along f) in omega arith)
+
+  -- whoever is on final and first in the sequence has room
+  room-first : (n : ℕ) → Begins f n (orderOf (f .sequence)) → T (isSide (fixOf f n)) → inArea f (fixOf f n) ≤ 1
+  unfolding along roomToMiss
+  room-first n b t =
+      let s = fixOf f n in
+      let behind = map (listed f) (b .rest) in
+      let is : along f ≡ listed f n ∷ behind = ap (map (listed f)) (b .is) in
+      let rooms = subst (λ (l : List Listed). T (eachAmong hasRoom [] l)) is (c .room-to-miss) in
+      let room = leb→le (length (those (isInArea s) behind) + 0) 1 (and-l (hasRoom [] (listed f n) behind) (eachAmong hasRoom (listed f n ∷ []) behind) rooms) in
+      let outside : isInArea s (listed f n) ≡ false = ap (λ (z : ℕ). isIn z (area s)) (b .final) ∙ side-is (λ s. isIn 12 (area s) ≡ false) refl refl s t in
+      let same : length (those (isInArea s) (along f)) ≡ length (those (isInArea s) behind) = ap (λ (l : List Listed). length (those (isInArea s) l)) is ∙ ap length (if-false (listed f n ∷ those (isInArea s) behind) (those (isInArea s) behind) outside) in
+      let a = area-along s t in
+      omega arith
+
+  -- of any field within the bounds: whoever heads final finds at most one aircraft in the area of its fix
+  pub reason-gives-room : T (withinBounds f) → RoomAtSide f
+  unfolding approachOrder along placeOf fixOf aircraftAt
+  reason-gives-room t n h =
+      let z = eqb→eq (placeOf f n .zone) 12 (and-l (eqb (placeOf f n .zone) 12) (eqb (placeOf f n .place) 1) h) in
+      let k = eqb→eq (placeOf f n .place) 1 (and-r (eqb (placeOf f n .zone) 12) (eqb (placeOf f n .place) 1) h) in
+      let q : Heads n (inZone f 12) = elim (find-place f n everywhere) [
+        | inl e ↦ absurd (let y : placeOf f n .zone ≡ 0 = ap (λ (p : Place). p .zone) e in omega arith)
+        | inr e ↦ place-one n (inZone f 12) (ap (λ (w : ℕ). placeFrom 1 n (inZone f w)) (sym z) ∙ e ∙ k)
+      ] in
+      let begins = final-begins f n (map (λ (a : Aircraft). a .number) (q .rest)) (orderOf (f .sequence)) (c .approach-order)
+          (ap (λ (m : ℕ). m ∷ map (λ (a : Aircraft). a .number) (q .rest)) (sym (q .named)) ∙ sym (ap (map (λ (a : Aircraft). a .number)) (q .is)) ∙ c .queues-agree 12 tt) in
+      let fix : fixOf f n ≡ q .head .fix = ap (λ (w : ℕ). aircraftAt f w (placeOf f n .place) .fix) z ∙ ap (λ (i : ℕ). aircraftAt f 12 i .fix) k ∙ ap (λ (l : List Aircraft). getD (nobody ∷ l) 1 nobody .fix) (q .is) in
+      room-first n begins (subst (λ (s : ℕ). T (isSide s)) (sym fix) (fix-side f t (q .head) (q .rest) (q .is)))
