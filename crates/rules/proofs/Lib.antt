@@ -27,5 +27,5 @@ pub mod Unstuck
 pub mod Demand
 pub mod AlongLine
 pub mod Room
-pub mod Crowded
+pub mod Examples
 pub mod Reason

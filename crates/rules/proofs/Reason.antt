@@ -2,7 +2,7 @@
 -- side. Assumes nothing.
 use mathlib.Core.Path.{_≡_, refl, sym, ap, _∙_, subst}
 use mathlib.Core.Logic.{_⊎_, inl, inr}
-use mathlib.Core.Bool.{Bool, true, false, cond, _&&_, _||_}
+use mathlib.Core.Bool.{Bool, true, false, cond, _&&_, _||_, false≢true}
 use mathlib.Core.List.{List, [], _∷_, _++_}
 use Prim.Native.Nat.{ℕ, _≤_}
 use native.Mathlib.Omega.{arith}
@@ -25,7 +25,8 @@ use Rattle.rules.specs.Kinds.{startsFrom, headChecks, zoneBefore}
 use Rattle.rules.specs.Step.{checksOf, effectOf, numberOf, stepOf}
 use Rattle.rules.specs.Play.{fieldAfter}
 use Rattle.rules.specs.Reason.{Reason, RoomAtSide}
-use Rattle.rules.proofs.Tests.{pass, decided, if-true, if-false}
+use Rattle.rules.specs.Examples.{crowded}
+use Rattle.rules.proofs.Tests.{passed, pass, decided, if-true, if-false}
 use Rattle.rules.proofs.Line.{Placed, fieldOf, empty-is}
 use Rattle.rules.proofs.Orderly.{Orderly}
 use Rattle.rules.proofs.Within.{within-bounds}
@@ -33,6 +34,7 @@ use Rattle.rules.proofs.Checks.{checks-at}
 use Rattle.rules.proofs.Outcomes.{number-is}
 use Rattle.rules.proofs.Runs.{Run, runs}
 use Rattle.rules.proofs.AlongLine.{orderly-reason}
+use Rattle.rules.proofs.Examples.{bounds-not-enough}
 use Rattle.rules.proofs.Room.{reason-gives-room}
 
 -- ---- after every list
@@ -65,6 +67,10 @@ after-one-more f (q ∷ rs) r = after-one-more (stepOf f q .field) rs r
 -- after any list, every request keeps the reason
 pub reason-kept : (legs : Legs) → T (legalLegs legs) → (rs : List Request) (r : Request) → Reason (stepOf (fieldAfter (emptyField legs) rs) r .field)
 reason-kept legs l rs r = subst Reason (after-one-more (emptyField legs) rs r) (reason-holds legs l (rs ++ (r ∷ [])))
+
+-- the field on which 25 refuses a miss is reached by no list
+pub crowded-not-reached : (legs : Legs) → T (legalLegs legs) → (rs : List Request) → fieldAfter (emptyField legs) rs ≡ crowded → ⊥
+crowded-not-reached legs l rs e = false≢true (sym (bounds-not-enough .no-room) ∙ passed (subst Reason e (reason-holds legs l rs) .room-to-miss))
 
 -- ---- a missed approach that is accepted
 

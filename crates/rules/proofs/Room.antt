@@ -225,6 +225,6 @@ module _ (f : Field) (c : Reason f) where
         | inr e ↦ place-one n (inZone f 12) (ap (λ (w : ℕ). placeFrom 1 n (inZone f w)) (sym z) ∙ e ∙ k)
       ] in
       let begins = final-begins f n (map (λ (a : Aircraft). a .number) (q .rest)) (orderOf (f .sequence)) (c .approach-order)
-          (ap (λ (m : ℕ). m ∷ map (λ (a : Aircraft). a .number) (q .rest)) (sym (q .named)) ∙ sym (ap (map (λ (a : Aircraft). a .number)) (q .is)) ∙ c .queues-agree 12 tt) in
+      (ap (λ (m : ℕ). m ∷ map (λ (a : Aircraft). a .number) (q .rest)) (sym (q .named)) ∙ sym (ap (map (λ (a : Aircraft). a .number)) (q .is)) ∙ c .queues-agree 12 tt) in
       let fix : fixOf f n ≡ q .head .fix = ap (λ (w : ℕ). aircraftAt f w (placeOf f n .place) .fix) z ∙ ap (λ (i : ℕ). aircraftAt f 12 i .fix) k ∙ ap (λ (l : List Aircraft). getD (nobody ∷ l) 1 nobody .fix) (q .is) in
       room-first n begins (subst (λ (s : ℕ). T (isSide s)) (sym fix) (fix-side f t (q .head) (q .rest) (q .is)))

@@ -4,3 +4,4 @@ pub mod Play
 pub mod Demand
 pub mod Cases
 pub mod Reason
+pub mod Examples

@@ -1,5 +1,5 @@
--- Why a missed approach never finds two aircraft at its side: what the landing sequence keeps besides the bounds, in five parts, and a
--- field within the bounds that lacks one of them.
+-- Why a missed approach never finds two aircraft at its side: what the landing sequence keeps besides the bounds, in five parts.
+-- Examples.antt has a field within the bounds that lacks one of them.
 use mathlib.Core.Path.{_≡_}
 use mathlib.Core.Bool.{Bool, true, false, cond, not, _&&_, _||_}
 use mathlib.Core.List.{List, [], _∷_, map}
@@ -7,16 +7,11 @@ use Prim.Native.Nat.{ℕ, _+_, _≤_}
 use lib.Dec.{T, eqb, leb}
 use lib.ListN.{length}
 use Rattle.request.specs.Input.{within}
-use Rattle.request.specs.declared.Request.{Request}
-use Rattle.field.specs.declared.Aircraft.{Aircraft}
-use Rattle.field.specs.declared.Zone.{Zone}
 use Rattle.field.specs.declared.Field.{Field}
-use Rattle.field.specs.Boxes.{right, left, sideOf, at3000, missed, base, intermediate, finalApproach, area, nobody, emptyZone, inZone, orderOf, entering, withProgress, progressInto}
+use Rattle.field.specs.Boxes.{right, left, sideOf, at3000, missed, base, intermediate, finalApproach, area, inZone, orderOf}
 use Rattle.field.specs.Counts.{isIn, inArea}
 use Rattle.field.specs.Find.{placeOf, fixOf}
-use Rattle.field.specs.Bounds.{every, withinBounds}
-use Rattle.rules.specs.Step.{stepOf}
-use Rattle.rules.specs.Cases.{ask, allLegs}
+use Rattle.field.specs.Bounds.{every}
 
 -- ---- along the landing sequence
 
@@ -108,43 +103,3 @@ headsFinal f number = eqb (placeOf f number .zone) finalApproach && eqb (placeOf
 
 abbrev pub RoomAtSide : Field → Type 0
 RoomAtSide f = (number : ℕ) → T (headsFinal f number) → inArea f (fixOf f number) ≤ 1
-
--- ---- the bounds alone are not enough
-
--- a queue of one
-abbrev pub onlyOne : Aircraft → Zone
-onlyOne a = record { aircraft = a ∷ nobody ∷ nobody ∷ nobody ∷ []; length = 1 }
-
--- 7 on final with fix 1, behind it 8 at 2000 right with fix 2, and last 9 at 3000 right with fix 1
-abbrev pub crowded : Field
-crowded =
-    record {
-      zones =
-          onlyOne (entering 9 right 64)
-          ∷ emptyZone
-          ∷ onlyOne (entering 8 left 64)
-          ∷ emptyZone
-          ∷ emptyZone
-          ∷ emptyZone
-          ∷ emptyZone
-          ∷ emptyZone
-          ∷ emptyZone
-          ∷ emptyZone
-          ∷ emptyZone
-          ∷ onlyOne (withProgress (entering 7 right 64) (progressInto finalApproach))
-          ∷ emptyZone
-          ∷ [];
-      sequence = record { numbers = 7 ∷ 8 ∷ 9 ∷ 0 ∷ []; length = 3 };
-      next = left;
-      legs = allLegs 64;
-    }
-
--- 7 misses
-abbrev pub missOfSeven : Request
-missOfSeven = ask 10 0 7 0
-
--- a field within the bounds, and a request that only 25 refuses on it, since the field has no room to miss
-pub record BoundsNotEnough (f : Field) (r : Request) : Type 0 where
-  pub within-bounds : T (withinBounds f)
-  pub answer-25 : stepOf f r .answer .number ≡ 25
-  pub no-room : roomToMiss f ≡ false
