@@ -27,7 +27,7 @@ unfolding
     startsFrom mayApproach baseFree verticalChecks lateralChecks descendChecks approachChecks mergeChecks flownOutChecks landChecks exitChecks moved headGone
     outOfSequence fixTaken entered approached landed exited fixAfterMiss missedApproach held heldAlong checksOf effectOf numberOf numberAndZeros acceptance
     answerOf stepOf
-    add mul div ofInt round lt le eq
+    add mul div ofInt round lt le eq along roomToMiss
 examples-hold = tt
 
 -- the bounds alone are not enough

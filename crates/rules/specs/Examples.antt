@@ -23,12 +23,13 @@ sevenOnFinal rest = ask 1 1 7 64 ∷ ask 1 2 8 64 ∷ ask 3 0 8 0 ∷ ask 1 2 9 
 
 abbrev pub examples : List Case
 examples =
-    -- 7 misses: to the right, its old fix, with the next fix, 2, and last
+    -- 7 misses: to the right, its old fix, with the next fix, 2, and last; now each of the three has one behind it in the area of its fix,
+    -- or one ahead of it with the same fix
     record {
       leg = 64;
       requests = sevenOnFinal (ask 10 0 7 0 ∷ []);
       answer = says 7 7 2 9 0;
-      after = λ f. inOrder (8 ∷ 9 ∷ 7 ∷ []) f && stands 8 4 f && stands 9 2 f;
+      after = λ f. inOrder (8 ∷ 9 ∷ 7 ∷ []) f && stands 8 4 f && stands 9 2 f && roomToMiss f;
     }
     -- before that nobody may enter right: 7 and 9 have that fix
     ∷ record { leg = 64; requests = sevenOnFinal (ask 1 1 10 64 ∷ []); answer = numberAndZeros 16; after = anyField }
