@@ -2,18 +2,19 @@
 -- Assumes nothing.
 use mathlib.Core.Path.{_≡_, refl, sym, ap, _∙_, subst}
 use mathlib.Core.Logic.{_⊎_, inl, inr}
-use mathlib.Core.Bool.{Bool, true, false, cond, not, _&&_, _||_, true≢false}
+use mathlib.Core.Bool.{Bool, true, false, cond, not, _&&_, _||_}
 use mathlib.Core.List.{List, [], _∷_, _++_, map, append-assoc}
-use Prim.Native.Nat.{ℕ, zero, suc, _+_, _/_, _%_, _≤_, _<_}
+use Prim.Native.Nat.{ℕ, suc, _+_, _/_, _%_, _≤_}
 use native.Mathlib.Omega.{arith}
 use lib.Dec.{T, leb, ltb, eqb, leb→le, le→leb, nltb→le, eqb→eq}
 use lib.ListN.{length}
 use lib.Ieee.Fits.{and-i, and-l, and-r}
+use borrow.Author.Tests.{eq-eqb}
 use Rattle.field.specs.declared.Aircraft.{Aircraft}
 use Rattle.field.specs.declared.Legs.{Legs}
 use Rattle.field.specs.declared.Field.{Field}
 use Rattle.field.specs.declared.Place.{Place}
-use Rattle.field.specs.Boxes.{sideOf, area, inZone, orderOf}
+use Rattle.field.specs.Boxes.{sideOf, area, inZone}
 use Rattle.field.specs.Counts.{isIn}
 use Rattle.field.specs.Find.{placeOf, fixOf}
 use Rattle.field.specs.Bounds.{every, allDifferent}
@@ -126,7 +127,7 @@ leads f z w t =
         let p = eqb→eq (z % 2) (num s % 2) (and-r (leb z 8) (eqb (z % 2) (num s % 2)) u) in
         let q = eqb→eq (w % 2) (num s % 2) (and-r (leb w 8) (eqb (w % 2) (num s % 2)) v) in
         and-i (leb z 8 && leb w 8) (eqb (z % 2) (w % 2)) (and-i (leb z 8) (leb w 8) (and-l (leb z 8) (eqb (z % 2) (num s % 2)) u) (and-l (leb w 8) (eqb (w % 2) (num s % 2)) v))
-        (pass (borrow.Author.Tests.eq-eqb (z % 2) (w % 2) (p ∙ sym q)))
+        (pass (eq-eqb (z % 2) (w % 2) (p ∙ sym q)))
 
     beside : (a b : Bool) → T (not (a && b)) → T a → b ≡ false
     beside true b t u = failed t

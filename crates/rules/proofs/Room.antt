@@ -2,14 +2,14 @@
 -- Assumes nothing.
 use mathlib.Core.Path.{_≡_, refl, sym, ap, _∙_, subst}
 use mathlib.Core.Logic.{_⊎_, inl, inr}
-use mathlib.Core.Bool.{Bool, true, false, cond, not, _&&_, _||_, true≢false, false≢true}
-use mathlib.Core.List.{List, [], _∷_, _++_, map}
-use Prim.Native.Nat.{ℕ, zero, suc, _+_, _≤_, _<_}
+use mathlib.Core.Bool.{Bool, true, false, cond, _&&_, _||_, false≢true}
+use mathlib.Core.List.{List, [], _∷_, map}
+use Prim.Native.Nat.{ℕ, suc, _+_, _≤_}
 use native.Mathlib.Omega.{arith}
 use lib.Dec.{T, leb, eqb, leb→le, eqb→eq}
 use lib.ListN.{length, length-map, getD}
-use lib.Ieee.Fits.{and-i, and-l, and-r}
-use borrow.Author.Tests.{eqb-true, eqb-false, eq-eqb, ne-eqb}
+use lib.Ieee.Fits.{and-l, and-r}
+use borrow.Author.Tests.{eqb-true}
 use Rattle.request.specs.Input.{within}
 use Rattle.field.specs.declared.Aircraft.{Aircraft}
 use Rattle.field.specs.declared.Field.{Field}
@@ -17,10 +17,10 @@ use Rattle.field.specs.declared.Place.{Place}
 use Rattle.field.specs.Boxes.{isSide, area, everywhere, inZone, orderOf, nobody}
 use Rattle.field.specs.Counts.{isIn, total, howMany, inArea}
 use Rattle.field.specs.Find.{placeFrom, nowhere, findIn, placeOf, aircraftAt, fixOf}
-use Rattle.field.specs.Bounds.{every, allDifferent, fitsZone, legalLegs, boundA, boundB, boundC, boundD, boundE, boundF, boundG, isWaiting, withinBounds}
-use Rattle.order.specs.Model.{count, one, all}
-use Rattle.rules.specs.Reason.{Listed, listed, along, those, isInZone, isInArea, neverFalls, eachAmong, fromLanding, approachOrder, hasRoom, roomToMiss, Reason, headsFinal, RoomAtSide}
-use Rattle.rules.proofs.Tests.{passed, pass, failed, decided, if-true, if-false, flip-eqb}
+use Rattle.field.specs.Bounds.{every, allDifferent, fitsZone, legalLegs, boundA, boundB, boundC, boundD, boundE, boundF, boundG, withinBounds}
+use Rattle.order.specs.Model.{count, one}
+use Rattle.rules.specs.Reason.{Listed, listed, along, those, isInZone, isInArea, neverFalls, eachAmong, fromLanding, approachOrder, hasRoom, roomToMiss, Reason, RoomAtSide}
+use Rattle.rules.proofs.Tests.{decided, if-true, if-false, flip-eqb}
 use Rattle.rules.proofs.Counted.{total-add}
 use Rattle.rules.proofs.Members.{count-absent, count-different}
 

@@ -1,6 +1,6 @@
 -- The examples of docs/WHY-SAFE.md: requests from the empty field, and a field within the bounds that no list of requests reaches.
 use mathlib.Core.Path.{_≡_}
-use mathlib.Core.Bool.{Bool, true, false, _&&_}
+use mathlib.Core.Bool.{false, _&&_}
 use mathlib.Core.List.{List, [], _∷_}
 use Prim.Native.Nat.{ℕ}
 use lib.Dec.{T}

@@ -1,7 +1,7 @@
 -- Why a missed approach never finds two aircraft at its side: what the landing sequence keeps besides the bounds, in five parts.
 -- Examples.antt has a field within the bounds that lacks one of them.
 use mathlib.Core.Path.{_≡_}
-use mathlib.Core.Bool.{Bool, true, false, cond, not, _&&_, _||_}
+use mathlib.Core.Bool.{Bool, true, cond, not, _&&_, _||_}
 use mathlib.Core.List.{List, [], _∷_, map}
 use Prim.Native.Nat.{ℕ, _+_, _≤_}
 use lib.Dec.{T, eqb, leb}
