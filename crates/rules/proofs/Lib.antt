@@ -28,4 +28,5 @@ pub mod Demand
 pub mod AlongLine
 pub mod Room
 pub mod Examples
+pub mod Stands
 pub mod Reason

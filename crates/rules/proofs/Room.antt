@@ -149,7 +149,7 @@ in-zones zs t (x ∷ xs) =
     split p false = omega arith
 
 -- ---- bound g: the fix of an aircraft is a side
-every-listed : (p : ℕ → Bool) (zs : List ℕ) (w : ℕ) → T (every p zs) → isIn w zs ≡ true → T (p w)
+pub every-listed : (p : ℕ → Bool) (zs : List ℕ) (w : ℕ) → T (every p zs) → isIn w zs ≡ true → T (p w)
 every-listed p [] w t i = absurd (false≢true i)
 every-listed p (z ∷ zs) w t i = go (decided (eqb z w)) (every-listed p zs w (and-r (p z) (every p zs) t))
   where

@@ -8,7 +8,7 @@ use lib.Dec.{T, eqb, leb}
 use lib.ListN.{length}
 use Rattle.request.specs.Input.{within}
 use Rattle.field.specs.declared.Field.{Field}
-use Rattle.field.specs.Boxes.{right, left, sideOf, at3000, missed, base, intermediate, finalApproach, area, inZone, orderOf}
+use Rattle.field.specs.Boxes.{right, left, sideOf, at3000, missed, base, intermediate, finalApproach, area, everywhere, zoneOf, inZone, orderOf}
 use Rattle.field.specs.Counts.{isIn, inArea}
 use Rattle.field.specs.Find.{placeOf, fixOf}
 use Rattle.field.specs.Bounds.{every}
@@ -103,3 +103,8 @@ headsFinal f number = eqb (placeOf f number .zone) finalApproach && eqb (placeOf
 
 abbrev pub RoomAtSide : Field → Type 0
 RoomAtSide f = (number : ℕ) → T (headsFinal f number) → inArea f (fixOf f number) ≤ 1
+
+-- ---- "Every such array has four places, the landing sequence too": so has every field of the program
+unfoldable pub hasPlaces : Field → Bool
+hasPlaces f =
+    eqb (length (f .zones)) 13 && every (λ z. eqb (length (zoneOf f z .aircraft)) 4) everywhere && eqb (length (f .sequence .numbers)) 4

@@ -1,0 +1,185 @@
+-- A field with all its places, within the bounds and with the reason, stands for the line of its sequence: each number with the aircraft
+-- and the zone that the look-up finds. Assumes nothing.
+use mathlib.Core.Path.{_≡_, refl, sym, ap, _∙_, subst}
+use mathlib.Core.Logic.{_⊎_, inl, inr}
+use mathlib.Core.Bool.{Bool, true, false, cond, not, _&&_, _||_, true≢false, false≢true}
+use mathlib.Core.List.{List, [], _∷_, _++_, map, append-assoc}
+use Prim.Native.Nat.{ℕ, zero, suc, _+_, _-_, _≤_, _<_}
+use native.Mathlib.Omega.{arith}
+use lib.Dec.{T, leb, eqb, leb→le, eqb→eq}
+use lib.ListN.{length, take, drop, replicate, getD, take-append-drop, length-drop, length-append}
+use lib.Seq.{length-take-le, getD-append-seam}
+use lib.Ieee.Fits.{and-i, and-l, and-r}
+use borrow.Author.Tests.{eqb-true, eqb-false, ne-eqb}
+use Rattle.leg.specs.declared.Progress.{Progress}
+use Rattle.leg.specs.declared.Progress.the-variants.{Waiting, Flying}
+use Rattle.request.specs.Input.{within}
+use Rattle.field.specs.declared.Aircraft.{Aircraft}
+use Rattle.field.specs.declared.Zone.{Zone}
+use Rattle.field.specs.declared.Sequence.{Sequence}
+use Rattle.field.specs.declared.Field.{Field}
+use Rattle.field.specs.declared.Place.{Place}
+use Rattle.field.specs.Boxes.{zonesFrom, operation, everywhere, emptyZone, zoneOf, queueOf, inZone, orderOf, nobody}
+use Rattle.field.specs.Counts.{isIn, total}
+use Rattle.field.specs.Find.{placeFrom, findIn, placeOf, aircraftAt}
+use Rattle.field.specs.Bounds.{every, numbersIn, allDifferent, isWaiting, isNobody, zoneKept, sequenceKept}
+use Rattle.order.specs.Model.{Side, num, nextFix, between, count}
+use Rattle.rules.specs.Reason.{Listed, listed, along, those, isInZone, QueueAgrees}
+use Rattle.rules.proofs.Tests.{passed, pass, decided, if-true, if-false}
+use Rattle.rules.proofs.Lists.{or-false-left, or-false-right, in-append, absent-left}
+use Rattle.rules.proofs.Line.{zoneFor, sequenceFor, fieldBy, by-zones, Placed, zonesIn, numbersOf, inside, zonesOf, fieldOf}
+use Rattle.rules.proofs.Located.{numbers, no-place, place-at, at, find-at, zone-split}
+use Rattle.rules.proofs.Members.{count-append, count-absent, absent-count, count-different}
+use Rattle.rules.proofs.Room.{every-listed}
+
+-- ---- arrays of four places
+
+-- a list of four whose last ones are all d, by those before
+filled : {A : Type 0} (d : A) (xs : List A) (n : ℕ) → length xs ≡ 4 → n ≤ 4 → drop n xs ≡ replicate (length (drop n xs)) d
+    → (xs ≡ take n xs ++ replicate (4 - length (take n xs)) d) × (n ≡ length (take n xs))
+filled d xs n e h r =
+    let k = length-take-le n xs (subst (λ (m : ℕ). n ≤ m) (sym e) h) in
+    let l : length (drop n xs) ≡ 4 - length (take n xs) = length-drop n xs ∙ ap (λ (m : ℕ). m - n) e ∙ ap (λ (m : ℕ). 4 - m) (sym k) in
+    (sym (take-append-drop n xs) ∙ ap (λ (ys : List _). take n xs ++ ys) (r ∙ ap (λ (m : ℕ). replicate m d) l), sym k)
+
+nobody-is : (a : Aircraft) → T (isNobody a) → a ≡ nobody
+unfolding isNobody
+nobody-is a t =
+    let n = eqb (a .number) 0 in
+    let x = eqb (a .fix) 0 in
+    let v = eqb (a .speed) 0 in
+    let w = isWaiting (a .progress) in
+    let t₁ = and-l (n && x && v) w t in
+    let t₂ = and-l (n && x) v t₁ in
+    let p = eqb→eq (a .number) 0 (and-l n x t₂) in
+    let q = eqb→eq (a .fix) 0 (and-r n x t₂) in
+    let r = eqb→eq (a .speed) 0 (and-r (n && x) v t₁) in
+    let u = waits (a .progress) (and-r (n && x && v) w t) in
+    λ i. record { number = p i; fix = q i; speed = r i; progress = u i }
+  where
+    waits : (g : Progress) → T (isWaiting g) → g ≡ Waiting
+    waits Waiting t = refl
+    waits (Flying miles) t = absurd t
+
+nobodies : (xs : List Aircraft) → T (every isNobody xs) → xs ≡ replicate (length xs) nobody
+nobodies [] t = refl
+nobodies (x ∷ xs) t =
+    ap (λ (a : Aircraft). a ∷ xs) (nobody-is x (and-l (isNobody x) (every isNobody xs) t)) ∙ ap (λ (l : List Aircraft). nobody ∷ l) (nobodies xs (and-r (isNobody x) (every isNobody xs) t))
+
+zeros : (xs : List ℕ) → T (every (λ n. eqb n 0) xs) → xs ≡ replicate (length xs) 0
+zeros [] t = refl
+zeros (x ∷ xs) t = ap (λ (n : ℕ). n ∷ xs) (eqb→eq x 0 (and-l (eqb x 0) (every (λ n. eqb n 0) xs) t)) ∙ ap (λ (l : List ℕ). 0 ∷ l) (zeros xs (and-r (eqb x 0) (every (λ n. eqb n 0) xs) t))
+
+pub zone-is : (q : Zone) → length (q .aircraft) ≡ 4 → T (zoneKept q) → q ≡ zoneFor (queueOf q)
+unfolding zoneKept queueOf
+zone-is q e t =
+    let r = filled nobody (q .aircraft) (q .length) e (leb→le (q .length) 4 (and-l (leb (q .length) 4) (every isNobody (drop (q .length) (q .aircraft))) t)) (nobodies (drop (q .length) (q .aircraft)) (and-r (leb (q .length) 4) (every isNobody (drop (q .length) (q .aircraft))) t)) in
+    λ i. record { aircraft = r .0 i; length = r .1 i }
+
+pub sequence-is : (s : Sequence) → length (s .numbers) ≡ 4 → T (sequenceKept s) → s ≡ sequenceFor (orderOf s)
+unfolding sequenceKept orderOf
+sequence-is s e t =
+    let r = filled 0 (s .numbers) (s .length) e (leb→le (s .length) 4 (and-l (leb (s .length) 4) (every (λ n. eqb n 0) (drop (s .length) (s .numbers))) t)) (zeros (drop (s .length) (s .numbers)) (and-r (leb (s .length) 4) (every (λ n. eqb n 0) (drop (s .length) (s .numbers))) t)) in
+    λ i. record { numbers = r .0 i; length = r .1 i }
+
+-- thirteen zones by their numbers
+zones-by : (d : Zone) (zs pre : List Zone) → zs ≡ map (λ z. getD (pre ++ zs) z d) (zonesFrom (length pre) (length zs))
+zones-by d [] pre = refl
+zones-by d (q ∷ zs) pre =
+    let e = getD-append-seam pre q zs d in
+    let m : length (pre ++ (q ∷ [])) ≡ suc (length pre) = length-append pre (q ∷ []) ∙ omega arith in
+    let r = zones-by d zs (pre ++ (q ∷ [])) in
+    ap (λ (p : Zone). p ∷ zs) (sym e)
+    ∙ ap (λ (l : List Zone). getD (pre ++ q ∷ zs) (length pre) d ∷ l)
+    (r ∙ ap (λ (l : List Zone). map (λ z. getD l z d) (zonesFrom (length (pre ++ (q ∷ []))) (length zs))) (append-assoc pre (q ∷ []) zs) ∙ ap (λ (k : ℕ). map (λ z. getD (pre ++ q ∷ zs) z d) (zonesFrom k (length zs))) m)
+
+pub zones-are : (f : Field) → length (f .zones) ≡ 13 → f .zones ≡ map (zoneOf f) everywhere
+unfolding zoneOf
+zones-are f e = zones-by emptyZone (f .zones) (emptyZone ∷ []) ∙ ap (λ (k : ℕ). map (λ z. getD (emptyZone ∷ f .zones) z emptyZone) (zonesFrom 1 k)) e
+
+-- ---- what the look-up finds
+record Got (n : ℕ) (queue : List Aircraft) (x : Aircraft) : Type 0 where
+  named : x .number ≡ n
+  has : (p : Aircraft → Bool) → T (every p queue) → T (p x)
+
+got : (n : ℕ) (pre queue : List Aircraft) (k i : ℕ) → k ≡ length pre → placeFrom k n queue ≡ i → (i ≡ 0 → ⊥) → Got n queue (getD (pre ++ queue) i nobody)
+got n pre [] k i e p h = absurd (h (sym p))
+got n pre (x ∷ xs) k i e p h =
+    go (decided (eqb (x .number) n))
+    (λ q. got n (pre ++ (x ∷ [])) xs (suc k) i (let m = length-append pre (x ∷ []) in omega arith) q h)
+  where
+    go : (eqb (x .number) n ≡ true) ⊎ (eqb (x .number) n ≡ false) → (placeFrom (suc k) n xs ≡ i → Got n xs (getD ((pre ++ (x ∷ [])) ++ xs) i nobody)) → Got n (x ∷ xs) (getD (pre ++ x ∷ xs) i nobody)
+    go (inl b) later =
+        let here : x ≡ getD (pre ++ x ∷ xs) i nobody = sym (getD-append-seam pre x xs nobody) ∙ ap (λ (j : ℕ). getD (pre ++ x ∷ xs) j nobody) (sym e ∙ sym (if-true k (placeFrom (suc k) n xs) b) ∙ p) in
+        subst (Got n (x ∷ xs)) here (record { named = eqb-true (x .number) n b; has = λ p t. and-l (p x) (every p xs) t })
+    go (inr b) later =
+        let g = later (sym (if-false k (placeFrom (suc k) n xs) b) ∙ p) in
+        let same : getD ((pre ++ (x ∷ [])) ++ xs) i nobody ≡ getD (pre ++ x ∷ xs) i nobody = ap (λ (l : List Aircraft). getD l i nobody) (append-assoc pre (x ∷ []) xs) in
+        subst (Got n (x ∷ xs)) same (record { named = g .named; has = λ p t. g .has p (and-r (p x) (every p xs) t) })
+
+-- a place of 0 is no place
+no-number : (k n : ℕ) (xs : List Aircraft) → 1 ≤ k → placeFrom k n xs ≡ 0 → isIn n (numbers xs) ≡ false
+no-number k n [] h e = refl
+no-number k n (x ∷ xs) h e = go (decided (eqb (x .number) n)) (no-number (suc k) n xs (omega arith))
+  where
+    go : (eqb (x .number) n ≡ true) ⊎ (eqb (x .number) n ≡ false) → (placeFrom (suc k) n xs ≡ 0 → isIn n (numbers xs) ≡ false) → (eqb (x .number) n || isIn n (numbers xs)) ≡ false
+    go (inl b) later = absurd (let z : k ≡ 0 = sym (if-true k (placeFrom (suc k) n xs) b) ∙ e in omega arith)
+    go (inr b) later = ap (λ (c : Bool). c || isIn n (numbers xs)) b ∙ later (sym (if-false k (placeFrom (suc k) n xs) b) ∙ e)
+
+pub record Found (f : Field) (n : ℕ) (zs : List ℕ) (p : Place) : Type 0 where
+  pub zone-in : isIn (p .zone) zs ≡ true
+  pub named : aircraftAt f (p .zone) (p .place) .number ≡ n
+  pub has : (t : Aircraft → Bool) → T (every t (inZone f (p .zone))) → T (t (aircraftAt f (p .zone) (p .place)))
+
+found : (f : Field) (n : ℕ) (zs ws : List ℕ) → isIn n (numbersIn f zs) ≡ true → Found f n zs (findIn f n (zs ++ ws))
+unfolding findIn aircraftAt
+found f n [] ws e = absurd (false≢true e)
+found f n (z ∷ zs) ws e = go (decided (eqb (placeFrom 1 n (inZone f z)) 0)) (found f n zs ws)
+  where
+    here : Place
+    here = at z (placeFrom 1 n (inZone f z))
+
+    go : (eqb (placeFrom 1 n (inZone f z)) 0 ≡ true) ⊎ (eqb (placeFrom 1 n (inZone f z)) 0 ≡ false) → (isIn n (numbersIn f zs) ≡ true → Found f n zs (findIn f n (zs ++ ws))) → Found f n (z ∷ zs) (cond (eqb (placeFrom 1 n (inZone f z)) 0) (findIn f n (zs ++ ws)) here)
+    go (inl b) later =
+        let none = no-number 1 n (inZone f z) (omega arith) (eqb-true (placeFrom 1 n (inZone f z)) 0 b) in
+        let i : isIn n (numbersIn f zs) ≡ true = sym (ap (λ (c : Bool). c || isIn n (numbersIn f zs)) none) ∙ sym (in-append n (numbers (inZone f z)) (numbersIn f zs)) ∙ e in
+        let r = later i in
+        let p = findIn f n (zs ++ ws) in
+        subst (Found f n (z ∷ zs)) (sym (if-true p here b)) (record { zone-in = ap (λ (c : Bool). eqb z (p .zone) || c) (r .zone-in) ∙ right-true (eqb z (p .zone)); named = r .named; has = r .has })
+      where
+        right-true : (b : Bool) → (b || true) ≡ true
+        right-true true = refl
+        right-true false = refl
+    go (inr b) later =
+        let g = got n (nobody ∷ []) (inZone f z) 1 (placeFrom 1 n (inZone f z)) refl refl (eqb-false (placeFrom 1 n (inZone f z)) 0 b) in
+        subst (Found f n (z ∷ zs)) (sym (if-false (findIn f n (zs ++ ws)) here b)) (record { zone-in = ap (λ (c : Bool). c || isIn z zs) (Rattle.rules.proofs.Tests.same z); named = g .named; has = g .has })
+
+-- ---- the line of a field
+abbrev pub lookedUp : Field → ℕ → Placed
+lookedUp f n = record { aircraft = aircraftAt f (placeOf f n .zone) (placeOf f n .place); zone = placeOf f n .zone }
+
+abbrev pub lineOf : Field → List Placed
+lineOf f = map (lookedUp f) (orderOf (f .sequence))
+
+-- sums over zones that name two of them
+one-in-total : (g : ℕ → ℕ) (zs : List ℕ) (z : ℕ) → isIn z zs ≡ true → g z ≤ total g zs
+one-in-total g [] z i = absurd (false≢true i)
+one-in-total g (w ∷ zs) z i = go (decided (eqb w z)) (one-in-total g zs z)
+  where
+    go : (eqb w z ≡ true) ⊎ (eqb w z ≡ false) → (isIn z zs ≡ true → g z ≤ total g zs) → g z ≤ g w + total g zs
+    go (inl b) later = let e : g w ≡ g z = ap g (eqb-true w z b) in omega arith
+    go (inr b) later = let h = later (sym (ap (λ (c : Bool). c || isIn z zs) b) ∙ i) in omega arith
+
+two-in-total : (g : ℕ → ℕ) (zs : List ℕ) (y z : ℕ) → isIn y zs ≡ true → isIn z zs ≡ true → (y ≡ z → ⊥) → g y + g z ≤ total g zs
+two-in-total g [] y z i j h = absurd (false≢true i)
+two-in-total g (w ∷ zs) y z i j h = go (decided (eqb w y)) (decided (eqb w z)) (λ a b. two-in-total g zs y z a b h)
+  where
+    go : (eqb w y ≡ true) ⊎ (eqb w y ≡ false) → (eqb w z ≡ true) ⊎ (eqb w z ≡ false) → (isIn y zs ≡ true → isIn z zs ≡ true → g y + g z ≤ total g zs) → g y + g z ≤ g w + total g zs
+    go (inl a) (inl b) later = absurd (h (sym (eqb-true w y a) ∙ eqb-true w z b))
+    go (inl a) (inr b) later = let e : g w ≡ g y = ap g (eqb-true w y a) in let k = one-in-total g zs z (sym (ap (λ (c : Bool). c || isIn z zs) b) ∙ j) in omega arith
+    go (inr a) (inl b) later = let e : g w ≡ g z = ap g (eqb-true w z b) in let k = one-in-total g zs y (sym (ap (λ (c : Bool). c || isIn y zs) a) ∙ i) in omega arith
+    go (inr a) (inr b) later = let k = later (sym (ap (λ (c : Bool). c || isIn y zs) a) ∙ i) (sym (ap (λ (c : Bool). c || isIn z zs) b) ∙ j) in omega arith
+
+pub numbers-total : (f : Field) (n : ℕ) (zs : List ℕ) → count (numbersIn f zs) n ≡ total (λ z. count (numbers (inZone f z)) n) zs
+numbers-total f n [] = refl
+numbers-total f n (z ∷ zs) = let a = count-append (numbers (inZone f z)) (numbersIn f zs) n in let b = numbers-total f n zs in omega arith
