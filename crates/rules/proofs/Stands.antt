@@ -21,16 +21,17 @@ use Rattle.field.specs.declared.Field.{Field}
 use Rattle.field.specs.declared.Place.{Place}
 use Rattle.field.specs.Boxes.{zonesFrom, operation, everywhere, emptyZone, zoneOf, queueOf, inZone, orderOf, nobody}
 use Rattle.field.specs.Counts.{isIn, total}
-use Rattle.field.specs.Find.{placeFrom, findIn, placeOf, aircraftAt}
+use Rattle.field.specs.Find.{placeFrom, findIn, placeOf, aircraftAt, fixOf}
 use Rattle.field.specs.Bounds.{every, numbersIn, allDifferent, isWaiting, isNobody, zoneKept, sequenceKept}
-use Rattle.order.specs.Model.{Side, num, nextFix, between, count}
+use Rattle.order.specs.Model.{Side, num, nextFix, between, count, one}
 use Rattle.rules.specs.Reason.{Listed, listed, along, those, isInZone, QueueAgrees}
-use Rattle.rules.proofs.Tests.{passed, pass, decided, if-true, if-false}
-use Rattle.rules.proofs.Lists.{or-false-left, or-false-right, in-append, absent-left}
+use Rattle.rules.proofs.Tests.{passed, decided, if-true, if-false, same, each-zone}
+use Rattle.rules.proofs.Lists.{map-append, in-append}
 use Rattle.rules.proofs.Line.{zoneFor, sequenceFor, fieldBy, by-zones, Placed, zonesIn, numbersOf, inside, zonesOf, fieldOf}
+use Rattle.rules.proofs.Counted.{lower, not-13}
 use Rattle.rules.proofs.Located.{numbers, no-place, place-at, at, find-at, zone-split}
 use Rattle.rules.proofs.Members.{count-append, count-absent, absent-count, count-different}
-use Rattle.rules.proofs.Room.{every-listed}
+use Rattle.rules.proofs.AlongLine.{seen}
 
 -- ---- arrays of four places
 
@@ -152,7 +153,7 @@ found f n (z ∷ zs) ws e = go (decided (eqb (placeFrom 1 n (inZone f z)) 0)) (f
         right-true false = refl
     go (inr b) later =
         let g = got n (nobody ∷ []) (inZone f z) 1 (placeFrom 1 n (inZone f z)) refl refl (eqb-false (placeFrom 1 n (inZone f z)) 0 b) in
-        subst (Found f n (z ∷ zs)) (sym (if-false (findIn f n (zs ++ ws)) here b)) (record { zone-in = ap (λ (c : Bool). c || isIn z zs) (Rattle.rules.proofs.Tests.same z); named = g .named; has = g .has })
+        subst (Found f n (z ∷ zs)) (sym (if-false (findIn f n (zs ++ ws)) here b)) (record { zone-in = ap (λ (c : Bool). c || isIn z zs) (same z); named = g .named; has = g .has })
 
 -- ---- the line of a field
 abbrev pub lookedUp : Field → ℕ → Placed
@@ -183,3 +184,103 @@ two-in-total g (w ∷ zs) y z i j h = go (decided (eqb w y)) (decided (eqb w z))
 pub numbers-total : (f : Field) (n : ℕ) (zs : List ℕ) → count (numbersIn f zs) n ≡ total (λ z. count (numbers (inZone f z)) n) zs
 numbers-total f n [] = refl
 numbers-total f n (z ∷ zs) = let a = count-append (numbers (inZone f z)) (numbersIn f zs) n in let b = numbers-total f n zs in omega arith
+
+module _ (f : Field) where
+  -- the numbers of the sequence are those of the operation area
+  abbrev pub Named : List ℕ → Type 0
+  Named ns = T (every (λ n. isIn n (numbersIn f operation)) ns)
+
+  pub found-one : (n : ℕ) → T (isIn n (numbersIn f operation)) → Found f n operation (placeOf f n)
+  unfolding placeOf
+  found-one n t = found f n operation (13 ∷ []) (passed t)
+
+  -- each by its test, of the line of the sequence
+  pub line-all : (p : Placed → Bool) → ((n : ℕ) → T (isIn n (numbersIn f operation)) → T (p (lookedUp f n))) → (ns : List ℕ) → Named ns → T (every p (map (lookedUp f) ns))
+  line-all p h [] t = tt
+  line-all p h (n ∷ ns) t =
+      let later = every (λ n. isIn n (numbersIn f operation)) ns in
+      and-i (p (lookedUp f n)) (every p (map (lookedUp f) ns)) (h n (and-l (isIn n (numbersIn f operation)) later t)) (line-all p h ns (and-r (isIn n (numbersIn f operation)) later t))
+
+  pub line-numbers : (ns : List ℕ) → Named ns → numbersOf (map (lookedUp f) ns) ≡ ns
+  line-numbers [] t = refl
+  line-numbers (n ∷ ns) t =
+      let later = every (λ n. isIn n (numbersIn f operation)) ns in
+      ap (λ (m : ℕ). m ∷ numbersOf (map (lookedUp f) ns)) (found-one n (and-l (isIn n (numbersIn f operation)) later t) .named) ∙ ap (λ (l : List ℕ). n ∷ l) (line-numbers ns (and-r (isIn n (numbersIn f operation)) later t))
+
+  pub line-seen : (ns : List ℕ) → Named ns → map (listed f) ns ≡ map seen (map (lookedUp f) ns)
+  unfolding fixOf
+  line-seen [] t = refl
+  line-seen (n ∷ ns) t =
+      let later = every (λ n. isIn n (numbersIn f operation)) ns in
+      let e = found-one n (and-l (isIn n (numbersIn f operation)) later t) .named in
+      let h : listed f n ≡ seen (lookedUp f n) = λ i. record { number = sym e i; zone = placeOf f n .zone; fix = fixOf f n } in
+      ap (λ (y : Listed). y ∷ map (listed f) ns) h ∙ ap (λ (l : List Listed). seen (lookedUp f n) ∷ l) (line-seen ns (and-r (isIn n (numbersIn f operation)) later t))
+
+  -- ---- who stands in a queue is found there
+  module _ (d : T (allDifferent (numbersIn f everywhere))) where
+    once : (n : ℕ) → total (λ z. count (numbers (inZone f z)) n) everywhere ≤ 1
+    once n = let a = numbers-total f n everywhere in let b = count-different (numbersIn f everywhere) d n in omega arith
+
+    listed-zone : (z : ℕ) → T (between 1 13 z) → isIn z everywhere ≡ true
+    listed-zone = each-zone (λ y. isIn y everywhere ≡ true) (refl, (refl, (refl, (refl, (refl, (refl, (refl, (refl, (refl, (refl, (refl, (refl, (refl, tt)))))))))))))
+
+    in-queue : (z : ℕ) → T (between 1 13 z) → (pre : List Aircraft) (x : Aircraft) (post : List Aircraft) → inZone f z ≡ pre ++ x ∷ post → placeOf f (x .number) ≡ at z (suc (length pre))
+    unfolding placeOf
+    in-queue z t pre x post e =
+        let n = x .number in
+        let g : ℕ → ℕ = λ y. count (numbers (inZone f y)) n in
+        let here : g z ≡ count (numbers pre) n + count (n ∷ numbers post) n =
+        ap (λ (q : List Aircraft). count (numbers q) n) e ∙ ap (λ (l : List ℕ). count l n) (map-append (λ (a : Aircraft). a .number) pre (x ∷ post)) ∙ count-append (numbers pre) (n ∷ numbers post) n in
+        let one-here : one (eqb n n) ≡ 1 = if-true 1 0 (same n) in
+        let all-once = once n in
+        let upper = one-in-total g everywhere z (listed-zone z t) in
+        let before : isIn n (numbers pre) ≡ false = absent-count (numbers pre) n (omega arith) in
+        find-at f n everywhere z (length pre) tt (listed-zone z t)
+        (ap (placeFrom 1 n) e ∙ place-at 1 pre x post before ∙ omega arith)
+        (λ y u h. no-place 1 n (inZone f y) (absent-count (numbers (inZone f y)) n (let both = two-in-total g everywhere y z (listed-zone y u) (listed-zone z t) h in omega arith)))
+
+    queue-found : (z : ℕ) → T (between 1 13 z) → (pre post : List Aircraft) → inZone f z ≡ pre ++ post → post ≡ map (λ n. lookedUp f n .aircraft) (numbers post)
+    unfolding aircraftAt
+    queue-found z t pre [] e = refl
+    queue-found z t pre (x ∷ post) e =
+        let p = in-queue z t pre x post e in
+        let h : lookedUp f (x .number) .aircraft ≡ x =
+        ap (λ (q : Place). aircraftAt f (q .zone) (q .place)) p ∙ ap (λ (l : List Aircraft). getD l (length pre) nobody) e ∙ getD-append-seam pre x post nobody in
+        let r = queue-found z t (pre ++ (x ∷ [])) post (e ∙ sym (append-assoc pre (x ∷ []) post)) in
+        ap (λ (a : Aircraft). a ∷ post) (sym h) ∙ ap (λ (l : List Aircraft). lookedUp f (x .number) .aircraft ∷ l) r
+
+    -- a queue that agrees with the sequence is the line inside its zone
+    pub queue-is : (z : ℕ) → T (between 1 12 z) → QueueAgrees f z → inZone f z ≡ inside z (lineOf f)
+    unfolding along
+    queue-is z t a =
+        queue-found z (lower z t) [] (inZone f z) refl
+        ∙ ap (map (λ n. lookedUp f n .aircraft)) a
+        ∙ sym (inside-those (orderOf (f .sequence)))
+      where
+        inside-those : (ns : List ℕ) → inside z (map (lookedUp f) ns) ≡ map (λ n. lookedUp f n .aircraft) (map (λ (y : Listed). y .number) (those (isInZone z) (map (listed f) ns)))
+        inside-those [] = refl
+        inside-those (n ∷ ns) = go (eqb (placeOf f n .zone) z) (inside-those ns)
+          where
+            look : ℕ → Aircraft
+            look m = lookedUp f m .aircraft
+
+            rest : List Listed
+            rest = those (isInZone z) (map (listed f) ns)
+
+            go : (b : Bool) → inside z (map (lookedUp f) ns) ≡ map look (map (λ (y : Listed). y .number) rest)
+                → cond b (look n ∷ inside z (map (lookedUp f) ns)) (inside z (map (lookedUp f) ns)) ≡ map look (map (λ (y : Listed). y .number) (cond b (listed f n ∷ rest) rest))
+            go true h = ap (λ (l : List Aircraft). look n ∷ l) h
+            go false h = h
+
+-- ---- the field is that of its line
+pub stands-for : (f : Field) (first : Side) → length (f .zones) ≡ 13 → ((z : ℕ) → T (between 1 13 z) → zoneOf f z ≡ zoneFor (inZone f z)) → ((z : ℕ) → T (between 1 12 z) → inZone f z ≡ inside z (lineOf f))
+    → f .sequence ≡ sequenceFor (numbersOf (lineOf f)) → f .next ≡ num (nextFix first (zonesIn (lineOf f))) → f ≡ fieldOf first (lineOf f) (inZone f 13) (f .legs)
+unfolding fieldOf
+stands-for f first e q i s n =
+    let g = zonesOf (lineOf f) (inZone f 13) in
+    let z = zones-are f e in
+    let zones : fieldBy (zoneOf f) (f .sequence) (f .next) (f .legs) ≡ fieldBy g (f .sequence) (f .next) (f .legs) =
+    by-zones (zoneOf f) (f .sequence) (f .next) (f .legs) g
+    (zone-split {P = λ z. zoneOf f z ≡ g z} (q 13 tt) (λ z t. q z (lower z t) ∙ ap zoneFor (i z t) ∙ sym (if-false (zoneFor (inZone f 13)) (zoneFor (inside z (lineOf f))) (not-13 z t)))) in
+    let whole : f ≡ fieldBy (zoneOf f) (f .sequence) (f .next) (f .legs) = λ j. record { zones = z j; sequence = f .sequence; next = f .next; legs = f .legs } in
+    whole ∙ zones ∙ (λ j. fieldBy g (s j) (n j) (f .legs))
