@@ -79,18 +79,18 @@ each-operation P (p1, p2, p3, p4, p5, p6, p7, p8, p9, p10, p11, p12) z t =
     ((λ u. p1), ((λ u. p2), ((λ u. p3), ((λ u. p4), ((λ u. p5), ((λ u. p6), ((λ u. p7), ((λ u. p8), ((λ u. p9), ((λ u. p10), ((λ u. p11), ((λ u. p12), ((λ u. absurd u), tt)))))))))))))
     z (lower z t) t
 
-landing-rank : (z : ℕ) → T (between 1 12 z) → fromLanding z + rank z ≡ 3
+pub landing-rank : (z : ℕ) → T (between 1 12 z) → fromLanding z + rank z ≡ 3
 landing-rank = each-operation (λ z. fromLanding z + rank z ≡ 3) (refl, refl, refl, refl, refl, refl, refl, refl, refl, refl, refl, refl)
 
-area-is : (s : Side) (z : ℕ) → T (between 1 12 z) → isIn z (area (num s)) ≡ ofArea s z
+pub area-is : (s : Side) (z : ℕ) → T (between 1 12 z) → isIn z (area (num s)) ≡ ofArea s z
 area-is right = each-operation (λ z. isIn z (area 1) ≡ ofArea right z) (refl, refl, refl, refl, refl, refl, refl, refl, refl, refl, refl, refl)
 area-is left = each-operation (λ z. isIn z (area 2) ≡ ofArea left z) (refl, refl, refl, refl, refl, refl, refl, refl, refl, refl, refl, refl)
 
-height-is : (s : Side) (z : ℕ) → T (between 1 12 z) → T (ofArea s z) → heightIn (num s) z ≡ height z
+pub height-is : (s : Side) (z : ℕ) → T (between 1 12 z) → T (ofArea s z) → heightIn (num s) z ≡ height z
 height-is right = each-operation (λ z. T (ofArea right z) → heightIn 1 z ≡ height z) ((λ t. refl), (λ t. absurd t), (λ t. refl), (λ t. absurd t), (λ t. refl), (λ t. absurd t), (λ t. refl), (λ t. absurd t), (λ t. absurd t), (λ t. absurd t), (λ t. absurd t), (λ t. absurd t))
 height-is left = each-operation (λ z. T (ofArea left z) → heightIn 2 z ≡ height z) ((λ t. absurd t), (λ t. refl), (λ t. absurd t), (λ t. refl), (λ t. absurd t), (λ t. refl), (λ t. absurd t), (λ t. refl), (λ t. absurd t), (λ t. absurd t), (λ t. absurd t), (λ t. absurd t))
 
-lateral-side : (s : Side) (z : ℕ) → T (between 1 12 z) → T (isLateral z) → ofArea s z ≡ false → eqb (num s) (sideOf z) ≡ false
+pub lateral-side : (s : Side) (z : ℕ) → T (between 1 12 z) → T (isLateral z) → ofArea s z ≡ false → eqb (num s) (sideOf z) ≡ false
 unfolding sideOf
 lateral-side right =
     each-operation (λ z. T (isLateral z) → ofArea right z ≡ false → eqb 1 (sideOf z) ≡ false) ((λ t e. absurd t), (λ t e. absurd t), (λ t e. absurd t), (λ t e. absurd t), (λ t e. e), (λ t e. refl), (λ t e. absurd t), (λ t e. absurd t), (λ t e. absurd t), (λ t e. absurd t), (λ t e. absurd t), (λ t e. absurd t))
@@ -223,7 +223,7 @@ area-line s f (e ∷ l) t = go (decided (isIn (e .zone) (area (num s)))) (area-l
     go (inr b) h = subst (λ (c : Bool). T (neverFalls (map g (cond c (seen e ∷ those p (map seen l)) (those p (map seen l)))))) (sym b) h
 
 -- ---- 3
-area-number : (s : Side) (l : List Placed) → T (all (between 1 12) (zonesIn l)) → length (those (isInArea (num s)) (map seen l)) ≡ number (ofArea s) (zonesIn l)
+pub area-number : (s : Side) (l : List Placed) → T (all (between 1 12) (zonesIn l)) → length (those (isInArea (num s)) (map seen l)) ≡ number (ofArea s) (zonesIn l)
 area-number s [] t = refl
 area-number s (e ∷ l) t =
     ap (λ (b : Bool). length (cond b (seen e ∷ those (isInArea (num s)) (map seen l)) (those (isInArea (num s)) (map seen l)))) (area-is s (e .zone) (and-l (between 1 12 (e .zone)) (all (between 1 12) (zonesIn l)) t))
@@ -235,7 +235,7 @@ area-number s (e ∷ l) t =
     go false h = omega arith
 
 -- how many of those ahead have the side as fix, with one more ahead
-ahead-more : (s g : Side) (e : Placed) (ahead : List Listed) → e .aircraft .fix ≡ num g → length (those (hasFix (num s)) (seen e ∷ ahead)) ≡ one (eqb (num g) (num s)) + length (those (hasFix (num s)) ahead)
+pub ahead-more : (s g : Side) (e : Placed) (ahead : List Listed) → e .aircraft .fix ≡ num g → length (those (hasFix (num s)) (seen e ∷ ahead)) ≡ one (eqb (num g) (num s)) + length (those (hasFix (num s)) ahead)
 ahead-more s g e ahead h =
     ap (λ (n : ℕ). length (cond (eqb n (num s)) (seen e ∷ those (hasFix (num s)) ahead) (those (hasFix (num s)) ahead))) h ∙ go (eqb (num g) (num s))
   where
@@ -251,7 +251,7 @@ pub other-fix : (f : Side) → one (eqb (num f) (num (opp f))) ≡ 0
 other-fix right = refl
 other-fix left = refl
 
-opp-opp : (f : Side) → opp (opp f) ≡ f
+pub opp-opp : (f : Side) → opp (opp f) ≡ f
 opp-opp right = refl
 opp-opp left = refl
 

@@ -29,4 +29,5 @@ pub mod AlongLine
 pub mod Room
 pub mod Examples
 pub mod Stands
+pub mod FromReason
 pub mod Reason
