@@ -90,7 +90,7 @@ pub height-is : (s : Side) (z : ℕ) → T (between 1 12 z) → T (ofArea s z) �
 height-is right = each-operation (λ z. T (ofArea right z) → heightIn 1 z ≡ height z) ((λ t. refl), (λ t. absurd t), (λ t. refl), (λ t. absurd t), (λ t. refl), (λ t. absurd t), (λ t. refl), (λ t. absurd t), (λ t. absurd t), (λ t. absurd t), (λ t. absurd t), (λ t. absurd t))
 height-is left = each-operation (λ z. T (ofArea left z) → heightIn 2 z ≡ height z) ((λ t. absurd t), (λ t. refl), (λ t. absurd t), (λ t. refl), (λ t. absurd t), (λ t. refl), (λ t. absurd t), (λ t. refl), (λ t. absurd t), (λ t. absurd t), (λ t. absurd t), (λ t. absurd t))
 
-pub lateral-side : (s : Side) (z : ℕ) → T (between 1 12 z) → T (isLateral z) → ofArea s z ≡ false → eqb (num s) (sideOf z) ≡ false
+lateral-side : (s : Side) (z : ℕ) → T (between 1 12 z) → T (isLateral z) → ofArea s z ≡ false → eqb (num s) (sideOf z) ≡ false
 unfolding sideOf
 lateral-side right =
     each-operation (λ z. T (isLateral z) → ofArea right z ≡ false → eqb 1 (sideOf z) ≡ false) ((λ t e. absurd t), (λ t e. absurd t), (λ t e. absurd t), (λ t e. absurd t), (λ t e. e), (λ t e. refl), (λ t e. absurd t), (λ t e. absurd t), (λ t e. absurd t), (λ t e. absurd t), (λ t e. absurd t), (λ t e. absurd t))
@@ -223,7 +223,7 @@ area-line s f (e ∷ l) t = go (decided (isIn (e .zone) (area (num s)))) (area-l
     go (inr b) h = subst (λ (c : Bool). T (neverFalls (map g (cond c (seen e ∷ those p (map seen l)) (those p (map seen l)))))) (sym b) h
 
 -- ---- 3
-pub area-number : (s : Side) (l : List Placed) → T (all (between 1 12) (zonesIn l)) → length (those (isInArea (num s)) (map seen l)) ≡ number (ofArea s) (zonesIn l)
+area-number : (s : Side) (l : List Placed) → T (all (between 1 12) (zonesIn l)) → length (those (isInArea (num s)) (map seen l)) ≡ number (ofArea s) (zonesIn l)
 area-number s [] t = refl
 area-number s (e ∷ l) t =
     ap (λ (b : Bool). length (cond b (seen e ∷ those (isInArea (num s)) (map seen l)) (those (isInArea (num s)) (map seen l)))) (area-is s (e .zone) (and-l (between 1 12 (e .zone)) (all (between 1 12) (zonesIn l)) t))
@@ -235,7 +235,7 @@ area-number s (e ∷ l) t =
     go false h = omega arith
 
 -- how many of those ahead have the side as fix, with one more ahead
-pub ahead-more : (s g : Side) (e : Placed) (ahead : List Listed) → e .aircraft .fix ≡ num g → length (those (hasFix (num s)) (seen e ∷ ahead)) ≡ one (eqb (num g) (num s)) + length (those (hasFix (num s)) ahead)
+ahead-more : (s g : Side) (e : Placed) (ahead : List Listed) → e .aircraft .fix ≡ num g → length (those (hasFix (num s)) (seen e ∷ ahead)) ≡ one (eqb (num g) (num s)) + length (those (hasFix (num s)) ahead)
 ahead-more s g e ahead h =
     ap (λ (n : ℕ). length (cond (eqb n (num s)) (seen e ∷ those (hasFix (num s)) ahead) (those (hasFix (num s)) ahead))) h ∙ go (eqb (num g) (num s))
   where
@@ -243,29 +243,28 @@ ahead-more s g e ahead h =
     go true = omega arith
     go false = omega arith
 
-pub same-fix : (f : Side) → one (eqb (num f) (num f)) ≡ 1
+same-fix : (f : Side) → one (eqb (num f) (num f)) ≡ 1
 same-fix right = refl
 same-fix left = refl
 
-pub other-fix : (f : Side) → one (eqb (num f) (num (opp f))) ≡ 0
+other-fix : (f : Side) → one (eqb (num f) (num (opp f))) ≡ 0
 other-fix right = refl
 other-fix left = refl
 
-pub opp-opp : (f : Side) → opp (opp f) ≡ f
+opp-opp : (f : Side) → opp (opp f) ≡ f
 opp-opp right = refl
 opp-opp left = refl
 
--- with k ahead in turn, k / 2 have the fix of the next one
-pub room-line : (k : ℕ) (f : Side) (ahead : List Listed) (l : List Placed) → length (those (hasFix (num f)) ahead) ≡ k / 2 → length (those (hasFix (num (opp f))) ahead) ≡ suc k / 2
-    → Alternates f l → T (all (between 1 12) (zonesIn l)) → T (model.roomToMiss k f (zonesIn l)) → T (eachAmong hasRoom ahead (map seen l))
-room-line k f ahead [] p q a t r = tt
-room-line k f ahead (e ∷ l) p q a t r =
+-- with k ahead in turn, k / 2 have the fix of the next one: room to miss is that of the model
+pub room-same : (k : ℕ) (f : Side) (ahead : List Listed) (l : List Placed) → length (those (hasFix (num f)) ahead) ≡ k / 2 → length (those (hasFix (num (opp f))) ahead) ≡ suc k / 2
+    → Alternates f l → T (all (between 1 12) (zonesIn l)) → eachAmong hasRoom ahead (map seen l) ≡ model.roomToMiss k f (zonesIn l)
+room-same k f ahead [] p q a t = refl
+room-same k f ahead (e ∷ l) p q a t =
     let ins = and-r (between 1 12 (e .zone)) (all (between 1 12) (zonesIn l)) t in
     let n = number (ofArea f) (zonesIn l) in
-    let rest = model.roomToMiss (suc k) (opp f) (zonesIn l) in
     let c = area-number f l ins in
-    let h = leb→le (n + k / 2) 1 (and-l (leb (n + k / 2) 1) rest r) in
-    let room : T (leb (length (those (isInArea (num f)) (map seen l)) + length (those (hasFix (num f)) ahead)) 1) = le→leb (length (those (isInArea (num f)) (map seen l)) + length (those (hasFix (num f)) ahead)) 1 (omega arith) in
+    let both : length (those (isInArea (num f)) (map seen l)) + length (those (hasFix (num f)) ahead) ≡ n + k / 2 = omega arith in
+    let room : hasRoom ahead (seen e) (map seen l) ≡ leb (n + k / 2) 1 = ap (λ (s : ℕ). leb (length (those (isInArea s) (map seen l)) + length (those (hasFix s) ahead)) 1) (a .0) ∙ ap (λ (m : ℕ). leb m 1) both in
     let same = ahead-more f f e ahead (a .0) in
     let other = ahead-more (opp f) f e ahead (a .0) in
     let one-more = same-fix f in
@@ -273,9 +272,8 @@ room-line k f ahead (e ∷ l) p q a t r =
     let p₂ : length (those (hasFix (num (opp f))) (seen e ∷ ahead)) ≡ suc k / 2 = omega arith in
     let q₁ : length (those (hasFix (num f)) (seen e ∷ ahead)) ≡ suc (suc k) / 2 = omega arith in
     let q₂ : length (those (hasFix (num (opp (opp f)))) (seen e ∷ ahead)) ≡ suc (suc k) / 2 = subst (λ (g : Side). length (those (hasFix (num g)) (seen e ∷ ahead)) ≡ suc (suc k) / 2) (sym (opp-opp f)) q₁ in
-    and-i (hasRoom ahead (seen e) (map seen l)) (eachAmong hasRoom (seen e ∷ ahead) (map seen l))
-    (subst (λ (s : ℕ). T (leb (length (those (isInArea s) (map seen l)) + length (those (hasFix s) ahead)) 1)) (sym (a .0)) room)
-    (room-line (suc k) (opp f) (seen e ∷ ahead) l p₂ q₂ (a .1) ins (and-r (leb (n + k / 2) 1) rest r))
+    ap (λ (b : Bool). b && eachAmong hasRoom (seen e ∷ ahead) (map seen l)) room
+    ∙ ap (λ (b : Bool). leb (n + k / 2) 1 && b) (room-same (suc k) (opp f) (seen e ∷ ahead) l p₂ q₂ (a .1) ins)
 
 -- ---- 4
 -- nobody of those ahead has the side of a lateral zone w as fix
@@ -325,7 +323,7 @@ orderly-reason f line runway legs o =
     record {
       approach-order = subst (λ (l : List Listed). T (neverFalls (map (λ (a : Listed). fromLanding (a .zone)) l))) (sym is) (approach-line f line chains);
       area-order = and-i (areaOrder (fieldOf f line runway legs) 1) (areaOrder (fieldOf f line runway legs) 2) (side right) (side left);
-      room-to-miss = subst (λ (l : List Listed). T (eachAmong hasRoom [] l)) (sym is) (room-line 0 f [] line refl refl (o .alternates) ins (and-r (leb (length zs) 4 && chain f zs) (model.roomToMiss 0 f zs) (o .okay-line)));
+      room-to-miss = subst (λ (l : List Listed). T (eachAmong hasRoom [] l)) (sym is) (subst T (sym (room-same 0 f [] line refl refl (o .alternates) ins)) (and-r (leb (length zs) 4 && chain f zs) (model.roomToMiss 0 f zs) (o .okay-line)));
       lateral-entry = subst (λ (l : List Listed). T (eachAmong lateralFree [] l)) (sym is) (lateral-line f [] line (o .alternates) chains (none-ahead zs));
       queues-agree = queues-line f line runway legs o;
     }

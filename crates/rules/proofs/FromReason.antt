@@ -14,13 +14,12 @@ use Rattle.field.specs.Boxes.{sideOf, area, lateral}
 use Rattle.field.specs.Counts.{isIn}
 use Rattle.field.specs.Bounds.{every}
 use Rattle.order.specs.Model.{Side, right, left, opp, num, between, count, sameArea, ofArea, isLateral, one, rank, height, number, all, mayLead, mayHead, chain}
-use Rattle.order.specs.Model as model
-use Rattle.rules.specs.Reason.{Listed, those, isInArea, hasFix, neverFalls, eachAmong, fromLanding, heightIn, hasRoom, lateralFree}
+use Rattle.rules.specs.Reason.{Listed, those, isInArea, hasFix, neverFalls, eachAmong, fromLanding, heightIn, lateralFree}
 use Rattle.rules.proofs.Tests.{passed, pass, failed, fail, decided, if-true, if-false, same}
 use Rattle.rules.proofs.Line.{Placed, zonesIn}
 use Rattle.rules.proofs.Counted.{Alternates}
 use Rattle.rules.proofs.Members.{absent-count}
-use Rattle.rules.proofs.AlongLine.{seen, each-operation, landing-rank, area-is, height-is, area-number, ahead-more, same-fix, other-fix, opp-opp}
+use Rattle.rules.proofs.AlongLine.{seen, each-operation, landing-rank, area-is, height-is}
 
 -- ---- those of a list of zones
 all-in : (p : ℕ → Bool) (zs : List ℕ) → ((w : ℕ) → isIn w zs ≡ true → T (p w)) → T (all p zs)
@@ -290,7 +289,7 @@ module _ (f : Side) (ahead : List Listed) (e : Placed) (l : List Placed) (k : Fa
         omega arith
   ]
 
--- ---- the chain and room to miss, in the model
+-- ---- the chain of the model
 pub chain-from : (f : Side) (ahead : List Listed) (l : List Placed) → Facts f ahead l → T (chain f (zonesIn l))
 chain-from f ahead [] k = tt
 chain-from f ahead (e ∷ l) k =
@@ -301,24 +300,3 @@ chain-from f ahead (e ∷ l) k =
     (and-i (between 1 12 z) (all (mayLead f z) zs) (and-l (between 1 12 z) (all (between 1 12) zs) (k .ins)) (all-in (mayLead f z) zs (may-lead f ahead e l k)))
     (le→leb (number (sameArea z) zs) 1 (few-behind f ahead e l k)))
     (chain-from (opp f) (seen e ∷ ahead) l (facts-behind f ahead e l k))
-
-pub room-from : (k : ℕ) (f : Side) (ahead : List Listed) (l : List Placed) → length (those (hasFix (num f)) ahead) ≡ k / 2 → length (those (hasFix (num (opp f))) ahead) ≡ suc k / 2
-    → Alternates f l → T (all (between 1 12) (zonesIn l)) → T (eachAmong hasRoom ahead (map seen l)) → T (model.roomToMiss k f (zonesIn l))
-room-from k f ahead [] p q a t r = tt
-room-from k f ahead (e ∷ l) p q a t r =
-    let ins = and-r (between 1 12 (e .zone)) (all (between 1 12) (zonesIn l)) t in
-    let n = number (ofArea f) (zonesIn l) in
-    let here = hasRoom ahead (seen e) (map seen l) in
-    let later = eachAmong hasRoom (seen e ∷ ahead) (map seen l) in
-    let c = area-number f l ins in
-    let room = subst (λ (s : ℕ). T (leb (length (those (isInArea s) (map seen l)) + length (those (hasFix s) ahead)) 1)) (a .0) (and-l here later r) in
-    let h = leb→le (length (those (isInArea (num f)) (map seen l)) + length (those (hasFix (num f)) ahead)) 1 room in
-    let same-more = ahead-more f f e ahead (a .0) in
-    let other-more = ahead-more (opp f) f e ahead (a .0) in
-    let one-more = same-fix f in
-    let no-more = other-fix f in
-    let p₂ : length (those (hasFix (num (opp f))) (seen e ∷ ahead)) ≡ suc k / 2 = omega arith in
-    let q₁ : length (those (hasFix (num f)) (seen e ∷ ahead)) ≡ suc (suc k) / 2 = omega arith in
-    let q₂ : length (those (hasFix (num (opp (opp f)))) (seen e ∷ ahead)) ≡ suc (suc k) / 2 = subst (λ (g : Side). length (those (hasFix (num g)) (seen e ∷ ahead)) ≡ suc (suc k) / 2) (sym (opp-opp f)) q₁ in
-    and-i (leb (n + k / 2) 1) (model.roomToMiss (suc k) (opp f) (zonesIn l)) (le→leb (n + k / 2) 1 (omega arith))
-    (room-from (suc k) (opp f) (seen e ∷ ahead) l p₂ q₂ (a .1) ins (and-r here later r))

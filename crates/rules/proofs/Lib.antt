@@ -30,4 +30,5 @@ pub mod Room
 pub mod Examples
 pub mod Stands
 pub mod FromReason
+pub mod Invariant
 pub mod Reason
