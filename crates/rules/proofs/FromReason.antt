@@ -3,7 +3,7 @@ use mathlib.Core.Path.{_≡_, refl, sym, ap, _∙_, subst}
 use mathlib.Core.Logic.{_⊎_, inl, inr}
 use mathlib.Core.Bool.{Bool, true, false, cond, not, _&&_, _||_, true≢false, false≢true}
 use mathlib.Core.List.{List, [], _∷_, _++_, map}
-use Prim.Native.Nat.{ℕ, suc, _+_, _/_, _%_, _≤_, _<_}
+use Prim.Native.Nat.{ℕ, _+_, _%_, _≤_}
 use native.Mathlib.Omega.{arith}
 use lib.Dec.{T, leb, ltb, eqb, leb→le, le→leb, eqb→eq}
 use lib.ListN.{length}
@@ -15,7 +15,7 @@ use Rattle.field.specs.Counts.{isIn}
 use Rattle.field.specs.Bounds.{every}
 use Rattle.order.specs.Model.{Side, right, left, opp, num, between, count, sameArea, ofArea, isLateral, one, rank, height, number, all, mayLead, mayHead, chain}
 use Rattle.rules.specs.Reason.{Listed, those, isInArea, hasFix, neverFalls, eachAmong, fromLanding, heightIn, lateralFree}
-use Rattle.rules.proofs.Tests.{passed, pass, failed, fail, decided, if-true, if-false, same}
+use Rattle.rules.proofs.Tests.{passed, pass, fail, decided, if-true, same}
 use Rattle.rules.proofs.Line.{Placed, zonesIn}
 use Rattle.rules.proofs.Counted.{Alternates}
 use Rattle.rules.proofs.Members.{absent-count}
@@ -38,7 +38,7 @@ in-all p (z ∷ zs) t w i = go (decided (eqb z w)) (in-all p zs (and-r (p z) (al
     go (inl b) later = subst (λ (y : ℕ). T (p y)) (eqb-true z w b) (and-l (p z) (all p zs) t)
     go (inr b) later = later (sym (ap (λ (c : Bool). c || isIn w zs) b) ∙ i)
 
-count-in : (zs : List ℕ) (w : ℕ) → isIn w zs ≡ true → 1 ≤ count zs w
+pub count-in : (zs : List ℕ) (w : ℕ) → isIn w zs ≡ true → 1 ≤ count zs w
 count-in zs w i = elim (decided (leb 1 (count zs w))) [ inl e ↦ leb→le 1 (count zs w) (pass e) | inr e ↦ absurd (true≢false (sym i ∙ absent-count zs w (let k = leb-false 1 (count zs w) e in omega arith))) ]
 
 number-in : (p : ℕ → Bool) (zs : List ℕ) (w : ℕ) → isIn w zs ≡ true → T (p w) → 1 ≤ number p zs

@@ -31,4 +31,5 @@ pub mod Examples
 pub mod Stands
 pub mod FromReason
 pub mod Invariant
+pub mod OneStep
 pub mod Reason

@@ -24,7 +24,7 @@ use Rattle.order.proofs.Facts.{okay-empty}
 use Rattle.rules.specs.Kinds.{startsFrom, headChecks, zoneBefore}
 use Rattle.rules.specs.Step.{checksOf, effectOf, numberOf, stepOf}
 use Rattle.rules.specs.Play.{fieldAfter}
-use Rattle.rules.specs.Reason.{Reason, RoomAtSide}
+use Rattle.rules.specs.Reason.{Reason, RoomAtSide, Sound, KeptBy}
 use Rattle.rules.specs.Examples.{crowded}
 use Rattle.rules.proofs.Tests.{passed, pass, decided, if-true, if-false}
 use Rattle.rules.proofs.Line.{Placed, fieldOf, empty-is}
@@ -36,6 +36,8 @@ use Rattle.rules.proofs.Runs.{Run, runs}
 use Rattle.rules.proofs.AlongLine.{orderly-reason}
 use Rattle.rules.proofs.Examples.{bounds-not-enough}
 use Rattle.rules.proofs.Room.{reason-gives-room}
+use Rattle.rules.proofs.Invariant.{reason-orderly}
+use Rattle.rules.proofs.OneStep.{orderly-kept}
 
 -- ---- after every list
 module _ (legs : Legs) (l : T (legalLegs legs)) where
@@ -59,18 +61,17 @@ module _ (legs : Legs) (l : T (legalLegs legs)) where
   pub always-room : (rs : List Request) → RoomAtSide (fieldAfter (emptyField legs) rs)
   always-room = after-list RoomAtSide (λ f line runway o. reason-gives-room (fieldOf f line runway legs) (orderly-reason f line runway legs o) (within-bounds f line runway legs o))
 
--- the field after a list and one more request
-after-one-more : (f : Field) (rs : List Request) (r : Request) → fieldAfter f (rs ++ (r ∷ [])) ≡ stepOf (fieldAfter f rs) r .field
-after-one-more f [] r = refl
-after-one-more f (q ∷ rs) r = after-one-more (stepOf f q .field) rs r
-
--- after any list, every request keeps the reason
-pub reason-kept : (legs : Legs) → T (legalLegs legs) → (rs : List Request) (r : Request) → Reason (stepOf (fieldAfter (emptyField legs) rs) r .field)
-reason-kept legs l rs r = subst Reason (after-one-more (emptyField legs) rs r) (reason-holds legs l (rs ++ (r ∷ [])))
-
 -- the field on which 25 refuses a miss is reached by no list
 pub crowded-not-reached : (legs : Legs) → T (legalLegs legs) → (rs : List Request) → fieldAfter (emptyField legs) rs ≡ crowded → ⊥
 crowded-not-reached legs l rs e = false≢true (sym (bounds-not-enough .no-room) ∙ passed (subst Reason e (reason-holds legs l rs) .room-to-miss))
+
+-- ---- one request, on any field
+
+-- on any field with its places, within the bounds and with the reason, every request keeps these, and neither 10 nor 25 is answered
+pub reason-kept : (f : Field) → Sound f → (r : Request) → KeptBy f r
+reason-kept f s r =
+    let o = reason-orderly f (s .places) (s .bounds) (s .reason) in
+    subst (λ (g : Field). KeptBy g r) (sym (o .is)) (orderly-kept (o .first) (o .line) (o .runway) (o .legs) (o .orderly) r)
 
 -- ---- a missed approach that is accepted
 

@@ -2,18 +2,17 @@
 -- and the zone that the look-up finds. Assumes nothing.
 use mathlib.Core.Path.{_≡_, refl, sym, ap, _∙_, subst}
 use mathlib.Core.Logic.{_⊎_, inl, inr}
-use mathlib.Core.Bool.{Bool, true, false, cond, not, _&&_, _||_, true≢false, false≢true}
+use mathlib.Core.Bool.{Bool, true, false, cond, _&&_, _||_, false≢true}
 use mathlib.Core.List.{List, [], _∷_, _++_, map, append-assoc}
-use Prim.Native.Nat.{ℕ, zero, suc, _+_, _-_, _≤_, _<_}
+use Prim.Native.Nat.{ℕ, suc, _+_, _-_, _≤_}
 use native.Mathlib.Omega.{arith}
 use lib.Dec.{T, leb, eqb, leb→le, eqb→eq}
 use lib.ListN.{length, take, drop, replicate, getD, take-append-drop, length-drop, length-append}
 use lib.Seq.{length-take-le, getD-append-seam}
 use lib.Ieee.Fits.{and-i, and-l, and-r}
-use borrow.Author.Tests.{eqb-true, eqb-false, ne-eqb}
+use borrow.Author.Tests.{eqb-true, eqb-false}
 use Rattle.leg.specs.declared.Progress.{Progress}
 use Rattle.leg.specs.declared.Progress.the-variants.{Waiting, Flying}
-use Rattle.request.specs.Input.{within}
 use Rattle.field.specs.declared.Aircraft.{Aircraft}
 use Rattle.field.specs.declared.Zone.{Zone}
 use Rattle.field.specs.declared.Sequence.{Sequence}
@@ -30,7 +29,7 @@ use Rattle.rules.proofs.Lists.{map-append, in-append}
 use Rattle.rules.proofs.Line.{zoneFor, sequenceFor, fieldBy, by-zones, Placed, zonesIn, numbersOf, inside, zonesOf, fieldOf}
 use Rattle.rules.proofs.Counted.{lower, not-13}
 use Rattle.rules.proofs.Located.{numbers, no-place, place-at, at, find-at, zone-split}
-use Rattle.rules.proofs.Members.{count-append, count-absent, absent-count, count-different}
+use Rattle.rules.proofs.Members.{count-append, absent-count, count-different}
 use Rattle.rules.proofs.AlongLine.{seen}
 
 -- ---- arrays of four places

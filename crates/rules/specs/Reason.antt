@@ -7,11 +7,13 @@ use Prim.Native.Nat.{ℕ, _+_, _≤_}
 use lib.Dec.{T, eqb, leb}
 use lib.ListN.{length}
 use Rattle.request.specs.Input.{within}
+use Rattle.request.specs.declared.Request.{Request}
 use Rattle.field.specs.declared.Field.{Field}
 use Rattle.field.specs.Boxes.{right, left, sideOf, at3000, missed, base, intermediate, finalApproach, area, everywhere, zoneOf, inZone, orderOf}
 use Rattle.field.specs.Counts.{isIn, inArea}
 use Rattle.field.specs.Find.{placeOf, fixOf}
-use Rattle.field.specs.Bounds.{every}
+use Rattle.field.specs.Bounds.{every, withinBounds}
+use Rattle.rules.specs.Step.{stepOf}
 
 -- ---- along the landing sequence
 
@@ -104,7 +106,21 @@ headsFinal f number = eqb (placeOf f number .zone) finalApproach && eqb (placeOf
 abbrev pub RoomAtSide : Field → Type 0
 RoomAtSide f = (number : ℕ) → T (headsFinal f number) → inArea f (fixOf f number) ≤ 1
 
--- ---- "Every such array has four places, the landing sequence too": so has every field of the program
+-- ---- the reason is kept
+
+-- "Every such array has four places, the landing sequence too": so has every field of the program
 unfoldable pub hasPlaces : Field → Bool
 hasPlaces f =
     eqb (length (f .zones)) 13 && every (λ z. eqb (length (zoneOf f z .aircraft)) 4) everywhere && eqb (length (f .sequence .numbers)) 4
+
+-- a field with its places, within the bounds, that has the reason
+pub record Sound (f : Field) : Type 0 where
+  pub places : T (hasPlaces f)
+  pub bounds : T (withinBounds f)
+  pub reason : Reason f
+
+-- a request leaves such a field behind, and neither 10 nor 25 refuses it
+pub record KeptBy (f : Field) (r : Request) : Type 0 where
+  pub sound : Sound (stepOf f r .field)
+  pub not-10 : T (not (eqb (stepOf f r .answer .number) 10))
+  pub not-25 : T (not (eqb (stepOf f r .answer .number) 25))
