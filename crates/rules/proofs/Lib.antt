@@ -26,3 +26,11 @@ pub mod Unstuck
 pub mod Demand
 pub mod Exact
 pub mod Refusals
+pub mod AlongLine
+pub mod Room
+pub mod Examples
+pub mod Stands
+pub mod FromReason
+pub mod Invariant
+pub mod OneStep
+pub mod Reason

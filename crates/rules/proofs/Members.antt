@@ -106,7 +106,7 @@ every-in xs ys h = go xs (λ n. count-le n)
         right-true false = refl
 
 -- ---- the numbers of the zones
-numbers-total : (f : Field) (n : ℕ) (zs : List ℕ) → count (numbersIn f zs) n ≡ total (λ z. count (numbers (inZone f z)) n) zs
+pub numbers-total : (f : Field) (n : ℕ) (zs : List ℕ) → count (numbersIn f zs) n ≡ total (λ z. count (numbers (inZone f z)) n) zs
 numbers-total f n [] = refl
 numbers-total f n (z ∷ zs) = let a = count-append (numbers (inZone f z)) (numbersIn f zs) n in let b = numbers-total f n zs in omega arith
 

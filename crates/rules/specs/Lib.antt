@@ -4,3 +4,5 @@ pub mod Play
 pub mod Demand
 pub mod Cases
 pub mod Exact
+pub mod Reason
+pub mod Examples
