@@ -4,6 +4,13 @@ use crate::needs::is_empty;
 use crate::needs::may_approach;
 use crate::needs::side_of;
 use crate::needs::zone_before;
+use crate::zones::AT_2000;
+use crate::zones::BASE;
+use crate::zones::FINAL;
+use crate::zones::INTERMEDIATE;
+use crate::zones::LATERAL;
+use crate::zones::MISSED;
+use crate::zones::RUNWAY;
 use field::Aircraft;
 use field::Field;
 use field::boxes::entering;
@@ -82,7 +89,7 @@ fn descended(f: Field, r: Request) -> Field
     ensures { λ g. ⌜ g ≡ moved f (zoneBefore f r) (at2000 (zoneBefore f r)) ⌝ }
 {
     let zone = zone_before(f, r);
-    moved(f, zone, 2 + zone)
+    moved(f, zone, AT_2000 + zone)
 }
 
 // Kind 4: the zone that an approach of the aircraft with a number leads to: base, or 2000 where a need is not met.
@@ -90,12 +97,12 @@ fn approach_zone(f: Field, number: u16, side: u8) -> usize
     ensures { λ z. ⌜ z ≡ cond (mayApproach f number && baseFree f side) (base side) (at2000 side) ⌝ }
 {
     if !may_approach(f, number) {
-        return 2 + side as usize;
+        return AT_2000 + side as usize;
     }
     if !base_free(f, side) {
-        return 2 + side as usize;
+        return AT_2000 + side as usize;
     }
-    8 + side as usize
+    BASE + side as usize
 }
 
 // Kind 4: the field with the request's aircraft moved to base, or to 2000 where a need of the approach is not met.
@@ -110,14 +117,14 @@ fn approached(f: Field, r: Request) -> Field
 fn landed(f: Field, r: Request) -> Field
     ensures { λ g. ⌜ g ≡ landed f r ⌝ }
 {
-    out_of_sequence(moved(f, 12, 13), r.number)
+    out_of_sequence(moved(f, FINAL, RUNWAY), r.number)
 }
 
 // Kind 9: the field with the head of intermediate gone and the request's aircraft out of the sequence.
 fn exited(f: Field, r: Request) -> Field
     ensures { λ g. ⌜ g ≡ exited f r ⌝ }
 {
-    out_of_sequence(head_gone(f, 11), r.number)
+    out_of_sequence(head_gone(f, INTERMEDIATE), r.number)
 }
 
 // The fix of an aircraft after its missed approach.
@@ -132,11 +139,11 @@ fn fix_after_miss(f: Field, a: Aircraft) -> u8
 fn missed_approach(f: Field, r: Request) -> Field
     ensures { λ g. ⌜ g ≡ missedApproach f r ⌝ }
 {
-    let a = aircraft_at(f, 12, 1);
-    let zone = 6 + a.fix as usize;
+    let a = aircraft_at(f, FINAL, 1);
+    let zone = MISSED + a.fix as usize;
     let fix = fix_after_miss(f, a);
     let b = with_fix(with_progress(a, progress_into(zone)), fix);
-    let g = tail_put(head_gone(f, 12), zone, b);
+    let g = tail_put(head_gone(f, FINAL), zone, b);
     let s = f.sequence;
     with_sequence(g, appended(removed(s, r.number), r.number), opposite(fix))
 }
@@ -148,10 +155,10 @@ fn held(f: Field, r: Request) -> Field
     let zone = zone_before(f, r);
     let side = side_of(zone) as usize;
     if !is_empty(f, side) {
-        return moved(moved(f, side, 2 + side), zone, side);
+        return moved(moved(f, side, AT_2000 + side), zone, side);
     }
-    if is_empty(f, 2 + side) {
-        return moved(f, zone, 2 + side);
+    if is_empty(f, AT_2000 + side) {
+        return moved(f, zone, AT_2000 + side);
     }
     moved(f, zone, side)
 }
@@ -171,13 +178,13 @@ pub fn effect(f: Field, r: Request) -> Field
     let kind = r.kind;
     match kind {
         1 => entered(f, r, r.side as usize),
-        2 => entered(f, r, 4 + r.side as usize),
+        2 => entered(f, r, LATERAL + r.side as usize),
         3 => descended(f, r),
         4 => approached(f, r),
-        5 => moved(f, zone_before(f, r), 11),
-        6 => moved(f, 11, 12),
+        5 => moved(f, zone_before(f, r), INTERMEDIATE),
+        6 => moved(f, INTERMEDIATE, FINAL),
         7 => landed(f, r),
-        8 => head_gone(f, 13),
+        8 => head_gone(f, RUNWAY),
         9 => exited(f, r),
         10 => missed_approach(f, r),
         11 => held(f, r),

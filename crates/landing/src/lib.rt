@@ -1,6 +1,7 @@
 // The step of any request on any field (rules' specs/Step.antt).
 pub mod effects;
 pub mod needs;
+pub mod zones;
 
 use crate::effects::effect;
 use crate::effects::held_along;

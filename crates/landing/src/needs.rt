@@ -1,4 +1,9 @@
 // Document 01, "Turned away by the field": what each kind of request needs, in order (rules' specs/Kinds.antt).
+use crate::zones::AT_2000;
+use crate::zones::BASE;
+use crate::zones::LATERAL;
+use crate::zones::MISSED;
+use crate::zones::RUNWAY;
 use field::Field;
 use field::boxes::flown_out_in;
 use field::boxes::opposite;
@@ -82,7 +87,7 @@ pub fn may_approach(f: Field, number: u16) -> bool
 pub fn base_free(f: Field, side: u8) -> bool
     ensures { λ r. ⌜ r ≡ baseFree f side ⌝ }
 {
-    how_many(f, 8 + opposite(side) as usize) <= 1
+    how_many(f, BASE + opposite(side) as usize) <= 1
 }
 
 // The first need of a request for an aircraft at the head of its zone that is not met, by its number: 12, 13 or 14; 0 where all are.
@@ -109,10 +114,10 @@ fn side_number(f: Field, side: u8) -> u16
     ensures { λ n. ⌜ n ≡ firstRefused ((18, isEmpty f (missed side)) ∷ (19, isEmpty f (lateral side)) ∷ (20, isEmpty f (at3000 side)) ∷ []) ⌝ }
 {
     let at = side as usize;
-    if !is_empty(f, 6 + at) {
+    if !is_empty(f, MISSED + at) {
         return 18;
     }
-    if !is_empty(f, 4 + at) {
+    if !is_empty(f, LATERAL + at) {
         return 19;
     }
     if !is_empty(f, at) {
@@ -158,7 +163,7 @@ fn descend_number(f: Field, r: Request) -> u16
     if n != 0 {
         return n;
     }
-    if !is_empty(f, 2 + zone_before(f, r)) {
+    if !is_empty(f, AT_2000 + zone_before(f, r)) {
         return 21;
     }
     0
@@ -254,7 +259,7 @@ fn land_number(f: Field, r: Request) -> u16
     if n != 0 {
         return n;
     }
-    if !is_empty(f, 13) {
+    if !is_empty(f, RUNWAY) {
         return 24;
     }
     0

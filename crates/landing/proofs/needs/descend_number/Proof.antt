@@ -6,7 +6,7 @@ use Rattle.field.specs.Bounds.{isEmpty}
 use Rattle.field.proofs.Parts.{holds, fails}
 use Rattle.rules.specs.Kinds.{descendChecks}
 use Rattle.landing.proofs.Refused.{head-then, head-unmet}
-use Rattle.landing.proofs.Zones.{zone-below}
+use Rattle.landing.proofs.Starts.{zone-below}
 use borrow.Author.Needs.{needs}
 use Rattle.landing.proofs.needs.descend_number.Statement.{statement}
 use Rattle.landing.proofs.needs.descend_number.Tie as tie

@@ -6,7 +6,7 @@ use Prim.Native.Nat.{ℕ}
 use native.Mathlib.Omega.{arith}
 use borrow.Author.Tests.{ne-eqb}
 use Rattle.rules.specs.Kinds.{startsFrom}
-use Rattle.landing.proofs.Zones.{from-3000, from-2000-or-lateral, from-missed, from-base, past-the-last}
+use Rattle.landing.proofs.Starts.{from-3000, from-2000-or-lateral, from-missed, from-base, past-the-last}
 use Rattle.landing.proofs.needs.starts_from.Statement.{statement}
 use Rattle.landing.proofs.needs.starts_from.Tie as tie
 
