@@ -67,8 +67,14 @@ fn shortened(library: &mut Library, mut practice: PracticeFile) -> PracticeFile 
     practice
 }
 
+/// At most this many bytes are printed.
+const PRINTED: usize = 256;
+
 fn hexadecimal(library: &mut Library, file: &[u8]) -> String {
-    let how = how(library, file);
-    let rows = file.chunks(16).map(|row| row.iter().map(|byte| format!("{byte:02x} ")).collect::<String>());
-    format!("# {how}\n{}\n", rows.map(|row| row.trim_end().to_string()).collect::<Vec<_>>().join("\n"))
+    let mut text = format!("# {}\n# {} bytes", how(library, file), file.len());
+    for (at, byte) in file.iter().take(PRINTED).enumerate() {
+        text.push(if at % 16 == 0 { '\n' } else { ' ' });
+        text += &format!("{byte:02x}");
+    }
+    text + if file.len() > PRINTED { " ..\n" } else { "\n" }
 }
