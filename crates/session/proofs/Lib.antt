@@ -3,3 +3,4 @@ pub mod Texts
 pub mod Tallies
 pub mod Playing
 pub mod Reports
+pub mod Balance

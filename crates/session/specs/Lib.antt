@@ -1,3 +1,4 @@
 pub mod Text
 pub mod Tally
 pub mod Report
+pub mod Balance

@@ -52,13 +52,13 @@ fn play_all(body: &[u8], legs: Legs, out: &mut Buffer) -> usize
         let Reading::One(r) = request_at(body, i) else {
             break;
         };
-        i += 1;
         let s = step(f, r);
         let a = s.answer;
-        at = put_answer(out, at, i, a);
+        at = put_answer(out, at, i + 1, a);
         t = counted(t, r, a);
         let g = s.field;
         f = g;
+        i += 1;
     }
     put_end(out, at, t, present_on(f))
 }

@@ -73,14 +73,14 @@ enum-known-r c = search needs
 enum-told : tie.Need-enum-told Inv-loop μ-loop
 enum-told c = search needs
 
-add-i : tie.Need-add-i Inv-loop μ-loop
-add-i c =
-    let l = c .before .before .before .before .loop in
-    let s = c .before .before .before .before .before .before .before .before in
-    omega (arith, s .pre, l .inv .within)
-
 step-requires : tie.Need-step-requires Inv-loop μ-loop
 step-requires c κs = search needs
+
+add-put-answer : tie.Need-add-put-answer Inv-loop μ-loop
+add-put-answer c =
+    let l = c .before .before .before .before .before .before .before .loop in
+    let s = c .before .before .before .before .before .before .before .before .before .before .before in
+    omega (arith, s .pre, l .inv .within)
 
 put-answer-requires : tie.Need-put-answer-requires Inv-loop μ-loop
 put-answer-requires c κs =
@@ -93,6 +93,12 @@ counted-requires : tie.Need-counted-requires Inv-loop μ-loop
 counted-requires c κs =
     let u = few (c .before .before .before .before .before .before .before .before) in
     record { entries = omega (arith, u .entries); taxis = omega (arith, u .taxis); exits = omega (arith, u .exits); misses = omega (arith, u .misses) }
+
+add-i : tie.Need-add-i Inv-loop μ-loop
+add-i c =
+    let l = c .before .before .before .before .before .before .before .before .before .before .loop in
+    let s = c .before .before .before .before .before .before .before .before .before .before .before .before .before .before in
+    omega (arith, s .pre, l .inv .within)
 
 loop-less : tie.Need-loop-less Inv-loop μ-loop
 loop-less c =
@@ -146,10 +152,11 @@ play-all-spec =
     request-at-requires
     enum-known-r
     enum-told
-    add-i
     step-requires
+    add-put-answer
     put-answer-requires
     counted-requires
+    add-i
     loop-less
     loop-again
     present-on-requires

@@ -1,0 +1,56 @@
+-- No report of a file that is accepted has a line with number 10 or 25, and its closing counts balance: demand 3, of the legs and
+-- requests that the file holds. Assumes nothing.
+use mathlib.Core.Path.{_≡_}
+use mathlib.Core.List.{List}
+use mathlib.Core.Bool.{true, _&&_}
+use Prim.Native.Nat.{ℕ}
+use lib.Dec.{T}
+use lib.Ieee.Fits.{and-i}
+use Rattle.leg.specs.Progress.{sixtyFourths, legalLeg}
+use Rattle.leg.proofs.Theorems.{sixty-fourths-legal}
+use Rattle.practice.specs.declared.FileLegs.{FileLegs}
+use Rattle.practice.specs.File.{legsOf, legsBody, requestsBody, legsAllowed, fileNumber}
+use Rattle.practice.specs.Requests.{requestsOf}
+use Rattle.practice.proofs.Accepted.{LegKnown, legs-known}
+use Rattle.practice.proofs.Meaning.{held}
+use Rattle.field.specs.Boxes.{emptyField}
+use Rattle.field.specs.Counts.{presentOn}
+use Rattle.field.specs.Bounds.{legalLegs}
+use Rattle.rules.specs.Play.{fieldAfter, played}
+use Rattle.rules.proofs.Demand.{demand-3}
+use Rattle.session.specs.Tally.{tallyOf}
+use Rattle.session.specs.Report.{legsInMiles, sessionReport}
+use Rattle.session.specs.Balance.{Balanced}
+use Rattle.session.proofs.Reports.{practice-holds, report-holds}
+
+-- the legs of an accepted file are legal
+legs-legal : (legs : FileLegs) → legsAllowed legs ≡ true → T (legalLegs (legsInMiles legs))
+unfolding legalLegs
+legs-legal legs e =
+    let k = legs-known legs e in
+    let m = legalLeg (sixtyFourths (legs .missed)) in
+    let b = legalLeg (sixtyFourths (legs .base)) in
+    let i = legalLeg (sixtyFourths (legs .intermediate)) in
+    let l = legalLeg (sixtyFourths (legs .last)) in
+    and-i (m && b && i) l (and-i (m && b) i (and-i m b (one (legs .missed) (k .missed)) (one (legs .base) (k .base))) (one (legs .intermediate) (k .intermediate))) (one (legs .last) (k .last))
+  where
+    one : (n : ℕ) → LegKnown n → T (legalLeg (sixtyFourths n))
+    one n k = sixty-fourths-legal n (record { least = k .low; most = k .high })
+
+pub report-balanced : (file : List ℕ) → fileNumber file ≡ 0 → Balanced file
+unfolding sessionReport tallyOf
+report-balanced file e =
+    let legs = legsOf (legsBody file) in
+    let rs = requestsOf (requestsBody file) in
+    let h = held file legs rs (practice-holds file e) in
+    let d = demand-3 (legsInMiles legs) (legs-legal legs (h .legs-legal)) rs in
+    let answers = played (emptyField (legsInMiles legs)) rs in
+    record {
+      answers = answers;
+      counts = tallyOf answers;
+      present = presentOn (fieldAfter (emptyField (legsInMiles legs)) rs);
+      report = report-holds file e;
+      no-10 = d .no-10;
+      no-25 = d .no-25;
+      balance = d .balance;
+    }
