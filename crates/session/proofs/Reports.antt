@@ -4,8 +4,8 @@ use mathlib.Core.Bool.{Bool, cond}
 use mathlib.Core.List.{List, [], _++_}
 use Prim.Native.Nat.{ℕ, _+_, _≤_}
 use native.Mathlib.Omega.{arith}
-use lib.ListN.{length, take, drop}
-use lib.Seq.{sets-eq, take-at, drop-at}
+use lib.ListN.{length, drop}
+use lib.Seq.{sets-eq}
 use borrow.Author.Tests.{eq-eqb, ne-eqb}
 use Rattle.practice.specs.File.{legsOf, legsBody, requestsBody, fileNumber}
 use Rattle.practice.specs.Requests.{requestsOf}
@@ -41,7 +41,6 @@ written {before} {after} {bytes} {n} p l h =
     let split : after ≡ bytes ++ drop n before = whole ∙ ap (λ (k : ℕ). bytes ++ drop k before) {x = 0 + length bytes} {y = n} (omega arith) in
     record {
       size = sym size;
+      buffer = split;
       fits = h;
-      bytes = ap (take n) split ∙ take-at bytes (drop n before) n size;
-      rest = ap (drop n) split ∙ drop-at bytes (drop n before) n size;
     }

@@ -2,7 +2,7 @@
 use Prim.Native.Nat.{ℕ, suc, _≤_}
 use mathlib.Core.Path.{_≡_}
 use mathlib.Core.List.{List, [], _∷_, _++_}
-use lib.ListN.{length, take, drop}
+use lib.ListN.{length, drop}
 use Rattle.leg.specs.Progress.{sixtyFourths}
 use Rattle.request.specs.declared.Request.{Request}
 use Rattle.practice.specs.declared.FileLegs.{FileLegs}
@@ -58,9 +58,8 @@ practiceReport (holds legs requests) = sessionReport (legsInMiles legs) requests
 unfoldable pub reportOf : List ℕ → List ℕ
 reportOf file = practiceReport (practiceOf file)
 
--- n bytes of the buffer are written: they are the report, and what stands after them is as before
+-- a report of n bytes is written: the buffer holds it, and after it what stood there before
 pub record Written (report : List ℕ) (before : List ℕ) (n : ℕ) (after : List ℕ) : Type 0 where
   pub size : n ≡ length report
+  pub buffer : after ≡ report ++ drop n before
   pub fits : n ≤ room
-  pub bytes : take n after ≡ report
-  pub rest : drop n after ≡ drop n before

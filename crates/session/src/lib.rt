@@ -20,8 +20,10 @@ use practice::file_number;
 use practice::request_at;
 ghost use mathlib.Core.Path.{_≡_};
 ghost use Prim.Native.Nat.{_≤_};
-ghost use lib.ListN.{length};
+ghost use mathlib.Core.List.{_++_};
+ghost use lib.ListN.{length, drop};
 ghost use Rattle.practice.specs.Requests.{requestsOf};
+ghost use Rattle.session.specs.Text.{room};
 ghost use Rattle.session.specs.Report.{legsInMiles, sessionReport, reportOf, Written};
 
 // The caller's buffer, long enough for every report.
@@ -65,7 +67,9 @@ fn play_all(body: &[u8], legs: Legs, out: &mut Buffer) -> usize
 
 // Writes the report of a practice file into the buffer, and yields its length.
 pub fn report(file: &[u8], out: &mut Buffer) -> usize
-    ensures { λ r. ⌜ Written (reportOf (now (file .entry))) (now (out .entry)) r (now (out .exit)) ⌝ }
+    ensures { λ r. ⌜ r ≡ length (reportOf (now (file .entry))) ⌝ }
+    ensures { λ r. ⌜ now (out .exit) ≡ reportOf (now (file .entry)) ++ drop r (now (out .entry)) ⌝ }
+    ensures { λ r. ⌜ r ≤ room ⌝ }
 {
     let number = file_number(file);
     if number != 0 {
@@ -77,7 +81,9 @@ pub fn report(file: &[u8], out: &mut Buffer) -> usize
 // The same for C and Rust (include/session.h).
 #[no_mangle]
 pub extern "C" fn baguymo_report(file: &[u8], out: &mut Buffer) -> usize
-    ensures { λ r. ⌜ Written (reportOf (now (file .entry))) (now (out .entry)) r (now (out .exit)) ⌝ }
+    ensures { λ r. ⌜ r ≡ length (reportOf (now (file .entry))) ⌝ }
+    ensures { λ r. ⌜ now (out .exit) ≡ reportOf (now (file .entry)) ++ drop r (now (out .entry)) ⌝ }
+    ensures { λ r. ⌜ r ≤ room ⌝ }
 {
     report(file, out)
 }

@@ -11,7 +11,7 @@ ghost use Rattle.session.specs.Text.{room, Put};
 ghost use Rattle.session.specs.Report.{answerLine, endLine, refusedReport, Written};
 
 // The line of the answer to a request.
-pub fn put_answer(out: &mut Buffer, at: usize, index: usize, a: Answer) -> usize
+pub(crate) fn put_answer(out: &mut Buffer, at: usize, index: usize, a: Answer) -> usize
     requires { ⌜ at + length (answerLine index a) ≤ room ⌝ }
     ensures { λ r. ⌜ Put (now (out .entry)) at (answerLine index a) (now (out .exit)) r ⌝ }
 {
@@ -28,7 +28,7 @@ pub fn put_answer(out: &mut Buffer, at: usize, index: usize, a: Answer) -> usize
 }
 
 // The last line, with the closing counts.
-pub fn put_end(out: &mut Buffer, at: usize, t: Tally, present: usize) -> usize
+pub(crate) fn put_end(out: &mut Buffer, at: usize, t: Tally, present: usize) -> usize
     requires { ⌜ at + length (endLine t present) ≤ room ⌝ }
     ensures { λ r. ⌜ Put (now (out .entry)) at (endLine t present) (now (out .exit)) r ⌝ }
     ensures { λ r. ⌜ length (now (out .entry)) ≡ room ⌝ }
@@ -39,7 +39,7 @@ pub fn put_end(out: &mut Buffer, at: usize, t: Tally, present: usize) -> usize
 }
 
 // The report of a refused file, from the buffer's first byte on.
-pub fn put_refused(out: &mut Buffer, number: u16) -> usize
+pub(crate) fn put_refused(out: &mut Buffer, number: u16) -> usize
     ensures { λ r. ⌜ Written (refusedReport number) (now (out .entry)) r (now (out .exit)) ⌝ }
 {
     let next = put_text(out, 0, b"file ");

@@ -7,7 +7,7 @@ ghost use lib.ListN.{length};
 ghost use Rattle.session.specs.Text.{decimal, line, room, Put};
 
 // One byte.
-pub fn put_byte(out: &mut Buffer, at: usize, byte: u8) -> usize
+pub(crate) fn put_byte(out: &mut Buffer, at: usize, byte: u8) -> usize
     requires { ⌜ at < room ⌝ }
     ensures { λ r. ⌜ Put (now (out .entry)) at (byte ∷ []) (now (out .exit)) r ⌝ }
     ensures { λ r. ⌜ length (now (out .entry)) ≡ room ⌝ }
@@ -18,7 +18,7 @@ pub fn put_byte(out: &mut Buffer, at: usize, byte: u8) -> usize
 }
 
 // A text of one byte or more.
-pub fn put_text(out: &mut Buffer, at: usize, text: &[u8]) -> usize
+pub(crate) fn put_text(out: &mut Buffer, at: usize, text: &[u8]) -> usize
     requires { ⌜ (0 < length (now text)) × (at + length (now text) ≤ room) ⌝ }
     ensures { λ r. ⌜ Put (now (out .entry)) at (now (text .entry)) (now (out .exit)) r ⌝ }
     ensures { λ r. ⌜ length (now (out .entry)) ≡ room ⌝ }
@@ -33,7 +33,7 @@ pub fn put_text(out: &mut Buffer, at: usize, text: &[u8]) -> usize
 }
 
 // A number in decimal.
-pub fn put_number(out: &mut Buffer, at: usize, n: usize) -> usize
+pub(crate) fn put_number(out: &mut Buffer, at: usize, n: usize) -> usize
     requires { ⌜ at + length (decimal n) ≤ room ⌝ }
     ensures { λ r. ⌜ Put (now (out .entry)) at (decimal n) (now (out .exit)) r ⌝ }
 {
@@ -45,7 +45,7 @@ pub fn put_number(out: &mut Buffer, at: usize, n: usize) -> usize
 }
 
 // A line of numbers.
-pub fn put_line(out: &mut Buffer, at: usize, numbers: &[usize]) -> usize
+pub(crate) fn put_line(out: &mut Buffer, at: usize, numbers: &[usize]) -> usize
     requires { ⌜ at + length (line (now numbers)) ≤ room ⌝ }
     ensures { λ r. ⌜ Put (now (out .entry)) at (line (now (numbers .entry))) (now (out .exit)) r ⌝ }
 {

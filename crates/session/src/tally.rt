@@ -6,7 +6,7 @@ ghost use Prim.Native.Nat.{_≤_};
 ghost use Rattle.session.specs.Tally.{Under, counted};
 
 // How many entries, taxis, exits and misses were accepted.
-pub struct Tally {
+pub(crate) struct Tally {
     pub entries: usize,
     pub taxis: usize,
     pub exits: usize,
@@ -14,7 +14,7 @@ pub struct Tally {
 }
 
 // The counts before the first request.
-pub fn none() -> Tally
+pub(crate) fn none() -> Tally
     ensures { λ t. ⌜ t ≡ record { entries = 0; taxis = 0; exits = 0; misses = 0 } ⌝ }
 {
     Tally {
@@ -26,7 +26,7 @@ pub fn none() -> Tally
 }
 
 // The counts with a request and its answer counted.
-pub fn counted(t: Tally, r: Request, a: Answer) -> Tally
+pub(crate) fn counted(t: Tally, r: Request, a: Answer) -> Tally
     requires { ⌜ Under 65536 t ⌝ }
     ensures { λ u. ⌜ u ≡ counted t (r, a) ⌝ }
 {

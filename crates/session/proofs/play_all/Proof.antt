@@ -2,7 +2,7 @@
 -- counted, and the rest is to be played from the field reached. Assumes nothing.
 use mathlib.Core.Path.{_≡_, sym, _∙_, subst, subst⁻¹}
 use mathlib.Core.List.{_++_}
-use Prim.Native.Nat.{_+_, _-_, _≤_}
+use Prim.Native.Nat.{ℕ, _+_, _-_, _≤_, _<_}
 use native.Mathlib.Omega.{arith}
 use lib.ListN.{length}
 use denote.Ref.{now}
@@ -37,15 +37,20 @@ reading c = sym (c .before .before .request-at .ensures) ∙ c .r .given .1
 no-reading : (c : tie.After-enum-told Inv-loop μ-loop) → readingAt (requestsOf (now (c .before .before .before .before .before .before .before .args .body))) (c .before .before .before .loop .i) ≡ End
 no-reading c = sym (c .before .before .request-at .ensures) ∙ c .enum-told .given .1
 
--- the line of the answer is short
-short : (c : tie.After-step Inv-loop μ-loop) → length (answerLine (c .before .before .before .before .before .loop .i + 1) (c .step .result .answer)) ≤ 31
-short c =
+-- the line of the answer is short, with every index of four digits
+short : (c : tie.After-step Inv-loop μ-loop) {index : ℕ} → index < 10000 → length (answerLine index (c .step .result .answer)) ≤ 31
+short c {index} h =
+    let f = c .before .before .before .before .before .loop .f in
+    let r = c .before .before .r .given .0 .0 in
+    answer-length index (c .step .result .answer) h (subst⁻¹ (λ (x : Stepped). Short (x .answer)) (c .step .ensures) (short-step f r)) (omega (arith, c .step .ok)) (omega (arith, c .step .ok)) (omega (arith, c .step .ok))
+
+-- so there is room for it
+room-here : (c : tie.After-step Inv-loop μ-loop) {index : ℕ} → index < 10000 → c .before .before .before .before .before .loop .at + length (answerLine index (c .step .result .answer)) ≤ room
+room-here c h =
     let l = c .before .before .before .before .before .loop in
     let s = c .before .before .before .before .before .before .before .before .before in
-    let r = c .before .before .r .given .0 .0 in
-    let h = here (requestsOf (now (s .args .body))) (l .i) r (reading (c .before .before)) in
-    answer-length (l .i + 1) (c .step .result .answer) (omega (arith, s .pre)) (subst⁻¹ (λ (x : Stepped). Short (x .answer)) (c .step .ensures) (short-step (l .f) r)) (omega (arith, c .step .ok)) (omega (arith, c .step .ok))
-    (omega (arith, c .step .ok))
+    let i = here (requestsOf (now (s .args .body))) (l .i) (c .before .before .r .given .0 .0) (reading (c .before .before)) in
+    omega (arith, short c h, l .inv .short, s .pre)
 
 -- each count is below 4097
 few : (c : tie.At-loop Inv-loop μ-loop) → Under 4097 (c .loop .t)
@@ -86,8 +91,7 @@ put-answer-requires : tie.Need-put-answer-requires Inv-loop μ-loop
 put-answer-requires c κs =
     let l = c .before .before .before .before .before .before .before .loop in
     let s = c .before .before .before .before .before .before .before .before .before .before .before in
-    let h = here (requestsOf (now (s .args .body))) (l .i) (c .before .before .before .before .r .given .0 .0) (reading (c .before .before .before .before)) in
-    omega (arith, short (c .before .before), l .inv .short, s .pre)
+    room-here (c .before .before) (omega (arith, l .inv .within, s .pre))
 
 counted-requires : tie.Need-counted-requires Inv-loop μ-loop
 counted-requires c κs =
@@ -112,7 +116,7 @@ loop-again c =
     let t = c .before .before .before .before .before in
     let k = t .before .before in
     let rs = requestsOf (now (k .before .before .before .before .before .before .before .args .body)) in
-    playing-more rs (k .before .before .before .loop .inv) (k .r .given .0 .0) (t .step .result) (reading k) (t .step .ensures) (short t) (c .before .before .put-answer .ensures) (c .before .counted .ensures)
+    playing-more rs (k .before .before .before .loop .inv) (k .r .given .0 .0) (t .step .result) (reading k) (t .step .ensures) (short t (omega (arith, k .before .before .before .loop .inv .within, k .before .before .before .before .before .before .before .pre))) (c .before .before .put-answer .ensures) (c .before .counted .ensures)
 
 present-on-requires : tie.Need-present-on-requires Inv-loop μ-loop
 present-on-requires c κs = search needs

@@ -1,7 +1,7 @@
 -- `session::report` meets its contract: the report of a refused file, or of the session that the file holds. Assumes nothing.
 use mathlib.Core.Path.{_≡_, sym, ap, _∙_, subst}
-use mathlib.Core.List.{List}
-use Prim.Native.Nat.{ℕ, _-_}
+use mathlib.Core.List.{List, _++_}
+use Prim.Native.Nat.{ℕ, _-_, _≤_}
 use native.Mathlib.Omega.{arith}
 use lib.ListN.{length, take, drop}
 use denote.Ref.{now}
@@ -10,6 +10,7 @@ use Rattle.practice.specs.File.{legsOf, legsBody, requestsBody, fileNumber}
 use Rattle.practice.specs.Requests.{requestsOf}
 use Rattle.practice.proofs.Meaning.{Held, held}
 use Rattle.field.specs.declared.Legs.{Legs}
+use Rattle.session.specs.Text.{room}
 use Rattle.session.specs.Report.{legsInMiles, sessionReport, refusedReport, Written}
 use Rattle.session.proofs.Reports.{practice-holds, report-holds, report-refused}
 use borrow.Author.Needs.{needs}
@@ -28,6 +29,10 @@ holding c =
     let file = now (c .before .before .before .args .file) in
     held file (legsOf (legsBody file)) (requestsOf (requestsBody file)) (practice-holds file (accepted c))
 
+-- what is written, as the contract says it
+stated : {bytes before after : List ℕ} {n : ℕ} → Written bytes before n after → (n ≡ length bytes) × ((after ≡ bytes ++ drop n before) × (n ≤ room))
+stated w = (w .size, (w .buffer, w .fits))
+
 file-number-requires : tie.Need-file-number-requires
 file-number-requires c κs = search needs
 
@@ -38,8 +43,9 @@ returns : tie.Need-returns
 returns c =
     let k = c .before .before in
     let file = now (k .before .before .before .args .file) in
-    subst (λ (bytes : List ℕ). Written bytes (now (k .before .before .before .args .out)) (c .put-refused .result) (c .put-refused .last .0))
-    (ap refusedReport (k .before .file-number .ensures) ∙ sym (report-refused file (refused k))) (c .put-refused .ensures)
+    stated
+    (subst (λ (bytes : List ℕ). Written bytes (now (k .before .before .before .args .out)) (c .put-refused .result) (c .put-refused .last .0))
+    (ap refusedReport (k .before .file-number .ensures) ∙ sym (report-refused file (refused k))) (c .put-refused .ensures))
 
 sub-play-all : tie.Need-sub-play-all
 sub-play-all c = holding c .long
@@ -71,7 +77,7 @@ returns-2 c =
     let legs = c .before .before .legs-in-miles .ensures ∙ ap legsInMiles (c .before .before .before .file-legs .ensures ∙ holding k .legs-read) in
     let body = ap requestsOf (part-to-end file 34) in
     let all = ap (λ (l : Legs). sessionReport l (requestsOf (take (length file - 34) (drop 34 file)))) legs ∙ ap (sessionReport (legsInMiles (legsOf (legsBody file)))) body ∙ sym (report-holds file (accepted k)) in
-    subst (λ (bytes : List ℕ). Written bytes (now (s .args .out)) (c .play-all .result) (c .play-all .last .1 .1 .0)) all (c .play-all .ensures)
+    stated (subst (λ (bytes : List ℕ). Written bytes (now (s .args .out)) (c .play-all .result) (c .play-all .last .1 .1 .0)) all (c .play-all .ensures))
 
 pub report-spec : {M : Type 1} → statement M
 report-spec =
