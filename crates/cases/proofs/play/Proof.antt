@@ -1,10 +1,16 @@
 -- `cases::play` is safe and ends: as many bytes are written as the report has. Assumes nothing.
-use mathlib.Core.Path.{sym, ap, _∙_}
+use mathlib.Core.Path.{sym, ap}
+use Prim.Native.Nat.{_≤_}
 use native.Mathlib.Omega.{arith}
-use lib.ListN.{length, length-take}
+use lib.ListN.{length, length-append}
+use lib.Seq.{length-take-le}
 use borrow.Author.Needs.{needs}
 use Rattle.cases.proofs.play.Statement.{statement}
 use Rattle.cases.proofs.play.Tie as tie
+
+-- the report lies within the buffer
+within : (c : tie.After-report) → c .report .result ≤ length (c .report .last .1 .0)
+within c = omega (arith, c .report .ensures .0, simp length-append at (ap length (c .report .ensures .1 .0)))
 
 slice-aggregate-read-full : tie.Need-slice-aggregate-read-full
 slice-aggregate-read-full c = search needs
@@ -22,13 +28,10 @@ report-requires : tie.Need-report-requires
 report-requires c κs = search needs
 
 array-share-prefix-out : tie.Need-array-share-prefix-out
-array-share-prefix-out c =
-    let w = c .report .ensures in
-    let t = length-take (c .report .result) (c .report .last .1 .0) in
-    omega (arith, w .size, ap length (w .bytes))
+array-share-prefix-out c = within c
 
 slice-aggregate-write-all : tie.Need-slice-aggregate-write-all
-slice-aggregate-write-all c = let w = c .before .report .ensures in w .size ∙ sym (ap length (w .bytes))
+slice-aggregate-write-all c = sym (length-take-le (c .before .report .result) (c .before .report .last .1 .0) (within (c .before)))
 
 write-all-requires : tie.Need-write-all-requires
 write-all-requires c κs = search needs
