@@ -7,7 +7,7 @@ use native.Mathlib.Numerals.{add-one}
 use native.Mathlib.Omega.{arith}
 use lib.ListN.{length, getD, take, drop, set, length-take, drop-of-length-le}
 use Rattle.field.specs.Edits.{setFromOne}
-use lib.Seq.{drop-cons, getD-take, take-suc, set-at, getD-at, take-all, length-take-le}
+use lib.Seq.{drop-cons, take-suc, set-at, getD-at, take-all, length-take-le}
 
 module _ {ℓ} {A : Type ℓ} where
   -- a list of four is its elements in a row
@@ -47,7 +47,8 @@ module _ {ℓ} {A : Type ℓ} where
     walked-none h = record { within = h; rest = refl }
 
     -- where an element x leaves it to the rest, ..
-    pub walked-more : (i : ℕ) {x : A} → Walked t l s i → i < length l → drop i l ≡ x ∷ drop (i + 1) l → t (x ∷ drop (i + 1) l) ≡ t (drop (i + 1) l) → Walked t l s (i + 1)
+    pub walked-more : (i : ℕ) {x : A} → Walked t l s i → i < length l → drop i l ≡ x ∷ drop (i + 1) l
+        → t (x ∷ drop (i + 1) l) ≡ t (drop (i + 1) l) → Walked t l s (i + 1)
     walked-more i w h e g = record { within = omega arith; rest = w .rest ∙ ap t e ∙ g }
 
     -- .. where it decides, ..
@@ -59,13 +60,15 @@ module _ {ℓ} {A : Type ℓ} where
     walked-all i w h = w .rest ∙ ap t (drop-of-length-le l {i = i} h)
 
   -- an array zs that is being written: it is ys before place i, and xs from there on. Place i of it is still that of xs, whatever the default; ..
-  pub filled-at : (zs ys xs : List A) (i : ℕ) (d b : A) → i < length xs → length ys ≡ length xs → zs ≡ take i ys ++ drop i xs → getD zs i b ≡ getD xs i d
+  pub filled-at : (zs ys xs : List A) (i : ℕ) (d b : A) → i < length xs → length ys ≡ length xs
+      → zs ≡ take i ys ++ drop i xs → getD zs i b ≡ getD xs i d
   filled-at zs ys xs i d b h e f =
       let long : length (take i ys) ≡ i = length-take-le i ys (omega arith) in
       rw (f, drop-cons xs i d h) (getD-at (take i ys) (getD xs i d) (drop (suc i) xs) b i long)
 
   -- .. with that of ys written there it is ys for one place more; ..
-  pub filled-more : (zs ys xs : List A) (i : ℕ) (d y : A) → i < length xs → length ys ≡ length xs → zs ≡ take i ys ++ drop i xs → y ≡ getD ys i d → set zs i y ≡ take (i + 1) ys ++ drop (i + 1) xs
+  pub filled-more : (zs ys xs : List A) (i : ℕ) (d y : A) → i < length xs → length ys ≡ length xs
+      → zs ≡ take i ys ++ drop i xs → y ≡ getD ys i d → set zs i y ≡ take (i + 1) ys ++ drop (i + 1) xs
   filled-more zs ys xs i d y h e f g =
       let below : i < length ys = omega arith in
       let long : length (take i ys) ≡ i = length-take-le i ys (omega arith) in

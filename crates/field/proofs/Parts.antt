@@ -1,12 +1,15 @@
--- Tests that have several parts: a conjunction and a disjunction by their parts, and a test of each zone from `first` to `last`, one
--- zone a turn. Assumes nothing.
+-- Tests that have several parts: a conjunction and a disjunction by their parts, a test of each element of a list, one a turn, and of
+-- each zone from `first` to `last`. Assumes nothing.
 use mathlib.Core.Path.{_≡_, refl, sym, ap, _∙_}
 use mathlib.Core.Bool.{Bool, true, false, cond, not, _&&_, _||_}
+use mathlib.Core.List.{List, _∷_}
 use Prim.Native.Nat.{ℕ, suc, _+_, _-_, _≤_, _<_}
 use native.Mathlib.Numerals.{add-one}
 use native.Mathlib.Omega.{arith}
 use borrow.Author.Tests.{le-leb, lt-leb, eq-eqb, ne-eqb, not-true, not-false}
 use lib.Dec.{leb, eqb}
+use lib.ListN.{length, getD, drop}
+use Rattle.field.proofs.Arrays.{Walked, next-of, walked-none, walked-more, walked-stop, walked-all}
 use Rattle.field.specs.Boxes.{zonesFrom}
 use Rattle.field.specs.Bounds.{every}
 
@@ -47,6 +50,38 @@ is e h = eq-eqb _ _ (sym e ∙ h)
 
 pub is-not : {n k r : ℕ} → r ≡ n → (r ≡ k → ⊥) → eqb n k ≡ false
 is-not e h = ne-eqb _ _ (λ g. h (e ∙ g))
+
+-- a loop that tests each element of l from place s on
+module _ {A : Type 0} (p : A → Bool) (l : List A) (s : ℕ) where
+  pub each-more : (i : ℕ) {x : A} → Walked (every p) l s i → i < length l → drop i l ≡ x ∷ drop (i + 1) l → p x ≡ true
+      → Walked (every p) l s (i + 1)
+  each-more i w h e g = walked-more (every p) l s i w h e (and-then g refl)
+
+  -- the element that fails decides
+  pub each-not : (i : ℕ) {x : A} → Walked (every p) l s i → drop i l ≡ x ∷ drop (i + 1) l → p x ≡ false → every p (drop s l) ≡ false
+  each-not i w e g = walked-stop (every p) l s i w e (and-cut _ g)
+
+  -- the same of an array of four whose length is s
+  pub record Kept (i : ℕ) : Type 0 where
+    pub long : length l ≡ 4
+    pub fits : s ≤ 4
+    pub walked : Walked (every p) l s i
+
+  pub kept-none : length l ≡ 4 → s ≤ 4 → Kept s
+  kept-none e h = record { long = e; fits = h; walked = walked-none (every p) l s (omega arith) }
+
+  pub kept-more : (i : ℕ) (d : A) → Kept i → i < 4 → p (getD l i d) ≡ true → Kept (i + 1)
+  kept-more i d k h g =
+      let below : i < length l = omega arith in
+      record { long = k .long; fits = k .fits; walked = each-more i (k .walked) below (next-of l i d below) g }
+
+  pub kept-not : (i : ℕ) (d : A) → Kept i → i < 4 → p (getD l i d) ≡ false → (leb s 4 && every p (drop s l)) ≡ false
+  kept-not i d k h g =
+      let below : i < length l = omega arith in
+      and-then (le-leb s 4 (k .fits)) (each-not i (k .walked) (next-of l i d below) g)
+
+  pub kept-all : (i : ℕ) → Kept i → 4 ≤ i → (leb s 4 && every p (drop s l)) ≡ true
+  kept-all i k h = and-then (le-leb s 4 (k .fits)) (walked-all (every p) l s i (k .walked) (omega arith))
 
 -- a loop to whose zone z each zone from `first` has passed the test p
 pub record Passed (p : ℕ → Bool) (first last z : ℕ) : Type 0 where

@@ -20,7 +20,8 @@ module _ (legs : Legs) (amount : ℕ) where
   length-ticked z [] = refl
   length-ticked z (q ∷ qs) = ap suc (length-ticked (suc z) qs)
 
-  pub getD-ticked : (z : ℕ) (qs : List Zone) (i : ℕ) (d : Zone) → i < length qs → getD (tickedFrom legs amount z qs) i d ≡ tickedIn legs amount (i + z) (getD qs i d)
+  pub getD-ticked : (z : ℕ) (qs : List Zone) (i : ℕ) (d : Zone) → i < length qs
+      → getD (tickedFrom legs amount z qs) i d ≡ tickedIn legs amount (i + z) (getD qs i d)
   getD-ticked z [] i d h = absurd (omega arith)
   getD-ticked z (q ∷ qs) zero d h = ap (λ (n : ℕ). tickedIn legs amount n q) (sym (zero-add z))
   getD-ticked z (q ∷ qs) (suc i) d h =

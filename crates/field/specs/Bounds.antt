@@ -1,7 +1,7 @@
 -- Document 01, "The bounds", a to g, each a test of any field.
 use mathlib.Core.Bool.{Bool, true, false, cond, not, _&&_, _||_}
 use mathlib.Core.List.{List, [], _∷_, _++_, map}
-use Prim.Native.Nat.{ℕ, zero, suc, _+_}
+use Prim.Native.Nat.{ℕ}
 use lib.Dec.{eqb, leb}
 use lib.ListN.{length, drop}
 use Rattle.leg.specs.Progress.{withinLeg, legalLeg}
@@ -12,7 +12,7 @@ use Rattle.field.specs.declared.Zone.{Zone}
 use Rattle.field.specs.declared.Sequence.{Sequence}
 use Rattle.field.specs.declared.Legs.{Legs}
 use Rattle.field.specs.declared.Field.{Field}
-use Rattle.field.specs.Boxes.{right, left, isSide, opposite, at3000, at2000, lateral, missed, finalApproach, runway, zonesFrom, operation, everywhere, isFlyingZone, zoneOf, inZone, orderOf, legOf, nobody}
+use Rattle.field.specs.Boxes.{right, left, isSide, opposite, at3000, at2000, lateral, missed, finalApproach, runway, zonesFrom, operation, everywhere, isFlyingZone, zoneOf, inZone, orderOf, legOf}
 use Rattle.field.specs.Counts.{isIn, howMany, inOperation, inArea, perFix}
 use Rattle.field.specs.Find.{aircraftAt, fixOf, isFirst}
 

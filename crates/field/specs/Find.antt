@@ -1,7 +1,7 @@
 -- Document 01, "The boxes" and refusals 12 to 14 and 22: where an aircraft is, and whom it follows.
-use mathlib.Core.Bool.{Bool, true, false, cond}
+use mathlib.Core.Bool.{Bool, false, cond}
 use mathlib.Core.List.{List, [], _∷_}
-use Prim.Native.Nat.{ℕ, zero, suc}
+use Prim.Native.Nat.{ℕ, suc}
 use lib.Dec.{eqb}
 use lib.ListN.{getD}
 use Rattle.field.specs.declared.Aircraft.{Aircraft}

@@ -160,7 +160,7 @@ pub fn zone_kept(q: Zone) -> bool
     true
 }
 
-// Whether all thirteen zones are so kept.
+// Whether each of the thirteen zones is kept so.
 fn zones_kept(f: Field) -> bool
     ensures { λ r. ⌜ r ≡ every (λ z. zoneKept (zoneOf f z)) everywhere ⌝ }
 {
@@ -258,7 +258,7 @@ pub fn fits_zone(legs: Legs, zone: usize, a: Aircraft) -> bool
     is_waiting(p)
 }
 
-// Whether all of a zone's queue do.
+// Whether everyone in a zone's queue fits the zone.
 fn zone_fits(legs: Legs, zone: usize, q: Zone) -> bool
     ensures { λ r. ⌜ r ≡ every (fitsZone legs zone) (queueOf q) ⌝ }
 {
@@ -272,7 +272,7 @@ fn zone_fits(legs: Legs, zone: usize, q: Zone) -> bool
     true
 }
 
-// Whether all on the field do.
+// Whether everyone on the field fits their zone.
 fn zones_fit(f: Field) -> bool
     ensures { λ r. ⌜ r ≡ every (λ z. every (fitsZone (f .legs) z) (inZone f z)) everywhere ⌝ }
 {

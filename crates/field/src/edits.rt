@@ -67,7 +67,7 @@ pub fn appended(s: Sequence, number: u16) -> Sequence
 }
 
 // How many stand before a number in the sequence; as many as it has where the number is absent.
-pub fn before(s: Sequence, number: u16) -> usize
+fn before(s: Sequence, number: u16) -> usize
     ensures { λ r. ⌜ r ≡ before number (orderOf s) ⌝ }
 {
     let end = order_length(s);

@@ -15,7 +15,7 @@ ghost use Rattle.field.specs.Counts.{isIn};
 ghost use Rattle.field.specs.Bounds.{every, numbersIn, allDifferent, numbersDiffer, sequenceExact};
 
 // Whether a number is one of the listed ones.
-pub fn is_in(numbers: &[u16], number: u16) -> bool
+fn is_in(numbers: &[u16], number: u16) -> bool
     ensures { λ r. ⌜ r ≡ isIn number (now (numbers .entry)) ⌝ }
 {
     for i in 0..numbers.len() {
@@ -27,7 +27,7 @@ pub fn is_in(numbers: &[u16], number: u16) -> bool
 }
 
 // Whether no number is listed twice.
-pub fn all_different(numbers: &[u16]) -> bool
+fn all_different(numbers: &[u16]) -> bool
     ensures { λ r. ⌜ r ≡ allDifferent (now (numbers .entry)) ⌝ }
 {
     for i in 0..numbers.len() {
@@ -63,9 +63,9 @@ fn each_in(numbers: &[u16], others: &[u16]) -> bool
 }
 
 // Numbers in a row: those within the length.
-pub struct Numbers {
-    pub list: [u16; 52],
-    pub length: usize,
+struct Numbers {
+    list: [u16; 52],
+    length: usize,
 }
 
 // The numbers with those of a queue behind them.

@@ -1,3 +1,3 @@
 pub mod Refused
-pub mod Zones
+pub mod Starts
 pub mod Steps

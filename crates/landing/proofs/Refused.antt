@@ -1,7 +1,7 @@
--- The first need that is not met: after the needs of an aircraft at its zone's head, and of two lists of needs. Assumes nothing.
+-- The first need that is not met, of a list of needs that goes on after others. Assumes nothing.
 use mathlib.Core.Path.{_≡_, refl, sym, ap, _∙_}
 use mathlib.Core.List.{List, [], _∷_, _++_}
-use mathlib.Core.Bool.{Bool, true, false, cond, not}
+use mathlib.Core.Bool.{Bool, true, false, cond}
 use Prim.Native.Nat.{ℕ}
 use native.Mathlib.Nat.{ne-of-gt}
 use lib.Dec.{eqb, leb→le}
@@ -10,35 +10,62 @@ use Rattle.request.specs.Input.{firstRefused}
 use Rattle.request.specs.declared.Request.{Request}
 use Rattle.request.proofs.Tests.{Numbered}
 use Rattle.field.specs.declared.Field.{Field}
-use Rattle.field.specs.Find.{placeOf}
-use Rattle.rules.specs.Kinds.{zoneBefore, startsFrom, headChecks}
+use Rattle.rules.specs.Kinds.{headChecks, flownOutChecks}
 
 -- what holds of both holds of the one that is chosen
 pub either : {A : Type 0} (P : A → Type 0) (b : Bool) {x y : A} → P x → P y → P (cond b x y)
 either P true p q = p
 either P false p q = q
 
+-- the first of the needs that is not met, and x where all are
+abbrev pub refusedOr : List (ℕ × Bool) → ℕ → ℕ
+refusedOr [] x = x
+refusedOr ((n, t) ∷ cs) x = cond t (refusedOr cs x) n
+
+refused-or : (cs : List (ℕ × Bool)) (x : ℕ) → Numbered cs → refusedOr cs x ≡ cond (eqb (firstRefused cs) 0) x (firstRefused cs)
+refused-or [] x k = refl
+refused-or ((n, true) ∷ cs) x k = refused-or cs x (k .1)
+refused-or ((n, false) ∷ cs) x k = sym (ap (λ (t : Bool). cond t x n) (ne-eqb n 0 (ne-of-gt (leb→le 1 n (k .0)))))
+
 -- of two lists, the second where the first is met
 pub refused-append : (cs ds : List (ℕ × Bool)) → Numbered cs → firstRefused (cs ++ ds) ≡ cond (eqb (firstRefused cs) 0) (firstRefused ds) (firstRefused cs)
-refused-append [] ds k = refl
-refused-append ((n, true) ∷ cs) ds k = refused-append cs ds (k .1)
-refused-append ((n, false) ∷ cs) ds k = sym (ap (λ (t : Bool). cond t (firstRefused ds) n) (ne-eqb n 0 (ne-of-gt (leb→le 1 n (k .0)))))
+refused-append cs ds k = go cs ∙ refused-or cs (firstRefused ds) k
+  where
+    go : (cs : List (ℕ × Bool)) → firstRefused (cs ++ ds) ≡ refusedOr cs (firstRefused ds)
+    go [] = refl
+    go ((n, t) ∷ cs) = ap (λ (x : ℕ). cond t x n) (go cs)
 
--- the number of a request for an aircraft, where the needs after those of the head have the number x
-abbrev pub headThen : Field → Request → ℕ → ℕ
-headThen f r x =
-    cond (not (eqb (zoneBefore f r) 0)) (cond (startsFrom (r .kind) (zoneBefore f r)) (cond (eqb (placeOf f (r .number) .place) 1) x 14) 13) 12
+module _ (cs : List (ℕ × Bool)) (k : Numbered cs) {n : ℕ} (e : n ≡ firstRefused cs) where
+  by-first : (x : ℕ) {b : Bool} → eqb n 0 ≡ b → refusedOr cs x ≡ cond b x n
+  by-first x h = refused-or cs x k ∙ ap (λ (m : ℕ). cond (eqb m 0) x m) (sym e) ∙ ap (λ (b : Bool). cond b x n) h
 
+  met : n ≡ 0 → (x : ℕ) → refusedOr cs x ≡ x
+  met h x = by-first x (eq-eqb n 0 h)
+
+  -- the last need decides where those before it are met
+  then : n ≡ 0 → (last : ℕ) {t b : Bool} → t ≡ b → refusedOr cs (cond t 0 last) ≡ cond b 0 last
+  then h last e = met h _ ∙ ap (λ (b : Bool). cond b 0 last) e
+
+  unmet : (n ≡ 0 → ⊥) → (x : ℕ) → refusedOr cs x ≡ n
+  unmet h x = by-first x (ne-eqb n 0 h)
+
+-- after the needs of an aircraft at the head of its zone, whose number is n
 module _ (f : Field) (r : Request) {n : ℕ} (e : n ≡ firstRefused (headChecks f r)) where
-  then-by : (x : ℕ) {b : Bool} → eqb n 0 ≡ b → headThen f r x ≡ cond b x n
-  then-by x h =
-      refused-append (headChecks f r) ((x, false) ∷ []) (tt, (tt, (tt, tt)))
-      ∙ ap (λ (m : ℕ). cond (eqb m 0) x m) (sym e)
-      ∙ ap (λ (b : Bool). cond b x n) h
+  pub head-met : n ≡ 0 → (x : ℕ) → refusedOr (headChecks f r) x ≡ x
+  head-met = met (headChecks f r) (tt, (tt, (tt, tt))) e
 
-  -- they decide where those of the head are met
-  pub head-met : n ≡ 0 → (x : ℕ) → headThen f r x ≡ x
-  head-met h x = then-by x (eq-eqb n 0 h)
+  pub head-then : n ≡ 0 → (last : ℕ) {t b : Bool} → t ≡ b → refusedOr (headChecks f r) (cond t 0 last) ≡ cond b 0 last
+  head-then = then (headChecks f r) (tt, (tt, (tt, tt))) e
 
-  pub head-unmet : (n ≡ 0 → ⊥) → (x : ℕ) → headThen f r x ≡ n
-  head-unmet h x = then-by x (ne-eqb n 0 h)
+  pub head-unmet : (n ≡ 0 → ⊥) → (x : ℕ) → refusedOr (headChecks f r) x ≡ n
+  head-unmet = unmet (headChecks f r) (tt, (tt, (tt, tt))) e
+
+-- .. that has flown its leg out
+module _ (f : Field) (r : Request) {n : ℕ} (e : n ≡ firstRefused (flownOutChecks f r)) where
+  pub leg-then : n ≡ 0 → (last : ℕ) {t b : Bool} → t ≡ b → refusedOr (flownOutChecks f r) (cond t 0 last) ≡ cond b 0 last
+  unfolding flownOutChecks
+  leg-then = then (flownOutChecks f r) (tt, (tt, (tt, (tt, tt)))) e
+
+  pub leg-unmet : (n ≡ 0 → ⊥) → (x : ℕ) → refusedOr (flownOutChecks f r) x ≡ n
+  unfolding flownOutChecks
+  leg-unmet = unmet (flownOutChecks f r) (tt, (tt, (tt, (tt, tt)))) e

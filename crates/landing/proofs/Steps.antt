@@ -13,7 +13,7 @@ use Rattle.field.specs.Bounds.{withinBounds}
 use Rattle.rules.specs.declared.Stepped.{Stepped}
 use Rattle.rules.specs.Kinds.{verticalChecks, lateralChecks, descendChecks, approachChecks, mergeChecks, flownOutChecks, landChecks, exitChecks}
 use Rattle.rules.specs.Step.{byKind, checksOf, effectOf, numberOf, numberAndZeros, answerOf, stepOf}
-use Rattle.rules.proofs.Tests.{if-true, if-false}
+use Rattle.field.proofs.Tests.{if-true, if-false}
 use Rattle.landing.proofs.Refused.{either, refused-append}
 
 -- each need of a request stands beside a number that refuses

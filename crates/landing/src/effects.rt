@@ -4,6 +4,13 @@ use crate::needs::is_empty;
 use crate::needs::may_approach;
 use crate::needs::side_of;
 use crate::needs::zone_before;
+use crate::zones::AT_2000;
+use crate::zones::BASE;
+use crate::zones::FINAL;
+use crate::zones::INTERMEDIATE;
+use crate::zones::LATERAL;
+use crate::zones::MISSED;
+use crate::zones::RUNWAY;
 use field::Aircraft;
 use field::Field;
 use field::boxes::entering;
@@ -30,7 +37,7 @@ ghost use Rattle.rules.specs.Kinds.{zoneBefore, mayApproach, baseFree, moved, h
 ghost use Rattle.rules.specs.Step.{effectOf};
 
 // The field with the head of a zone taken off it.
-pub fn head_gone(f: Field, zone: usize) -> Field
+fn head_gone(f: Field, zone: usize) -> Field
     ensures { λ r. ⌜ r ≡ headGone f zone ⌝ }
 {
     with_zone(f, zone, without_head(zone_of(f, zone)))
@@ -44,7 +51,7 @@ fn tail_put(f: Field, zone: usize, a: Aircraft) -> Field
 }
 
 // The field with the head of a zone moved to the tail of another.
-pub fn moved(f: Field, from: usize, to: usize) -> Field
+fn moved(f: Field, from: usize, to: usize) -> Field
     ensures { λ r. ⌜ r ≡ moved f from to ⌝ }
 {
     let a = with_progress(aircraft_at(f, from, 1), progress_into(to));
@@ -52,7 +59,7 @@ pub fn moved(f: Field, from: usize, to: usize) -> Field
 }
 
 // The field with a number out of the landing sequence.
-pub fn out_of_sequence(f: Field, number: u16) -> Field
+fn out_of_sequence(f: Field, number: u16) -> Field
     ensures { λ r. ⌜ r ≡ outOfSequence f number ⌝ }
 {
     let s = f.sequence;
@@ -60,7 +67,7 @@ pub fn out_of_sequence(f: Field, number: u16) -> Field
 }
 
 // The fix that an entry from a side takes.
-pub fn fix_taken(f: Field, side: u8) -> u8
+fn fix_taken(f: Field, side: u8) -> u8
     ensures { λ r. ⌜ r ≡ fixTaken f side ⌝ }
 {
     let s = f.sequence;
@@ -68,7 +75,7 @@ pub fn fix_taken(f: Field, side: u8) -> u8
 }
 
 // Kinds 1 and 2: the field with the request's aircraft entered into a zone.
-pub fn entered(f: Field, r: Request, zone: usize) -> Field
+fn entered(f: Field, r: Request, zone: usize) -> Field
     ensures { λ g. ⌜ g ≡ entered f r zone ⌝ }
 {
     let fix = fix_taken(f, r.side);
@@ -78,11 +85,11 @@ pub fn entered(f: Field, r: Request, zone: usize) -> Field
 }
 
 // Kind 3: the field with the request's aircraft moved from 3000 to 2000, two zones on.
-pub fn descended(f: Field, r: Request) -> Field
+fn descended(f: Field, r: Request) -> Field
     ensures { λ g. ⌜ g ≡ moved f (zoneBefore f r) (at2000 (zoneBefore f r)) ⌝ }
 {
     let zone = zone_before(f, r);
-    moved(f, zone, 2 + zone)
+    moved(f, zone, AT_2000 + zone)
 }
 
 // Kind 4: the zone that an approach of the aircraft with a number leads to: base, or 2000 where a need is not met.
@@ -90,16 +97,16 @@ fn approach_zone(f: Field, number: u16, side: u8) -> usize
     ensures { λ z. ⌜ z ≡ cond (mayApproach f number && baseFree f side) (base side) (at2000 side) ⌝ }
 {
     if !may_approach(f, number) {
-        return 2 + side as usize;
+        return AT_2000 + side as usize;
     }
     if !base_free(f, side) {
-        return 2 + side as usize;
+        return AT_2000 + side as usize;
     }
-    8 + side as usize
+    BASE + side as usize
 }
 
 // Kind 4: the field with the request's aircraft moved to base, or to 2000 where a need of the approach is not met.
-pub fn approached(f: Field, r: Request) -> Field
+fn approached(f: Field, r: Request) -> Field
     ensures { λ g. ⌜ g ≡ approached f r ⌝ }
 {
     let zone = zone_before(f, r);
@@ -107,21 +114,21 @@ pub fn approached(f: Field, r: Request) -> Field
 }
 
 // Kind 7: the field with the head of final on the runway and the request's aircraft out of the sequence.
-pub fn landed(f: Field, r: Request) -> Field
+fn landed(f: Field, r: Request) -> Field
     ensures { λ g. ⌜ g ≡ landed f r ⌝ }
 {
-    out_of_sequence(moved(f, 12, 13), r.number)
+    out_of_sequence(moved(f, FINAL, RUNWAY), r.number)
 }
 
 // Kind 9: the field with the head of intermediate gone and the request's aircraft out of the sequence.
-pub fn exited(f: Field, r: Request) -> Field
+fn exited(f: Field, r: Request) -> Field
     ensures { λ g. ⌜ g ≡ exited f r ⌝ }
 {
-    out_of_sequence(head_gone(f, 11), r.number)
+    out_of_sequence(head_gone(f, INTERMEDIATE), r.number)
 }
 
 // The fix of an aircraft after its missed approach.
-pub fn fix_after_miss(f: Field, a: Aircraft) -> u8
+fn fix_after_miss(f: Field, a: Aircraft) -> u8
     ensures { λ r. ⌜ r ≡ fixAfterMiss f a ⌝ }
 {
     let s = f.sequence;
@@ -129,29 +136,29 @@ pub fn fix_after_miss(f: Field, a: Aircraft) -> u8
 }
 
 // Kind 10: the field with the head of final in the missed zone of its old fix, last in the sequence.
-pub fn missed_approach(f: Field, r: Request) -> Field
+fn missed_approach(f: Field, r: Request) -> Field
     ensures { λ g. ⌜ g ≡ missedApproach f r ⌝ }
 {
-    let a = aircraft_at(f, 12, 1);
-    let zone = 6 + a.fix as usize;
+    let a = aircraft_at(f, FINAL, 1);
+    let zone = MISSED + a.fix as usize;
     let fix = fix_after_miss(f, a);
     let b = with_fix(with_progress(a, progress_into(zone)), fix);
-    let g = tail_put(head_gone(f, 12), zone, b);
+    let g = tail_put(head_gone(f, FINAL), zone, b);
     let s = f.sequence;
     with_sequence(g, appended(removed(s, r.number), r.number), opposite(fix))
 }
 
 // Kind 11: the field with the request's aircraft held at 2000 or 3000, and the one at 3000 moved to 2000 where both are needed.
-pub fn held(f: Field, r: Request) -> Field
+fn held(f: Field, r: Request) -> Field
     ensures { λ g. ⌜ g ≡ held f r ⌝ }
 {
     let zone = zone_before(f, r);
     let side = side_of(zone) as usize;
     if !is_empty(f, side) {
-        return moved(moved(f, side, 2 + side), zone, side);
+        return moved(moved(f, side, AT_2000 + side), zone, side);
     }
-    if is_empty(f, 2 + side) {
-        return moved(f, zone, 2 + side);
+    if is_empty(f, AT_2000 + side) {
+        return moved(f, zone, AT_2000 + side);
     }
     moved(f, zone, side)
 }
@@ -171,13 +178,13 @@ pub fn effect(f: Field, r: Request) -> Field
     let kind = r.kind;
     match kind {
         1 => entered(f, r, r.side as usize),
-        2 => entered(f, r, 4 + r.side as usize),
+        2 => entered(f, r, LATERAL + r.side as usize),
         3 => descended(f, r),
         4 => approached(f, r),
-        5 => moved(f, zone_before(f, r), 11),
-        6 => moved(f, 11, 12),
+        5 => moved(f, zone_before(f, r), INTERMEDIATE),
+        6 => moved(f, INTERMEDIATE, FINAL),
         7 => landed(f, r),
-        8 => head_gone(f, 13),
+        8 => head_gone(f, RUNWAY),
         9 => exited(f, r),
         10 => missed_approach(f, r),
         11 => held(f, r),

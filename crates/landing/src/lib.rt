@@ -1,6 +1,7 @@
 // The step of any request on any field (rules' specs/Step.antt).
 pub mod effects;
 pub mod needs;
+pub mod zones;
 
 use crate::effects::effect;
 use crate::effects::held_along;
@@ -21,7 +22,7 @@ ghost use Rattle.rules.specs.Kinds.{heldAlong};
 ghost use Rattle.rules.specs.Step.{numberAndZeros, acceptance, stepOf};
 
 // The answer that has a number, and zeros.
-pub fn number_and_zeros(number: u16) -> Answer
+fn number_and_zeros(number: u16) -> Answer
     ensures { λ a. ⌜ a ≡ numberAndZeros number ⌝ }
 {
     Answer {
@@ -35,7 +36,7 @@ pub fn number_and_zeros(number: u16) -> Answer
 }
 
 // The answer that accepts a request for an aircraft, from the field after the step.
-pub fn acceptance(f: Field, number: u16, along: u16) -> Answer
+fn acceptance(f: Field, number: u16, along: u16) -> Answer
     ensures { λ a. ⌜ a ≡ acceptance f number along ⌝ }
 {
     let at = place_of(f, number);

@@ -1,4 +1,9 @@
 // Document 01, "Turned away by the field": what each kind of request needs, in order (rules' specs/Kinds.antt).
+use crate::zones::AT_2000;
+use crate::zones::BASE;
+use crate::zones::LATERAL;
+use crate::zones::MISSED;
+use crate::zones::RUNWAY;
 use field::Field;
 use field::boxes::flown_out_in;
 use field::boxes::opposite;
@@ -12,8 +17,9 @@ use field::find::place_of;
 use request::Request;
 ghost use mathlib.Core.Path.{_≡_};
 ghost use mathlib.Core.Bool.{_||_};
+ghost use mathlib.Core.List.{[], _∷_};
 ghost use Rattle.request.specs.Input.{within, firstRefused};
-ghost use Rattle.field.specs.Boxes.{sideOf};
+ghost use Rattle.field.specs.Boxes.{sideOf, at3000, lateral, missed};
 ghost use Rattle.field.specs.Bounds.{isEmpty};
 ghost use Rattle.field.specs.Find.{isFirst, leaderZone};
 ghost use Rattle.rules.specs.Kinds.{zoneBefore, startsFrom, headChecks, flownOutCheck, mayApproach, baseFree, verticalChecks, lateralChecks, descendChecks, approachChecks, mergeChecks, flownOutChecks, landChecks, exitChecks};
@@ -42,7 +48,7 @@ pub fn zone_before(f: Field, r: Request) -> usize
 }
 
 // Whether a kind starts from a zone.
-pub fn starts_from(kind: u8, zone: usize) -> bool
+fn starts_from(kind: u8, zone: usize) -> bool
     ensures { λ r. ⌜ r ≡ startsFrom kind zone ⌝ }
 {
     match zone {
@@ -81,11 +87,11 @@ pub fn may_approach(f: Field, number: u16) -> bool
 pub fn base_free(f: Field, side: u8) -> bool
     ensures { λ r. ⌜ r ≡ baseFree f side ⌝ }
 {
-    how_many(f, 8 + opposite(side) as usize) <= 1
+    how_many(f, BASE + opposite(side) as usize) <= 1
 }
 
 // The first need of a request for an aircraft at the head of its zone that is not met, by its number: 12, 13 or 14; 0 where all are.
-pub fn head_number(f: Field, r: Request) -> u16
+fn head_number(f: Field, r: Request) -> u16
     ensures { λ n. ⌜ n ≡ firstRefused (headChecks f r) ⌝ }
 {
     let at = place_of(f, r.number);
@@ -103,8 +109,25 @@ pub fn head_number(f: Field, r: Request) -> u16
     0
 }
 
+// The first zone of a side that a vertical entry needs empty and finds occupied: 18 missed, 19 lateral, 20 at 3000; 0 where none is.
+fn side_number(f: Field, side: u8) -> u16
+    ensures { λ n. ⌜ n ≡ firstRefused ((18, isEmpty f (missed side)) ∷ (19, isEmpty f (lateral side)) ∷ (20, isEmpty f (at3000 side)) ∷ []) ⌝ }
+{
+    let at = side as usize;
+    if !is_empty(f, MISSED + at) {
+        return 18;
+    }
+    if !is_empty(f, LATERAL + at) {
+        return 19;
+    }
+    if !is_empty(f, at) {
+        return 20;
+    }
+    0
+}
+
 // Kind 1: the first need of a vertical entry that is not met; 0 where all are.
-pub fn vertical_number(f: Field, r: Request) -> u16
+fn vertical_number(f: Field, r: Request) -> u16
     ensures { λ n. ⌜ n ≡ firstRefused (verticalChecks f r) ⌝ }
 {
     if zone_before(f, r) != 0 {
@@ -116,21 +139,11 @@ pub fn vertical_number(f: Field, r: Request) -> u16
     if approach_holds(f, r.side) {
         return 17;
     }
-    let side = r.side as usize;
-    if !is_empty(f, 6 + side) {
-        return 18;
-    }
-    if !is_empty(f, 4 + side) {
-        return 19;
-    }
-    if !is_empty(f, side) {
-        return 20;
-    }
-    0
+    side_number(f, r.side)
 }
 
 // Kind 2: the first need of a lateral entry that is not met; 0 where both are.
-pub fn lateral_number(f: Field, r: Request) -> u16
+fn lateral_number(f: Field, r: Request) -> u16
     ensures { λ n. ⌜ n ≡ firstRefused (lateralChecks f r) ⌝ }
 {
     if zone_before(f, r) != 0 {
@@ -143,14 +156,14 @@ pub fn lateral_number(f: Field, r: Request) -> u16
 }
 
 // Kind 3: the first need of a descent that is not met; 0 where all are.
-pub fn descend_number(f: Field, r: Request) -> u16
+fn descend_number(f: Field, r: Request) -> u16
     ensures { λ n. ⌜ n ≡ firstRefused (descendChecks f r) ⌝ }
 {
     let n = head_number(f, r);
     if n != 0 {
         return n;
     }
-    if !is_empty(f, 2 + zone_before(f, r)) {
+    if !is_empty(f, AT_2000 + zone_before(f, r)) {
         return 21;
     }
     0
@@ -167,7 +180,7 @@ fn is_lateral(zone: usize) -> bool
 }
 
 // Kind 4: the first need of an approach that is not met; 0 where all are, and from a lateral zone.
-pub fn approach_number(f: Field, r: Request) -> u16
+fn approach_number(f: Field, r: Request) -> u16
     ensures { λ n. ⌜ n ≡ firstRefused (approachChecks f r) ⌝ }
 {
     let n = head_number(f, r);
@@ -188,7 +201,7 @@ pub fn approach_number(f: Field, r: Request) -> u16
 }
 
 // Whether the head of the zone of the request's aircraft has flown its leg out.
-pub fn has_flown_out(f: Field, r: Request) -> bool
+fn has_flown_out(f: Field, r: Request) -> bool
     ensures { λ b. ⌜ b ≡ flownOutCheck f r .1 ⌝ }
 {
     let zone = zone_before(f, r);
@@ -197,7 +210,7 @@ pub fn has_flown_out(f: Field, r: Request) -> bool
 }
 
 // Whether the aircraft with a number is first in sequence, or its leader is in intermediate or final.
-pub fn may_merge(f: Field, number: u16) -> bool
+fn may_merge(f: Field, number: u16) -> bool
     ensures { λ r. ⌜ r ≡ (isFirst (f .sequence) number || within 11 12 (leaderZone f number)) ⌝ }
 {
     let s = f.sequence;
@@ -211,7 +224,7 @@ pub fn may_merge(f: Field, number: u16) -> bool
 }
 
 // Kinds 6 and 11: the first need of a request from the end of a leg that is not met; 0 where all are.
-pub fn flown_out_number(f: Field, r: Request) -> u16
+fn flown_out_number(f: Field, r: Request) -> u16
     ensures { λ n. ⌜ n ≡ firstRefused (flownOutChecks f r) ⌝ }
 {
     let n = head_number(f, r);
@@ -224,16 +237,13 @@ pub fn flown_out_number(f: Field, r: Request) -> u16
     0
 }
 
-// Kind 5: the first need of a merge that is not met; 0 where all are.
-pub fn merge_number(f: Field, r: Request) -> u16
+// Kind 5: the first need of a merge that is not met, the leg flown out and then the sequence; 0 where all are.
+fn merge_number(f: Field, r: Request) -> u16
     ensures { λ n. ⌜ n ≡ firstRefused (mergeChecks f r) ⌝ }
 {
-    let n = head_number(f, r);
+    let n = flown_out_number(f, r);
     if n != 0 {
         return n;
-    }
-    if !has_flown_out(f, r) {
-        return 15;
     }
     if !may_merge(f, r.number) {
         return 22;
@@ -241,25 +251,22 @@ pub fn merge_number(f: Field, r: Request) -> u16
     0
 }
 
-// Kind 7: the first need of a landing that is not met; 0 where all are.
-pub fn land_number(f: Field, r: Request) -> u16
+// Kind 7: the first need of a landing that is not met, the leg flown out and then the runway; 0 where all are.
+fn land_number(f: Field, r: Request) -> u16
     ensures { λ n. ⌜ n ≡ firstRefused (landChecks f r) ⌝ }
 {
-    let n = head_number(f, r);
+    let n = flown_out_number(f, r);
     if n != 0 {
         return n;
     }
-    if !has_flown_out(f, r) {
-        return 15;
-    }
-    if !is_empty(f, 13) {
+    if !is_empty(f, RUNWAY) {
         return 24;
     }
     0
 }
 
 // Kind 9: the first need of an exit that is not met; 0 where all are.
-pub fn exit_number(f: Field, r: Request) -> u16
+fn exit_number(f: Field, r: Request) -> u16
     ensures { λ n. ⌜ n ≡ firstRefused (exitChecks f r) ⌝ }
 {
     let n = head_number(f, r);

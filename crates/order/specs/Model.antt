@@ -3,7 +3,7 @@
 -- The tests of the moves are those of document 01, "The requests", said of such a list.
 use mathlib.Core.Bool.{Bool, true, false, cond, not, _&&_, _||_}
 use mathlib.Core.List.{List, [], _∷_, _++_}
-use Prim.Native.Nat.{ℕ, zero, suc, _+_, _*_, _/_, _%_}
+use Prim.Native.Nat.{ℕ, suc, _+_, _*_, _/_, _%_}
 use lib.Dec.{leb, ltb, eqb}
 use lib.ListN.{length, getD}
 use Rattle.field.specs.Boxes.{opposite, sideOf, at3000, at2000, lateral, missed, base, area, approach, operation}

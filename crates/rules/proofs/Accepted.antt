@@ -1,68 +1,64 @@
 -- Every request that passes the input rules and the checks of its kind, on a field that an orderly line stands for, leads to a field that
 -- an orderly line stands for. Assumes nothing.
 use mathlib.Core.Path.{_≡_, refl, sym, ap, _∙_, subst}
-use mathlib.Core.Logic.{_⊎_, inl, inr}
-use mathlib.Core.Bool.{Bool, true, false, cond, not, _&&_, _||_, true≢false, false≢true, Bool·not-not}
-use mathlib.Core.List.{List, [], _∷_, _++_, map, append-assoc}
-use Prim.Native.Nat.{ℕ, zero, suc, _+_, _≤_, _<_}
+use mathlib.Core.Logic.{inl, inr}
+use mathlib.Core.Bool.{true, false, cond, not, true≢false, false≢true}
+use mathlib.Core.List.{List, [], _∷_, _++_, append-assoc}
+use Prim.Native.Nat.{ℕ}
 use native.Mathlib.Omega.{arith}
-use lib.Dec.{T, leb, ltb, eqb, leb→le, le→leb, eqb→eq}
+use lib.Dec.{T, leb, eqb, leb→le, eqb→eq}
 use lib.ListN.{length}
-use lib.Ieee.Fits.{and-i, and-l, and-r}
-use borrow.Author.Tests.{eqb-true, eqb-false, eq-eqb}
-use Rattle.request.specs.Input.{within, isEntry, firstRefused, inputNumber}
+use lib.Ieee.Fits.{and-r}
+use borrow.Author.Tests.{eqb-true, eq-eqb}
+use Rattle.request.specs.Input.{firstRefused}
 use Rattle.request.specs.declared.Request.{Request}
 use Rattle.request.proofs.Tests as input
-use Rattle.request.proofs.ByKind.{KindKnown, EntryKnown, TickKnown, kind-known, entry-known, tick-known}
 use Rattle.field.specs.declared.Aircraft.{Aircraft}
 use Rattle.field.specs.declared.Legs.{Legs}
 use Rattle.field.specs.declared.Field.{Field}
-use Rattle.field.specs.declared.Place.{Place}
-use Rattle.field.specs.Boxes.{isFlyingZone, sideOf, at3000, at2000, lateral, missed, approach}
-use Rattle.field.specs.Counts.{isIn, total, howMany, approachHolds, potentialOf}
+use Rattle.field.specs.Boxes.{sideOf, at3000, at2000}
+use Rattle.field.specs.Counts.{howMany}
 use Rattle.field.specs.Find.{placeOf, isFirst}
 use Rattle.field.specs.Bounds.{isEmpty}
-use Rattle.order.specs.Model.{Side, right, left, num, between, count, countFix, free, potential, mayEnter, mayEnterLateral, isNil, okay, one}
-use Rattle.order.proofs.Facts.{enter, enter-lateral, final-first, hold-ahead}
-use Rattle.rules.specs.Kinds.{zoneBefore, startsFrom, verticalChecks, lateralChecks, descendChecks, approachChecks, mergeChecks, flownOutChecks, landChecks, headChecks, exitChecks, moved, held}
-use Rattle.rules.specs.Step.{checksOf, effectOf}
-use Rattle.rules.proofs.Tests.{passed, pass, failed, decided, if-false, each-zone}
-use Rattle.rules.proofs.Lists.{map-append, absent-both}
-use Rattle.rules.proofs.Line.{Placed, zonesIn, numbersOf, fieldOf}
-use Rattle.rules.proofs.Counted.{lower, how-many, how-many-runway, approach-holds, potential-is}
-use Rattle.rules.proofs.Located.{numbers, at, located, located-runway, first-there}
+use Rattle.order.specs.Model.{Side, between, count, free, isNil, okay, one}
+use Rattle.order.proofs.Facts.{final-first, hold-ahead}
+use Rattle.rules.specs.Kinds.{startsFrom, headChecks, moved, held}
+use Rattle.rules.specs.Step.{effectOf}
+use Rattle.field.proofs.Tests.{passed, failed, decided, if-false, zones-imply}
+use Rattle.rules.proofs.Line.{Placed, zonesIn, fieldOf}
+use Rattle.rules.proofs.Counted.{lower, how-many-runway}
+use Rattle.field.proofs.FindLaws.{at}
+use Rattle.rules.proofs.Located.{first-there}
 use Rattle.rules.proofs.Members.{count-append}
 use Rattle.rules.proofs.Orderly.{Orderly, Split, first-in}
 use Rattle.rules.proofs.After.{After, zone-in, okay-split}
-use Rattle.rules.proofs.Heads.{InLine, find-line, Heading, Landed, heading}
-use Rattle.rules.proofs.Checks.{checksFor, checks-at, effect-at, HeadPassed, head-passed, besides}
-use Rattle.rules.proofs.OnLine.{eleven-from, zone-before, from-kind, empty-free, after-3, after-4, after-5, after-6, after-11}
+use Rattle.rules.proofs.Heads.{Heading, heading}
+use Rattle.rules.proofs.Checks.{effect-at, head-passed, besides}
+use Rattle.rules.proofs.OnLine.{MissedZone, eleven-from, zone-before, from-kind, empty-free, after-3, after-4, after-5, after-6, after-11}
 use Rattle.rules.proofs.HoldBoth.{after-both}
-use Rattle.rules.proofs.AtEnds.{after-7, after-8, after-9, after-10, after-entry, after-12}
+use Rattle.rules.proofs.AtEnds.{after-7, after-8, after-9, after-10}
 
 -- ---- zones that kinds start from, where the zone is one of 1 to 13
-final-from : (k z : ℕ) → T (eqb k 7 || eqb k 10) → T (between 1 13 z) → T (startsFrom k z) → T (eqb z 12)
+land-from : (z : ℕ) → T (between 1 13 z) → T (startsFrom 7 z) → T (eqb z 12)
 unfolding startsFrom
-final-from k z t u v = elim (decided (eqb k 7)) [ inl e ↦ at-7 z u (subst (λ (j : ℕ). T (startsFrom j z)) (eqb-true k 7 e) v) | inr e ↦ at-10 z u (subst (λ (j : ℕ). T (startsFrom j z)) (eqb-true k 10 (passed (subst (λ (b : Bool). T (b || eqb k 10)) e t))) v) ]
-  where
-    at-7 : (z : ℕ) → T (between 1 13 z) → T (startsFrom 7 z) → T (eqb z 12)
-    at-7 = each-zone (λ (z : ℕ). T (startsFrom 7 z) → T (eqb z 12)) ((λ u. u), ((λ u. u), ((λ u. u), ((λ u. u), ((λ u. u), ((λ u. u), ((λ u. u), ((λ u. u), ((λ u. u), ((λ u. u), ((λ u. u), ((λ u. u), ((λ u. u), tt)))))))))))))
+land-from = zones-imply (startsFrom 7) (λ z. eqb z 12) tt
 
-    at-10 : (z : ℕ) → T (between 1 13 z) → T (startsFrom 10 z) → T (eqb z 12)
-    at-10 = each-zone (λ (z : ℕ). T (startsFrom 10 z) → T (eqb z 12)) ((λ u. u), ((λ u. u), ((λ u. u), ((λ u. u), ((λ u. u), ((λ u. u), ((λ u. u), ((λ u. u), ((λ u. u), ((λ u. u), ((λ u. u), ((λ u. u), ((λ u. u), tt)))))))))))))
+miss-from : (z : ℕ) → T (between 1 13 z) → T (startsFrom 10 z) → T (eqb z 12)
+unfolding startsFrom
+miss-from = zones-imply (startsFrom 10) (λ z. eqb z 12) tt
 
 exit-from : (z : ℕ) → T (between 1 13 z) → T (startsFrom 9 z) → T (eqb z 11)
 unfolding startsFrom
-exit-from = each-zone (λ (z : ℕ). T (startsFrom 9 z) → T (eqb z 11)) ((λ u. u), ((λ u. u), ((λ u. u), ((λ u. u), ((λ u. u), ((λ u. u), ((λ u. u), ((λ u. u), ((λ u. u), ((λ u. u), ((λ u. u), ((λ u. u), ((λ u. u), tt)))))))))))))
+exit-from = zones-imply (startsFrom 9) (λ z. eqb z 11) tt
 
 taxi-from : (z : ℕ) → T (between 1 13 z) → T (startsFrom 8 z) → T (eqb z 13)
 unfolding startsFrom
-taxi-from = each-zone (λ (z : ℕ). T (startsFrom 8 z) → T (eqb z 13)) ((λ u. u), ((λ u. u), ((λ u. u), ((λ u. u), ((λ u. u), ((λ u. u), ((λ u. u), ((λ u. u), ((λ u. u), ((λ u. u), ((λ u. u), ((λ u. u), ((λ u. u), tt)))))))))))))
+taxi-from = zones-imply (startsFrom 8) (λ z. eqb z 13) tt
 
 -- nobody else starts from the runway
 runway-only : (k : ℕ) → T (between 1 13 k) → T (startsFrom k 13) → k ≡ 8
 unfolding startsFrom
-runway-only = each-zone (λ (k : ℕ). T (startsFrom k 13) → k ≡ 8) ((λ u. absurd u), ((λ u. absurd u), ((λ u. absurd u), ((λ u. absurd u), ((λ u. absurd u), ((λ u. absurd u), ((λ u. absurd u), ((λ u. refl), ((λ u. absurd u), ((λ u. absurd u), ((λ u. absurd u), ((λ u. absurd u), ((λ u. absurd u), tt)))))))))))))
+runway-only k t u = eqb-true k 8 (passed (zones-imply (λ k. startsFrom k 13) (λ k. eqb k 8) tt k t u))
 
 -- a list whose zones are none
 no-line : (a : List Placed) → zonesIn a ≡ [] → a ≡ []
@@ -80,7 +76,7 @@ no-runway (x ∷ xs) e = absurd (omega arith)
 -- a missed zone is no holding at 3000
 missed-apart : (z : ℕ) → T (between 1 13 z) → T (between 7 8 z) → eqb z (at3000 (sideOf z)) ≡ false
 unfolding sideOf
-missed-apart = each-zone (λ (z : ℕ). T (between 7 8 z) → eqb z (at3000 (sideOf z)) ≡ false) ((λ u. absurd u), ((λ u. absurd u), ((λ u. absurd u), ((λ u. absurd u), ((λ u. absurd u), ((λ u. absurd u), ((λ u. refl), ((λ u. refl), ((λ u. absurd u), ((λ u. absurd u), ((λ u. absurd u), ((λ u. absurd u), ((λ u. absurd u), tt)))))))))))))
+missed-apart z t u = failed {b = eqb z (at3000 (sideOf z))} (zones-imply (between 7 8) (λ z. not (eqb z (at3000 (sideOf z)))) tt z t u)
 
 -- ---- kind 11 where 3000 is occupied
 module _ (f : Side) (a : List Placed) (e : Placed) (b : List Placed) (runway : List Aircraft) (legs : Legs) (o : Orderly f (a ++ e ∷ b) runway legs) (r : Request)
@@ -95,17 +91,17 @@ module _ (f : Side) (a : List Placed) (e : Placed) (b : List Placed) (runway : L
   abbrev y : ℕ
   y = at3000 (sideOf z)
 
-  from-11 : T (between 7 8 z) × T (between 1 12 y) × T (between 1 12 (at2000 (sideOf z)))
+  from-11 : MissedZone z
   from-11 = eleven-from z (lower z (zone-in f a e b runway legs o)) (from-kind f a e b runway legs o r named heads place-is starts h)
 
   -- the one at 3000 is ahead
   not-free : T (free (zonesIn a) y) → ⊥
   not-free t =
       let p = eqb→eq (count (zonesIn a) y) 0 t in
-      let q = eqb→eq (count (zonesIn b) y) 0 (hold-ahead f (zonesIn a) z (zonesIn b) (from-11 .0) (okay-split f a e b (o .okay-line))) in
-      let m : one (eqb z y) ≡ 0 = ap one (missed-apart z (lower z (zone-in f a e b runway legs o)) (from-11 .0)) in
+      let q = eqb→eq (count (zonesIn b) y) 0 (hold-ahead f (zonesIn a) z (zonesIn b) (from-11 .is-missed) (okay-split f a e b (o .okay-line))) in
+      let m : one (eqb z y) ≡ 0 = ap one (missed-apart z (lower z (zone-in f a e b runway legs o)) (from-11 .is-missed)) in
       let c = count-append (zonesIn a) (z ∷ zonesIn b) y in
-      true≢false (sym (eq-eqb (count (zonesIn a ++ z ∷ zonesIn b) y) 0 (omega arith)) ∙ sym (empty-free f a e b runway legs o r named heads place-is starts y (from-11 .1)) ∙ occupied)
+      true≢false (sym (eq-eqb (count (zonesIn a ++ z ∷ zonesIn b) y) 0 (omega arith)) ∙ sym (empty-free f a e b runway legs o r named heads place-is starts y (from-11 .above)) ∙ occupied)
 
   by-split : Split y a → After f (a ++ e ∷ b) runway legs r
   unfolding held
@@ -119,7 +115,7 @@ module _ (f : Side) (a : List Placed) (e : Placed) (b : List Placed) (runway : L
       ∙ ap (λ (v : ℕ). cond (isEmpty F (at3000 (sideOf v))) (cond (isEmpty F (at2000 (sideOf v))) (moved F v (at2000 (sideOf v))) (moved F v (at3000 (sideOf v)))) (moved (moved F (at3000 (sideOf v)) (at2000 (sideOf v))) v (at3000 (sideOf v)))) (zone-before f a e b runway legs o r named heads place-is starts)
       ∙ if-false (cond (isEmpty F (at2000 (sideOf z))) (moved F z (at2000 (sideOf z))) (moved F z y)) (moved (moved F y (at2000 (sideOf z))) z y) occupied in
       subst (λ (l : List Placed). After f l runway legs r) (sym w)
-      (after-both f a₁ g a₂ e b runway legs (subst (λ (l : List Placed). Orderly f l runway legs) w o) r named (from-11 .0) (s .at-zone) (subst (λ (l : List Placed). T (free (zonesIn l) z)) (s .whole) heads) h
+      (after-both f a₁ g a₂ e b runway legs (subst (λ (l : List Placed). Orderly f l runway legs) w o) r named (from-11 .is-missed) (s .at-zone) (subst (λ (l : List Placed). T (free (zonesIn l) z)) (s .whole) heads) h
       (subst (λ (l : List Placed). effectOf (fieldOf f l runway legs) r ≡ moved (moved (fieldOf f l runway legs) y (at2000 (sideOf z))) z y) w eff))
 
   pub after-11-both : After f (a ++ e ∷ b) runway legs r
@@ -161,7 +157,7 @@ module _ (f : Side) (line : List Placed) (runway : List Aircraft) (legs : Legs) 
   seven k c =
       moving 7 k tt (λ u. omega arith) c
       (λ h q d.
-      let z = eqb-true (h .here .zone) 12 (passed (final-from 7 (h .here .zone) tt (zone-13 h q) (subst (λ (j : ℕ). T (startsFrom j (h .here .zone))) k (h .starts)))) in
+      let z = eqb-true (h .here .zone) 12 (passed (land-from (h .here .zone) (zone-13 h q) (subst (λ (j : ℕ). T (startsFrom j (h .here .zone))) k (h .starts)))) in
       let a = final-leads h q z in
       let w : h .ahead ++ h .here ∷ h .behind ≡ h .here ∷ h .behind = ap (λ (l : List Placed). l ++ h .here ∷ h .behind) a in
       let p = input.passed (besides (fieldOf f (h .ahead ++ h .here ∷ h .behind) runway legs) r 7) (tt, (tt, tt)) d in
@@ -200,7 +196,7 @@ module _ (f : Side) (line : List Placed) (runway : List Aircraft) (legs : Legs) 
   ten k c =
       moving 10 k tt (λ u. omega arith) c
       (λ h q d.
-      let z = eqb-true (h .here .zone) 12 (passed (final-from 10 (h .here .zone) tt (zone-13 h q) (subst (λ (j : ℕ). T (startsFrom j (h .here .zone))) k (h .starts)))) in
+      let z = eqb-true (h .here .zone) 12 (passed (miss-from (h .here .zone) (zone-13 h q) (subst (λ (j : ℕ). T (startsFrom j (h .here .zone))) k (h .starts)))) in
       let a = final-leads h q z in
       let w : h .ahead ++ h .here ∷ h .behind ≡ h .here ∷ h .behind = ap (λ (l : List Placed). l ++ h .here ∷ h .behind) a in
       subst (λ (l : List Placed). After f l runway legs r) (sym w) (after-10 f (h .here) (h .behind) runway legs (subst (λ (l : List Placed). Orderly f l runway legs) w q) r (h .named) k z))

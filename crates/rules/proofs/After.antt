@@ -1,33 +1,33 @@
 -- What an accepted request leaves behind, said of the order that the field stands for; and the moves of the line that are made of it.
 -- Assumes nothing.
 use mathlib.Core.Path.{_≡_, refl, sym, ap, _∙_, subst}
-use mathlib.Core.Logic.{_⊎_, inl, inr}
-use mathlib.Core.Bool.{Bool, true, false, cond, not, _&&_, _||_, true≢false}
-use mathlib.Core.List.{List, [], _∷_, _++_, map, append-assoc}
-use Prim.Native.Nat.{ℕ, zero, suc, _+_, _≤_, _<_}
+use mathlib.Core.Bool.{Bool, true, false, not, _&&_, _||_, true≢false}
+use mathlib.Core.List.{List, [], _∷_, _++_, map}
+use Prim.Native.Nat.{ℕ, _+_, _≤_}
 use native.Mathlib.Omega.{arith}
 use lib.Dec.{T, eqb}
 use lib.ListN.{length}
-use lib.Ieee.Fits.{and-i, and-l, and-r}
+use lib.Ieee.Fits.{and-l, and-r}
 use borrow.Author.Tests.{eq-eqb}
 use Rattle.request.specs.Input.{within, isEntry}
 use Rattle.request.specs.declared.Request.{Request}
 use Rattle.field.specs.declared.Aircraft.{Aircraft}
 use Rattle.field.specs.declared.Legs.{Legs}
-use Rattle.field.specs.declared.Field.{Field}
 use Rattle.field.specs.Boxes.{isFlyingZone, progressInto, withProgress}
 use Rattle.field.specs.Counts.{isIn}
-use Rattle.field.specs.Bounds.{every, allDifferent, fitsZone}
-use Rattle.order.specs.Model.{Side, opp, num, between, count, free, Kind, needs, target, all, okay, weight, weights, one}
-use Rattle.order.proofs.Facts.{okay-length, okay-zones, Moved, moves}
+use Rattle.field.specs.Bounds.{every, allDifferent}
+use Rattle.order.specs.Model.{Side, between, free, Kind, needs, target, okay, weight, weights, one}
+use Rattle.order.proofs.Facts.{okay-length, okay-zones, moves}
 use Rattle.rules.specs.Kinds.{moved}
 use Rattle.rules.specs.Step.{effectOf}
 use Rattle.rules.specs.Demand.{addsMoves}
-use Rattle.rules.proofs.Tests.{passed, pass, failed, if-true, if-false}
-use Rattle.rules.proofs.Lists.{map-append, or-false-left, or-false-right, absent-left, Alone, alone}
+use Rattle.field.proofs.Tests.{failed}
+use Rattle.field.proofs.Lists.{or-false-left, or-false-right, absent-left, Alone, alone}
+use Rattle.rules.proofs.Lists.{map-append}
 use Rattle.rules.proofs.Line.{Placed, zonesIn, numbersOf, inside, fieldOf}
 use Rattle.rules.proofs.Counted.{free-inside}
-use Rattle.rules.proofs.Located.{numbers, numbers-split}
+use Rattle.field.proofs.FindLaws.{numbers}
+use Rattle.rules.proofs.Located.{numbers-split}
 use Rattle.rules.proofs.Leaders.{all-at}
 use Rattle.rules.proofs.Orderly.{Orderly, length-zones}
 use Rattle.rules.proofs.Moves.{into, MayMove, moved-line, same-length}

@@ -1,39 +1,37 @@
 -- The kinds that take an aircraft out of the sequence, into it, or to its end: 7, 8, 9, 10, 1 and 2; and the tick. Assumes nothing.
 use mathlib.Core.Path.{_≡_, refl, sym, ap, _∙_, subst}
-use mathlib.Core.Logic.{_⊎_, inl, inr}
-use mathlib.Core.Bool.{Bool, true, false, cond, not, _&&_, _||_, true≢false}
+use mathlib.Core.Bool.{Bool, true, false, not, _||_, true≢false}
 use mathlib.Core.List.{List, [], _∷_, _++_, map}
-use Prim.Native.Nat.{ℕ, zero, suc, _+_, _≤_, _<_}
+use Prim.Native.Nat.{ℕ, suc, _+_, _≤_, _<_}
 use native.Mathlib.Omega.{arith}
-use lib.Dec.{T, leb, ltb, eqb, le→leb}
+use lib.Dec.{T, eqb}
 use lib.ListN.{length, length-append}
-use lib.Ieee.Fits.{and-i, and-l, and-r}
-use borrow.Author.Tests.{eqb-true}
-use Rattle.request.specs.Input.{within, isEntry, firstRefused}
+use lib.Ieee.Fits.{and-l}
+use Rattle.request.specs.Input.{within, isEntry}
 use Rattle.request.specs.declared.Request.{Request}
 use Rattle.field.specs.declared.Aircraft.{Aircraft}
 use Rattle.field.specs.declared.Legs.{Legs}
 use Rattle.field.specs.declared.Field.{Field}
-use Rattle.field.specs.Boxes.{isFlyingZone, missed, lateral, at3000, progressInto, entering, withProgress, withFix}
+use Rattle.field.specs.Boxes.{isFlyingZone, missed, progressInto, entering, withProgress, withFix}
 use Rattle.field.specs.Counts.{isIn}
-use Rattle.field.specs.Bounds.{every, allDifferent}
-use Rattle.order.specs.Model.{Side, right, left, opp, num, between, free, okay, firstFix, weight, weights, one}
+use Rattle.field.specs.Bounds.{every}
+use Rattle.order.specs.Model.{Side, right, left, opp, num, between, okay, firstFix, weight, weights, one}
 use Rattle.order.proofs.Facts.{okay-length, first-leaves, misses}
 use Rattle.rules.specs.Step.{effectOf}
 use Rattle.rules.specs.Kinds.{entered}
 use Rattle.rules.specs.Demand.{addsMoves}
-use Rattle.rules.proofs.Tests.{passed, pass, failed, fail}
-use Rattle.rules.proofs.Lists.{absent-left, absent-right, absent-both, or-false-right, every-left}
+use Rattle.field.proofs.Tests.{passed, failed, fail}
+use Rattle.field.proofs.Lists.{absent-left}
 use Rattle.rules.proofs.Line.{Placed, zonesIn, numbersOf, fieldOf}
-use Rattle.rules.proofs.Located.{numbers}
-use Rattle.rules.proofs.Leaders.{nonzero, every-at}
+use Rattle.field.proofs.FindLaws.{numbers}
+use Rattle.rules.proofs.Leaders.{nonzero}
 use Rattle.rules.proofs.Orderly.{Orderly, length-zones}
 use Rattle.rules.proofs.Leaves.{taxied, first-exits, first-lands}
 use Rattle.rules.proofs.Enters.{entryFix, entrant, enters, misser, misses-approach}
 use Rattle.rules.proofs.Ticking.{tickPlaced, ticks, zones-same}
-use Rattle.rules.proofs.Kept.{entered-fits, landed-fits, refixed-fits, entrant-fits, first-gone, landed-on, runway-left, come, ticked-orderly, placedFits}
-use Rattle.rules.proofs.After.{Each, each-append, After, Carried, Others, others-all, apart-in, leaves, weightOf, one-le, zone-in, room-for, fit-here}
-use Rattle.rules.proofs.Checks.{effectFor, effect-at}
+use Rattle.rules.proofs.Kept.{entered-fits, landed-fits, refixed-fits, entrant-fits, first-gone, landed-on, runway-left, come, ticked-orderly}
+use Rattle.rules.proofs.After.{Each, each-append, After, Carried, Others, others-all, apart-in, leaves, one-le, zone-in, room-for, fit-here}
+use Rattle.rules.proofs.Checks.{effect-at}
 
 -- ---- the first of the line leaves the sequence
 module _ (f : Side) (e : Placed) (b : List Placed) (runway : List Aircraft) (legs : Legs) (o : Orderly f (e ∷ b) runway legs) (r : Request) (named : r .number ≡ e .aircraft .number) where
@@ -133,7 +131,7 @@ after-8 f line x legs o r named h =
     }
   where
     not-in-line : isIn (x .number) (numbersOf line) ≡ false
-    not-in-line = Rattle.rules.proofs.Lists.alone (numbersOf line) (x .number) [] (o .different) .ahead
+    not-in-line = Rattle.field.proofs.Lists.alone (numbersOf line) (x .number) [] (o .different) .ahead
 
 -- kinds 1 and 2, into zone w
 pub after-entry : (s f : Side) (line : List Placed) (runway : List Aircraft) (legs : Legs) (o : Orderly f line runway legs) (r : Request) (w : ℕ) → T (between 1 12 w) → T (not (isFlyingZone w)) → r .side ≡ num s

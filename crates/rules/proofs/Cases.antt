@@ -1,12 +1,10 @@
 -- The marked cases of "Played by hand" hold of the definitions, by one computed test of the whole table. Assumes nothing.
-use mathlib.Core.Bool.{Bool, true}
-use mathlib.Core.Path.{_≡_, refl}
 use lib.Dec.{T}
 use lib.Ieee.{add, mul, div, ofInt, round, lt, le, eq}
 use Rattle.leg.specs.Progress.{advanced}
 use Rattle.request.specs.Input.{kindAllowed, sideAllowed, numberAllowed, amountAllowed, inputNumber}
 use Rattle.field.specs.Boxes.{isSide, sideOf, opposite, isFlyingZone, zoneOf, queueOf, inZone, orderOf, progressInto, entering, withProgress, withFix, legOf, flownOutIn, emptyField}
-use Rattle.field.specs.Counts.{howMany, howManyWithFix, presentOn, inOperation, inArea, perFix, approachHolds, countedFor, potentialOf}
+use Rattle.field.specs.Counts.{howMany, howManyWithFix, inOperation, inArea, perFix, approachHolds, countedFor, potentialOf}
 use Rattle.field.specs.Find.{findIn, placeOf, aircraftAt, fixOf, isFirst, leaderOf, leaderZone}
 use Rattle.field.specs.Bounds.{every, boundA, boundB, lateralRule, boundC, boundD, numbersDiffer, sequenceExact, finalFirst, isNobody, zoneKept, sequenceKept, boundE, boundF, fitsZone, legalLegs, boundG, withinBounds}
 use Rattle.field.specs.Edits.{withoutHead, withTail, appended, removed, withZone, withSequence, tickedAircraft, tickedZone, ticked}

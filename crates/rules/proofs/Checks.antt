@@ -1,13 +1,12 @@
 -- The checks of each kind: what is known where none of them refuses, and which numbers they can answer. Assumes nothing.
-use mathlib.Core.Path.{_≡_, refl, sym, ap, _∙_, subst}
+use mathlib.Core.Path.{_≡_, refl, ap}
 use mathlib.Core.Logic.{_⊎_, inl, inr}
 use mathlib.Core.Bool.{Bool, true, false, cond, not, _&&_, _||_}
 use mathlib.Core.List.{List, [], _∷_, _++_}
-use Prim.Native.Nat.{ℕ, zero, suc, _+_, _≤_, _<_}
+use Prim.Native.Nat.{ℕ, _≤_}
 use native.Mathlib.Omega.{arith}
 use lib.Dec.{T, leb, eqb, leb→le, le→leb}
 use lib.Ieee.Fits.{and-i, and-l, and-r}
-use borrow.Author.Tests.{ne-eqb}
 use Rattle.request.specs.Input.{within, firstRefused, kindAllowed, sideAllowed, numberAllowed, amountAllowed, inputNumber}
 use Rattle.request.specs.declared.Request.{Request}
 use Rattle.field.specs.declared.Field.{Field}
@@ -15,9 +14,8 @@ use Rattle.field.specs.Boxes.{at3000, at2000, lateral, intermediate, finalAppro
 use Rattle.field.specs.Find.{placeOf, isFirst, leaderZone}
 use Rattle.field.specs.Bounds.{every, isEmpty}
 use Rattle.field.specs.Edits.{ticked}
-use Rattle.rules.specs.Kinds.{zoneBefore, startsFrom, absentCheck, headChecks, flownOutCheck, mayApproach, baseFree, verticalChecks, lateralChecks, descendChecks, approachChecks, mergeChecks, flownOutChecks, landChecks, exitChecks, moved, headGone, entered, approached, landed, exited, missedApproach, held}
+use Rattle.rules.specs.Kinds.{zoneBefore, startsFrom, headChecks, flownOutCheck, mayApproach, baseFree, verticalChecks, lateralChecks, descendChecks, approachChecks, mergeChecks, flownOutChecks, landChecks, exitChecks, moved, headGone, entered, approached, landed, exited, missedApproach, held}
 use Rattle.rules.specs.Step.{byKind, checksOf, effectOf}
-use Rattle.rules.proofs.Tests.{passed, pass, decided}
 
 -- ---- the kind by its number
 abbrev pub checksFor : Field → Request → ℕ → List (ℕ × Bool)
@@ -101,6 +99,15 @@ checks-numbered f r =
     pick : (b : Bool) (cs ds : List (ℕ × Bool)) → T (numberedIn 11 24 cs) → T (numberedIn 11 24 ds) → T (numberedIn 11 24 (cond b cs ds))
     pick true cs ds t u = t
     pick false cs ds t u = u
+
+-- numbers from 11 to 24 are numbers from 1 to 99
+pub wider : (cs : List (ℕ × Bool)) → T (numberedIn 11 24 cs) → T (numberedIn 1 99 cs)
+wider [] t = tt
+wider (c ∷ cs) t =
+    let p = and-l (leb 11 (c .0) && leb (c .0) 24) (numberedIn 11 24 cs) t in
+    let l = leb→le 11 (c .0) (and-l (leb 11 (c .0)) (leb (c .0) 24) p) in
+    let h = leb→le (c .0) 24 (and-r (leb 11 (c .0)) (leb (c .0) 24) p) in
+    and-i (leb 1 (c .0) && leb (c .0) 99) (numberedIn 1 99 cs) (and-i (leb 1 (c .0)) (leb (c .0) 99) (le→leb 1 (c .0) (omega arith)) (le→leb (c .0) 99 (omega arith))) (wider cs (and-r (leb 11 (c .0) && leb (c .0) 24) (numberedIn 11 24 cs) t))
 
 pub input-numbered : (r : Request) → (inputNumber r ≡ 0) ⊎ T (leb 1 (inputNumber r) && leb (inputNumber r) 4)
 unfolding inputNumber

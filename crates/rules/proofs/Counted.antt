@@ -1,11 +1,10 @@
 -- The counts of a field that an order stands for are those of the finite model. Assumes nothing.
-use mathlib.Core.Path.{_≡_, refl, sym, ap, _∙_, subst}
-use mathlib.Core.Bool.{Bool, true, false, cond, not, _&&_, _||_, true≢false}
-use mathlib.Core.List.{List, [], _∷_, _++_, map}
-use Prim.Native.Nat.{ℕ, zero, suc, _+_, _-_, _≤_, _<_}
+use mathlib.Core.Path.{_≡_, refl, ap, _∙_}
+use mathlib.Core.Bool.{Bool, true, false, cond, not, _&&_}
+use mathlib.Core.List.{List, [], _∷_, _++_}
+use Prim.Native.Nat.{ℕ, _+_}
 use native.Mathlib.Omega.{arith}
-use native.Mathlib.Numerals.{add-one, one-add}
-use lib.Dec.{T, leb, ltb, eqb, leb→le, le→leb, eqb→eq}
+use lib.Dec.{T, leb, eqb, leb→le, le→leb, eqb→eq}
 use lib.ListN.{length}
 use lib.Ieee.Fits.{and-i, and-l, and-r}
 use borrow.Author.Tests.{ne-eqb}
@@ -13,10 +12,10 @@ use Rattle.field.specs.declared.Aircraft.{Aircraft}
 use Rattle.field.specs.declared.Legs.{Legs}
 use Rattle.field.specs.declared.Field.{Field}
 use Rattle.field.specs.Boxes.{zoneOf, queueOf, inZone, area, approach, operation, runway}
-use Rattle.field.specs.Counts.{isIn, total, haveFix, howMany, howManyWithFix, presentOn, inOperation, inArea, perFix, approachHolds, countedFor, potentialOf}
+use Rattle.field.specs.Counts.{isIn, total, haveFix, howMany, howManyWithFix, inOperation, inArea, perFix, approachHolds, countedFor, potentialOf}
 use Rattle.order.specs.Model.{Side, right, left, opp, num, nextFix, between, count, countFix, free, potential, all}
-use Rattle.rules.proofs.Tests.{passed, pass, if-true, if-false, each-zone}
-use Rattle.rules.proofs.Line.{zoneFor, queue-for, fieldBy, zone-by, Placed, zonesIn, numbersOf, inside, zonesOf, sequenceFor, fieldOf}
+use Rattle.field.proofs.Tests.{if-false, each-zone}
+use Rattle.rules.proofs.Line.{zoneFor, queue-for, zone-by, Placed, zonesIn, numbersOf, inside, zonesOf, sequenceFor, fieldOf}
 
 -- ---- what is inside a zone
 pub inside-append : (z : ℕ) (a b : List Placed) → inside z (a ++ b) ≡ inside z a ++ inside z b

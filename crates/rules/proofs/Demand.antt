@@ -1,29 +1,29 @@
 -- Demand 3 holds of every list of requests from an empty field with legal legs. Assumes nothing.
-use mathlib.Core.Path.{_≡_, refl, sym, ap, _∙_, subst}
-use mathlib.Core.Logic.{_⊎_, inl, inr}
-use mathlib.Core.Bool.{Bool, true, false, cond, not, _&&_, _||_}
-use mathlib.Core.List.{List, [], _∷_, _++_}
-use Prim.Native.Nat.{ℕ, zero, suc, _+_, _≤_, _<_}
+use mathlib.Core.Path.{_≡_, sym, ap, _∙_, subst}
+use mathlib.Core.Bool.{_&&_}
+use mathlib.Core.List.{List, []}
+use Prim.Native.Nat.{ℕ, _+_, _≤_, _<_}
 use native.Mathlib.Nat.{le-trans}
 use native.Mathlib.Omega.{arith}
-use lib.Dec.{T, leb, eqb, leb→le, le→leb}
+use lib.Dec.{T, leb, leb→le}
 use lib.ListN.{length}
-use lib.Ieee.Fits.{and-i, and-l, and-r}
+use lib.Ieee.Fits.{and-l, and-r}
 use Rattle.request.specs.Input.{within}
 use Rattle.request.specs.declared.Request.{Request}
 use Rattle.field.specs.declared.Aircraft.{Aircraft}
 use Rattle.field.specs.declared.Legs.{Legs}
 use Rattle.field.specs.declared.Field.{Field}
-use Rattle.field.specs.Boxes.{emptyField, operation, everywhere, zonesFrom}
-use Rattle.field.specs.Counts.{total, howMany, presentOn, inOperation, inArea, perFix}
+use Rattle.field.specs.Boxes.{emptyField, zonesFrom}
+use Rattle.field.specs.Counts.{howMany, presentOn, inOperation, inArea, perFix}
 use Rattle.field.specs.Bounds.{every, legalLegs, boundA, boundB, boundC, boundD, lateralRule}
-use Rattle.order.specs.Model.{Side, right, left, between, count}
-use Rattle.order.proofs.Facts.{okay-empty, okay-length, okay-zones, weights-small}
+use Rattle.field.proofs.Shapes.{one-of-two}
+use Rattle.order.specs.Model.{Side, right}
+use Rattle.order.proofs.Facts.{okay-empty, okay-zones, weights-small}
 use Rattle.rules.specs.Play.{fieldAfter, played, accepted, moves}
 use Rattle.rules.specs.Demand.{allFlownOut, addsMoves, MovesOn, Demand3}
-use Rattle.rules.proofs.Tests.{passed, pass, each-zone}
+use Rattle.field.proofs.Tests.{every-from}
 use Rattle.rules.proofs.Line.{Placed, zonesIn, fieldOf, empty-is}
-use Rattle.rules.proofs.Counted.{in-operation, all-counted, how-many-runway, lower}
+use Rattle.rules.proofs.Counted.{in-operation, all-counted, how-many-runway}
 use Rattle.rules.proofs.Orderly.{Orderly, length-zones}
 use Rattle.rules.proofs.Within.{a-holds, b-holds, c-holds, d-holds}
 use Rattle.rules.proofs.After.{weightOf}
@@ -31,19 +31,14 @@ use Rattle.rules.proofs.Runs.{Run, runs}
 use Rattle.rules.proofs.Unstuck.{unstuck}
 
 -- nobody yet
-empty-orderly : (legs : Legs) → T (legalLegs legs) → Orderly right [] [] legs
+pub empty-orderly : (legs : Legs) → T (legalLegs legs) → Orderly right [] [] legs
 empty-orderly legs l =
     record { okay-line = okay-empty right; alternates = tt; nonzeros = tt; different = tt; fit-line = tt; fit-runway = tt; one-landed = omega arith; legal = l }
 
 -- a side is 1 or 2
 by-side : (P : ℕ → Type 0) → P 1 → P 2 → (s : ℕ) → T (within 1 2 s) → P s
-by-side P p q s t = each-zone (λ (n : ℕ). T (within 1 2 n) → P n) ((λ u. p), ((λ u. q), ((λ u. absurd u), ((λ u. absurd u), ((λ u. absurd u), ((λ u. absurd u), ((λ u. absurd u), ((λ u. absurd u), ((λ u. absurd u), ((λ u. absurd u), ((λ u. absurd u), ((λ u. absurd u), ((λ u. absurd u), tt))))))))))))) s (wider s t) t
-  where
-    wider : (n : ℕ) → T (within 1 2 n) → T (between 1 13 n)
-    wider n t =
-        let l = leb→le 1 n (and-l (leb 1 n) (leb n 2) t) in
-        let h = leb→le n 2 (and-r (leb 1 n) (leb n 2) t) in
-        and-i (leb 1 n) (leb n 13) (le→leb 1 n l) (le→leb n 13 (omega arith))
+by-side P p q s t =
+    one-of-two P 1 s (leb→le 1 s (and-l (leb 1 s) (leb s 2) t)) (let h = leb→le s 2 (and-r (leb 1 s) (leb s 2) t) in omega arith) p q
 
 module _ (f : Side) (line : List Placed) (runway : List Aircraft) (legs : Legs) (o : Orderly f line runway legs) where
   abbrev F : Field
@@ -77,26 +72,8 @@ module _ (f : Side) (line : List Placed) (runway : List Aircraft) (legs : Legs) 
 
   one-in-holding : (z : ℕ) → T (within 1 4 z) → howMany F z ≤ 1
   one-in-holding z t =
-      let p : ℕ → Bool = λ z. leb (howMany F z) 1 in
-      let p₂ = and-r (p 1) (every p (zonesFrom 2 5)) single in
-      let p₃ = and-r (p 2) (every p (zonesFrom 3 4)) p₂ in
-      let p₄ = and-r (p 3) (every p (zonesFrom 4 3)) p₃ in
-      each-zone (λ (z : ℕ). T (within 1 4 z) → howMany F z ≤ 1) (
-        (λ u. leb→le (howMany F 1) 1 (and-l (p 1) (every p (zonesFrom 2 5)) single)),
-        (
-          (λ u. leb→le (howMany F 2) 1 (and-l (p 2) (every p (zonesFrom 3 4)) p₂)),
-          (
-            (λ u. leb→le (howMany F 3) 1 (and-l (p 3) (every p (zonesFrom 4 3)) p₃)),
-            (
-              (λ u. leb→le (howMany F 4) 1 (and-l (p 4) (every p (zonesFrom 5 2)) p₄)),
-              ((λ u. absurd u), ((λ u. absurd u), ((λ u. absurd u), ((λ u. absurd u), ((λ u. absurd u), ((λ u. absurd u), ((λ u. absurd u), ((λ u. absurd u), ((λ u. absurd u), tt))))))))),
-            ),
-          ),
-        ),
-      )
-      z
-      (let l = leb→le 1 z (and-l (leb 1 z) (leb z 4) t) in let h = leb→le z 4 (and-r (leb 1 z) (leb z 4) t) in and-i (leb 1 z) (leb z 13) (le→leb 1 z l) (le→leb z 13 (omega arith)))
-      t
+      leb→le (howMany F z) 1
+      (every-from (λ z. leb (howMany F z) 1) 1 6 single z (leb→le 1 z (and-l (leb 1 z) (leb z 4) t)) (let h = leb→le z 4 (and-r (leb 1 z) (leb z 4) t) in omega arith))
 
   -- everyone of the line and the runway is present
   pub present-is : presentOn F ≡ length line + length runway

@@ -1,9 +1,8 @@
 -- What entries and missed approaches do to a field that an order stands for: the aircraft comes to the end of the line. Assumes nothing.
 use mathlib.Core.Path.{_≡_, refl, sym, ap, _∙_, subst}
-use mathlib.Core.Logic.{_⊎_, inl, inr}
-use mathlib.Core.Bool.{Bool, true, false, cond}
-use mathlib.Core.List.{List, [], _∷_, _++_, map, append-nil}
-use Prim.Native.Nat.{ℕ, zero, suc, _+_, _≤_, _<_}
+use mathlib.Core.Bool.{cond}
+use mathlib.Core.List.{List, [], _∷_, _++_, append-nil}
+use Prim.Native.Nat.{ℕ, suc, _<_}
 use native.Mathlib.Omega.{arith}
 use lib.Dec.{T, eqb}
 use lib.ListN.{length}
@@ -12,18 +11,19 @@ use Rattle.field.specs.declared.Zone.{Zone}
 use Rattle.field.specs.declared.Sequence.{Sequence}
 use Rattle.field.specs.declared.Legs.{Legs}
 use Rattle.field.specs.declared.Field.{Field}
-use Rattle.field.specs.Boxes.{opposite, missed, zoneOf, orderOf, progressInto, entering, withProgress, withFix}
+use Rattle.field.specs.Boxes.{opposite, missed, zoneOf, progressInto, entering, withProgress, withFix}
 use Rattle.field.specs.Find.{aircraftAt}
 use Rattle.field.specs.Bounds.{allDifferent}
 use Rattle.field.specs.Edits.{withTail, withZone, withSequence, appended, removed}
 use Rattle.request.specs.declared.Request.{Request}
 use Rattle.order.specs.Model.{Side, right, left, opp, num, nextFix, between, firstFix}
 use Rattle.rules.specs.Kinds.{headGone, fixTaken, entered, fixAfterMiss, missedApproach}
-use Rattle.rules.proofs.Tests.{if-true, if-false, same, flip-eqb}
+use Rattle.field.proofs.Tests.{if-false, flip-eqb}
 use Rattle.rules.proofs.Lists.{map-append}
 use Rattle.rules.proofs.Line.{zoneFor, tail-for, sequenceFor, order-for, appended-for, fieldBy, zone-by, Placed, zonesIn, numbersOf, inside, zonesOf, fieldOf}
-use Rattle.rules.proofs.Counted.{inside-append, lower, not-13, Alternates}
-use Rattle.rules.proofs.Located.{numbers, inside-at, inside-other, head-there}
+use Rattle.rules.proofs.Counted.{lower, not-13, Alternates}
+use Rattle.field.proofs.FindLaws.{numbers}
+use Rattle.rules.proofs.Located.{inside-at, inside-other, head-there}
 use Rattle.rules.proofs.Orderly.{inside-le, length-numbers, opposite-num}
 use Rattle.rules.proofs.Moves.{one-zone}
 use Rattle.rules.proofs.Leaves.{head-gone, sequence-left}

@@ -2,31 +2,29 @@
 -- a zone that the kind starts from. Assumes nothing.
 use mathlib.Core.Path.{_≡_, refl, sym, ap, _∙_, subst}
 use mathlib.Core.Logic.{_⊎_, inl, inr}
-use mathlib.Core.Bool.{Bool, true, false, cond, not, _&&_, _||_, true≢false, false≢true}
-use mathlib.Core.List.{List, [], _∷_, _++_, map}
-use Prim.Native.Nat.{ℕ, zero, suc, _+_, _≤_, _<_}
+use mathlib.Core.Bool.{Bool, true, false, not, _||_, false≢true}
+use mathlib.Core.List.{List, [], _∷_, _++_}
+use Prim.Native.Nat.{ℕ, suc, _≤_}
 use native.Mathlib.Omega.{arith}
-use lib.Dec.{T, leb, eqb, eqb→eq}
+use lib.Dec.{T, eqb}
 use lib.ListN.{length}
 use borrow.Author.Tests.{eqb-true, eq-eqb}
-use Rattle.request.specs.Input.{within, firstRefused}
 use Rattle.request.specs.declared.Request.{Request}
 use Rattle.field.specs.declared.Aircraft.{Aircraft}
 use Rattle.field.specs.declared.Legs.{Legs}
 use Rattle.field.specs.declared.Field.{Field}
 use Rattle.field.specs.declared.Place.{Place}
 use Rattle.field.specs.Counts.{isIn}
-use Rattle.field.specs.Find.{nowhere, placeOf}
-use Rattle.field.specs.Bounds.{allDifferent}
-use Rattle.order.specs.Model.{Side, between, count, free}
-use Rattle.rules.specs.Kinds.{startsFrom, headChecks, zoneBefore}
-use Rattle.rules.proofs.Tests.{decided, pass, same}
-use Rattle.rules.proofs.Lists.{or-false-left, or-false-right, in-append}
+use Rattle.field.specs.Find.{placeOf}
+use Rattle.order.specs.Model.{Side, count, free}
+use Rattle.rules.specs.Kinds.{startsFrom, zoneBefore}
+use Rattle.field.proofs.Tests.{decided, pass}
 use Rattle.rules.proofs.Line.{Placed, zonesIn, numbersOf, inside, fieldOf}
 use Rattle.rules.proofs.Counted.{length-inside}
-use Rattle.rules.proofs.Located.{numbers, at, located, located-runway, not-located}
+use Rattle.field.proofs.FindLaws.{at}
+use Rattle.rules.proofs.Located.{located, located-runway, not-located}
 use Rattle.rules.proofs.Orderly.{Orderly}
-use Rattle.rules.proofs.After.{zone-in, apart-in}
+use Rattle.rules.proofs.After.{zone-in}
 
 -- ---- a number in a line
 pub record InLine (n : ℕ) (line : List Placed) : Type 0 where

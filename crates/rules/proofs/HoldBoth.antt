@@ -1,38 +1,30 @@
 -- Kind 11 beside an occupied 3000: the aircraft there goes to 2000, and the one from the missed zone to 3000. Assumes nothing.
 use mathlib.Core.Path.{_≡_, refl, sym, ap, _∙_, subst}
-use mathlib.Core.Logic.{_⊎_, inl, inr}
-use mathlib.Core.Bool.{Bool, true, false, cond, not, _&&_, _||_, true≢false}
-use mathlib.Core.List.{List, [], _∷_, _++_, append-assoc}
-use Prim.Native.Nat.{ℕ, zero, suc, _+_, _≤_, _<_}
+use mathlib.Core.Bool.{false, not, _||_}
+use mathlib.Core.List.{List, _∷_, _++_, append-assoc}
+use Prim.Native.Nat.{ℕ, _+_}
 use native.Mathlib.Omega.{arith}
-use lib.Dec.{T, leb, eqb, eqb→eq}
+use lib.Dec.{T, eqb, eqb→eq}
 use lib.ListN.{length}
-use lib.Ieee.Fits.{and-i, and-l, and-r}
-use borrow.Author.Tests.{eq-eqb, eqb-true}
+use borrow.Author.Tests.{eq-eqb}
 use Rattle.request.specs.Input.{within}
 use Rattle.request.specs.declared.Request.{Request}
 use Rattle.field.specs.declared.Aircraft.{Aircraft}
 use Rattle.field.specs.declared.Legs.{Legs}
 use Rattle.field.specs.declared.Field.{Field}
 use Rattle.field.specs.Boxes.{isFlyingZone, sideOf, at3000, at2000, withProgress}
-use Rattle.field.specs.Counts.{isIn}
-use Rattle.field.specs.Find.{placeOf}
-use Rattle.field.specs.Bounds.{allDifferent, isEmpty}
-use Rattle.order.specs.Model.{Side, between, count, free, okay, weight, weights, one}
-use Rattle.order.proofs.Facts.{hold-ahead, BothMoved, hold-both}
-use Rattle.rules.specs.Kinds.{startsFrom, moved, held}
+use Rattle.order.specs.Model.{Side, between, count, free, okay, weight, one}
+use Rattle.order.proofs.Facts.{BothMoved, hold-both}
+use Rattle.rules.specs.Kinds.{moved}
 use Rattle.rules.specs.Step.{effectOf}
-use Rattle.rules.proofs.Tests.{passed, pass, failed, if-true, if-false, each-zone}
+use Rattle.field.proofs.Tests.{pass, failed, zones-imply}
 use Rattle.rules.proofs.Lists.{map-append}
-use Rattle.rules.proofs.Line.{Placed, zonesIn, numbersOf, fieldOf}
+use Rattle.rules.proofs.Line.{Placed, zonesIn, fieldOf}
 use Rattle.rules.proofs.Counted.{lower}
-use Rattle.rules.proofs.Located.{at}
 use Rattle.rules.proofs.Members.{count-append}
-use Rattle.rules.proofs.Orderly.{Orderly, Split, first-in}
+use Rattle.rules.proofs.Orderly.{Orderly}
 use Rattle.rules.proofs.Moves.{into, same-length}
-use Rattle.rules.proofs.After.{Each, each-append, each-left, each-right, After, Carried, Others, others-all, apart-in, carried-one, one-le, zone-in, weights-split, weights-append, okay-split, moved-is, moved-orderly}
-use Rattle.rules.proofs.Checks.{effect-at}
-use Rattle.rules.proofs.OnLine.{eleven-from, zone-before, from-kind, empty-free}
+use Rattle.rules.proofs.After.{Each, each-append, each-left, each-right, After, Carried, carried-one, one-le, zone-in, weights-split, okay-split, moved-is, moved-orderly}
 
 -- what is nowhere in a list is nowhere in its parts
 free-left : (xs ys : List ℕ) (z : ℕ) → T (free (xs ++ ys) z) → T (free xs z)
@@ -52,7 +44,7 @@ free-changed xs y w ys z t h =
 -- 2000 is not flown in
 waits : (z : ℕ) → T (between 1 13 z) → T (between 7 8 z) → isFlyingZone (at2000 (sideOf z)) ≡ false
 unfolding isFlyingZone sideOf
-waits = each-zone (λ (z : ℕ). T (between 7 8 z) → isFlyingZone (at2000 (sideOf z)) ≡ false) ((λ u. absurd u), ((λ u. absurd u), ((λ u. absurd u), ((λ u. absurd u), ((λ u. absurd u), ((λ u. absurd u), ((λ u. refl), ((λ u. refl), ((λ u. absurd u), ((λ u. absurd u), ((λ u. absurd u), ((λ u. absurd u), ((λ u. absurd u), tt)))))))))))))
+waits z t u = failed {b = isFlyingZone (at2000 (sideOf z))} (zones-imply (between 7 8) (λ z. not (isFlyingZone (at2000 (sideOf z)))) tt z t u)
 
 -- ---- the line a, g, b, e, c: g at 3000 and e in the missed zone
 module _ (f : Side) (a : List Placed) (g : Placed) (b : List Placed) (e : Placed) (c : List Placed) (runway : List Aircraft) (legs : Legs) (o : Orderly f (a ++ g ∷ (b ++ e ∷ c)) runway legs) (r : Request)

@@ -1,16 +1,15 @@
 -- Each change of the line that a request makes keeps it orderly, given that the finite model keeps its zones okay. Assumes nothing.
 use mathlib.Core.Path.{_≡_, refl, sym, ap, _∙_, subst}
 use mathlib.Core.Logic.{_⊎_, inl, inr}
-use mathlib.Core.Bool.{Bool, true, false, cond, not, _&&_, _||_}
-use mathlib.Core.List.{List, [], _∷_, _++_, map, append-assoc, append-nil}
-use Prim.Native.Nat.{ℕ, zero, suc, _+_, _≤_, _<_}
+use mathlib.Core.Bool.{Bool, true, false, cond, not, _&&_}
+use mathlib.Core.List.{List, [], _∷_, _++_, map, append-assoc}
+use Prim.Native.Nat.{ℕ, _≤_}
 use native.Mathlib.Omega.{arith}
-use lib.Dec.{T, leb, eqb, leb→le, le→leb}
-use lib.ListN.{length}
+use lib.Dec.{T, leb, leb→le, le→leb}
 use lib.Ieee.Fits.{and-i, and-l, and-r}
 use lib.Ieee.{Float}
 use Rattle.leg.specs.Progress.{whole, legalLeg, withinLeg, progressAfter}
-use Rattle.leg.specs.Ticks.{Between, flying}
+use Rattle.leg.specs.Ticks.{Between}
 use Rattle.leg.specs.declared.Progress.{Progress}
 use Rattle.leg.specs.declared.Progress.the-variants.{Waiting, Flying}
 use Rattle.leg.proofs.Theorems.{zero-within, within-kept}
@@ -20,17 +19,19 @@ use Rattle.field.specs.Boxes.{isSide, isFlyingZone, progressInto, entering, wit
 use Rattle.field.specs.Counts.{isIn}
 use Rattle.field.specs.Bounds.{every, allDifferent, isWaiting, fitsZone, legalLegs}
 use Rattle.field.specs.Edits.{tickedAircraft}
-use Rattle.order.specs.Model.{Side, right, left, opp, num, nextFix, between, count, all, okay, firstFix}
+use Rattle.order.specs.Model.{Side, right, left, opp, num, between, count, all, okay, firstFix}
 use Rattle.order.proofs.Facts.{okay-zones}
-use Rattle.rules.proofs.Tests.{passed, pass, failed, decided, if-true, if-false, each-zone}
-use Rattle.rules.proofs.Lists.{map-append, every-append, every-left, every-right, different-with, absent-both}
+use Rattle.field.proofs.Tests.{pass, failed, decided, if-true, if-false}
+use Rattle.field.proofs.Lists.{absent-both}
+use Rattle.rules.proofs.Lists.{map-append, every-append, every-left, every-right, different-with}
+use Rattle.field.proofs.TickLaws.{leg-legal}
 use Rattle.rules.proofs.Line.{Placed, zonesIn, numbersOf}
-use Rattle.rules.proofs.Counted.{Alternates, lower}
-use Rattle.rules.proofs.Located.{numbers}
+use Rattle.rules.proofs.Counted.{Alternates}
+use Rattle.field.proofs.FindLaws.{numbers}
 use Rattle.rules.proofs.Leaders.{nonzero}
 use Rattle.rules.proofs.Members.{count-append, different-count, count-different, nonzero-count, count-nonzero}
 use Rattle.rules.proofs.Orderly.{Orderly}
-use Rattle.rules.proofs.Moves.{into, same-numbers}
+use Rattle.rules.proofs.Moves.{same-numbers}
 use Rattle.rules.proofs.Enters.{entryFix, alternates-after}
 use Rattle.rules.proofs.Ticking.{tickPlaced, zones-same, numbers-same}
 
@@ -43,21 +44,6 @@ module _ (xs ys : List ℕ) (h : (n : ℕ) → count xs n ≤ count ys n) where
   nonzero-of t = nonzero-count xs (let a = h 0 in let b = count-nonzero ys t in omega arith)
 
 -- ---- an aircraft fits the zone that it has come into
-
-leg-legal : (legs : Legs) → T (legalLegs legs) → (z : ℕ) → T (between 1 12 z) → T (isFlyingZone z) → T (legalLeg (legOf legs z))
-unfolding legalLegs isFlyingZone legOf
-leg-legal legs t z u =
-    let m = legalLeg (legs .missed) in
-    let b = legalLeg (legs .base) in
-    let i = legalLeg (legs .intermediate) in
-    let f = legalLeg (legs .«final_approach») in
-    let tm = and-l m b (and-l (m && b) i (and-l (m && b && i) f t)) in
-    let tb = and-r m b (and-l (m && b) i (and-l (m && b && i) f t)) in
-    let ti = and-r (m && b) i (and-l (m && b && i) f t) in
-    let tf = and-r (m && b && i) f t in
-    each-zone (λ (z : ℕ). T (isFlyingZone z) → T (legalLeg (legOf legs z)))
-    ((λ v. absurd v), ((λ v. absurd v), ((λ v. absurd v), ((λ v. absurd v), ((λ v. absurd v), ((λ v. absurd v), ((λ v. tm), ((λ v. tm), ((λ v. tb), ((λ v. tb), ((λ v. ti), ((λ v. tf), ((λ v. absurd v), tt)))))))))))))
-    z (lower z u)
 
 -- the part of `fitsZone` that speaks of the progress
 abbrev progressFits : Legs → ℕ → Progress → Bool
@@ -81,7 +67,7 @@ fits-of legs z a t u = and-i (personFits a) (progressFits legs z (a .progress)) 
 
 into-fits : (legs : Legs) → T (legalLegs legs) → (z : ℕ) → T (between 1 12 z) → T (progressFits legs z (progressInto z))
 unfolding progressInto
-into-fits legs l z t = go (isFlyingZone z) (leg-legal legs l z t)
+into-fits legs l z t = go (isFlyingZone z) (leg-legal legs l z)
   where
     go : (b : Bool) → (T b → T (legalLeg (legOf legs z)))
         → T (cond b (not (isWaiting (cond b (Flying (whole 0)) Waiting)) && withinLeg (cond b (Flying (whole 0)) Waiting) (legOf legs z)) (isWaiting (cond b (Flying (whole 0)) Waiting)))
@@ -235,7 +221,7 @@ ticked-fits legs l amount al ah e t h = go (decided (isFlyingZone (e .zone)))
         (subst T (sym (if-true (not (isWaiting q) && withinLeg q g) (isWaiting q) b))
         (and-i (not (isWaiting q)) (withinLeg q g)
         (subst (λ (c : Bool). T (not c)) (sym (flying-not-waiting (a .progress) (a .speed) amount g)) (and-l (not (isWaiting (a .progress))) (withinLeg (a .progress) g) p))
-        (within-kept (a .progress) g (leg-legal legs l (e .zone) t (pass b)) speeds (record { least = al; most = ah }) (and-r (not (isWaiting (a .progress))) (withinLeg (a .progress) g) p))))
+        (within-kept (a .progress) g (leg-legal legs l (e .zone) (pass b)) speeds (record { least = al; most = ah }) (and-r (not (isWaiting (a .progress))) (withinLeg (a .progress) g) p))))
 
     go : (isFlyingZone (e .zone) ≡ true) ⊎ (isFlyingZone (e .zone) ≡ false) → T (placedFits legs (tickPlaced legs amount e))
     go (inl b) = subst (λ (a : Aircraft). T (fitsZone legs (e .zone) a)) (sym (if-true (tickedAircraft (legOf legs (e .zone)) amount (e .aircraft)) (e .aircraft) b)) (flown b)

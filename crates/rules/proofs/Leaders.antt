@@ -1,21 +1,21 @@
 -- The zone of the leader, on a field that an order stands for: that of the one just ahead in the line. Assumes nothing.
-use mathlib.Core.Path.{_≡_, refl, sym, ap, _∙_, subst}
-use mathlib.Core.Bool.{Bool, true, false, cond, not, _&&_, _||_}
+use mathlib.Core.Path.{_≡_, sym, ap, _∙_, subst}
+use mathlib.Core.Bool.{Bool, cond, not}
 use mathlib.Core.List.{List, [], _∷_, _++_, map, append-assoc}
-use Prim.Native.Nat.{ℕ, zero, suc, _+_, _≤_, _<_}
+use Prim.Native.Nat.{ℕ}
 use lib.Dec.{T, eqb}
-use lib.ListN.{length}
-use lib.Ieee.Fits.{and-i, and-l, and-r}
+use lib.Ieee.Fits.{and-l, and-r}
 use Rattle.field.specs.declared.Aircraft.{Aircraft}
 use Rattle.field.specs.declared.Legs.{Legs}
 use Rattle.field.specs.declared.Place.{Place}
 use Rattle.field.specs.Find.{placeOf, leaderOf, leaderZone}
 use Rattle.field.specs.Bounds.{every, allDifferent}
 use Rattle.order.specs.Model.{Side, between, lastOr, all}
-use Rattle.rules.proofs.Tests.{if-true, if-false, failed}
+use Rattle.field.proofs.Tests.{if-false, failed}
 use Rattle.rules.proofs.Lists.{map-append, Ends, nothing, with-last, ends, last-is}
 use Rattle.rules.proofs.Line.{Placed, zonesIn, numbersOf, fieldOf}
-use Rattle.rules.proofs.Located.{numbers, located, leader-there}
+use Rattle.field.proofs.FindLaws.{numbers}
+use Rattle.rules.proofs.Located.{located, leader-there}
 
 abbrev pub nonzero : ℕ → Bool
 nonzero n = not (eqb n 0)

@@ -1,8 +1,8 @@
 -- What landing, taxiing off and exiting do to a field that an order stands for. Assumes nothing.
 use mathlib.Core.Path.{_≡_, refl, sym, ap, _∙_, subst}
-use mathlib.Core.Bool.{Bool, true, false, cond}
-use mathlib.Core.List.{List, [], _∷_, _++_, map}
-use Prim.Native.Nat.{ℕ, zero, suc, _+_, _≤_, _<_}
+use mathlib.Core.Bool.{Bool, false, cond}
+use mathlib.Core.List.{List, [], _∷_, _++_}
+use Prim.Native.Nat.{ℕ, _<_}
 use native.Mathlib.Omega.{arith}
 use lib.Dec.{T, eqb}
 use lib.ListN.{length}
@@ -18,10 +18,10 @@ use Rattle.field.specs.Edits.{withoutHead, withTail, withZone, withSequence, re
 use Rattle.request.specs.declared.Request.{Request}
 use Rattle.order.specs.Model.{Side, opp, num, nextFix, between}
 use Rattle.rules.specs.Kinds.{moved, headGone, outOfSequence, landed, exited}
-use Rattle.rules.proofs.Tests.{if-true, if-false, same, flip-eqb}
+use Rattle.field.proofs.Tests.{if-false, flip-eqb}
 use Rattle.rules.proofs.Line.{zoneFor, tail-for, head-for, sequenceFor, removed-for, fieldBy, Placed, zonesIn, numbersOf, inside, zonesOf, fieldOf}
 use Rattle.rules.proofs.Counted.{lower, not-13, zone-of-line, zone-of-runway}
-use Rattle.rules.proofs.Located.{numbers, inside-at, inside-other, head-there}
+use Rattle.rules.proofs.Located.{inside-at, inside-other, head-there}
 use Rattle.rules.proofs.Orderly.{inside-le, length-numbers}
 use Rattle.rules.proofs.Moves.{one-zone, two-zones, zone-other}
 

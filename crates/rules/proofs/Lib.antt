@@ -1,5 +1,4 @@
 pub mod Cases
-pub mod Tests
 pub mod Lists
 pub mod Line
 pub mod Counted
@@ -25,3 +24,13 @@ pub mod Outcomes
 pub mod Runs
 pub mod Unstuck
 pub mod Demand
+pub mod Exact
+pub mod Refusals
+pub mod AlongLine
+pub mod Room
+pub mod Examples
+pub mod Stands
+pub mod FromReason
+pub mod Invariant
+pub mod OneStep
+pub mod Reason

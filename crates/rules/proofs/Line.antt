@@ -1,24 +1,23 @@
 -- A field as the landing order shows it: everyone in the operation area in the order of the sequence, each with its zone; who is on the
 -- runway; the fix of the first; the legs. `fieldOf` is the field that such an order stands for, and the laws here say what the edits of
 -- the field do to it. Assumes nothing.
-use mathlib.Core.Path.{_≡_, refl, sym, ap, _∙_, subst}
-use mathlib.Core.Bool.{Bool, true, false, cond, not, _&&_, _||_}
+use mathlib.Core.Path.{_≡_, refl}
+use mathlib.Core.Bool.{Bool, true, cond}
 use mathlib.Core.List.{List, [], _∷_, _++_, map}
-use Prim.Native.Nat.{ℕ, zero, suc, _+_, _-_, _≤_, _<_}
+use Prim.Native.Nat.{ℕ, _-_, _<_}
 use native.Mathlib.Omega.{arith}
-use lib.Dec.{T, leb, ltb, eqb}
-use lib.ListN.{length, take, replicate, set, getD}
+use lib.Dec.{T, eqb}
+use lib.ListN.{length, replicate}
 use lib.Seq.{take-append-seam}
-use lib.Ieee.Fits.{and-i, and-l, and-r}
 use Rattle.field.specs.declared.Aircraft.{Aircraft}
 use Rattle.field.specs.declared.Zone.{Zone}
 use Rattle.field.specs.declared.Sequence.{Sequence}
 use Rattle.field.specs.declared.Legs.{Legs}
 use Rattle.field.specs.declared.Field.{Field}
-use Rattle.field.specs.Boxes.{everywhere, nobody, emptyZone, zoneOf, queueOf, inZone, orderOf, emptyField}
-use Rattle.field.specs.Edits.{withoutHead, withTail, appended, removed, setFromOne, withZone, withSequence}
-use Rattle.order.specs.Model.{Side, right, left, num, nextFix, between}
-use Rattle.rules.proofs.Tests.{passed, pass, same, if-true, if-false, EachFrom, each-zone}
+use Rattle.field.specs.Boxes.{everywhere, nobody, zoneOf, queueOf, orderOf, emptyField}
+use Rattle.field.specs.Edits.{withoutHead, withTail, appended, removed, withZone}
+use Rattle.order.specs.Model.{Side, right, num, nextFix, between}
+use Rattle.field.proofs.Tests.{same, each-zone}
 
 -- ---- queues
 

@@ -1,18 +1,16 @@
 -- Laws of lists of numbers: who is in a list, what is all different, and what stands before a number. Assumes nothing.
-use mathlib.Core.Path.{_≡_, refl, sym, ap, _∙_, subst}
-use mathlib.Core.Logic.{_⊎_, inl, inr}
-use mathlib.Core.Bool.{Bool, true, false, cond, not, _&&_, _||_, true≢false}
+use mathlib.Core.Path.{_≡_, refl, ap, _∙_}
+use mathlib.Core.Bool.{Bool, false, not}
 use mathlib.Core.List.{List, [], _∷_, _++_, map}
-use Prim.Native.Nat.{ℕ, zero, suc, _+_, _≤_, _<_}
-use native.Mathlib.Omega.{arith}
+use Prim.Native.Nat.{ℕ}
 use lib.Dec.{T, eqb}
-use lib.ListN.{length}
 use lib.Ieee.Fits.{and-i, and-l, and-r}
 use Rattle.field.specs.Counts.{isIn}
 use Rattle.field.specs.Find.{isHead, aheadOf}
 use Rattle.field.specs.Bounds.{every, allDifferent}
 use Rattle.order.specs.Model.{lastOr, isNil}
-use Rattle.rules.proofs.Tests.{passed, pass, failed, fail, if-true, if-false, same, flip-eqb}
+use Rattle.field.proofs.Lists.{or-false-left, or-false-right, or-false, absent-left, absent-right, absent-both}
+use Rattle.field.proofs.Tests.{failed, fail, if-true, if-false, same, flip-eqb}
 
 pub map-append {ℓ ℓ′} : {A : Type ℓ} {B : Type ℓ′} (g : A → B) (xs ys : List A) → map g (xs ++ ys) ≡ map g xs ++ map g ys
 map-append g [] ys = refl
@@ -31,50 +29,7 @@ ends {A} (x ∷ xs) = go (ends xs)
     go nothing = with-last [] x
     go (with-last ys y) = with-last (x ∷ ys) y
 
--- ---- either
-pub or-false-left : (a b : Bool) → (a || b) ≡ false → a ≡ false
-or-false-left true b e = e
-or-false-left false b e = refl
-
-pub or-false-right : (a b : Bool) → (a || b) ≡ false → b ≡ false
-or-false-right true b e = absurd (true≢false e)
-or-false-right false b e = e
-
-pub or-false : {a b : Bool} → a ≡ false → b ≡ false → (a || b) ≡ false
-or-false {a} {b} p q = ap (λ (t : Bool). t || b) p ∙ q
-
--- ---- who is in a list
-pub in-append : (n : ℕ) (xs ys : List ℕ) → isIn n (xs ++ ys) ≡ (isIn n xs || isIn n ys)
-in-append n [] ys = refl
-in-append n (x ∷ xs) ys = ap (λ (b : Bool). eqb x n || b) (in-append n xs ys) ∙ sym (assoc (eqb x n) (isIn n xs) (isIn n ys))
-  where
-    assoc : (a b c : Bool) → (a || b || c) ≡ (a || (b || c))
-    assoc true b c = refl
-    assoc false b c = refl
-
-pub absent-left : (n : ℕ) (xs ys : List ℕ) → isIn n (xs ++ ys) ≡ false → isIn n xs ≡ false
-absent-left n xs ys e = or-false-left (isIn n xs) (isIn n ys) (sym (in-append n xs ys) ∙ e)
-
-pub absent-right : (n : ℕ) (xs ys : List ℕ) → isIn n (xs ++ ys) ≡ false → isIn n ys ≡ false
-absent-right n xs ys e = or-false-right (isIn n xs) (isIn n ys) (sym (in-append n xs ys) ∙ e)
-
-pub absent-both : (n : ℕ) (xs ys : List ℕ) → isIn n xs ≡ false → isIn n ys ≡ false → isIn n (xs ++ ys) ≡ false
-absent-both n xs ys p q = in-append n xs ys ∙ or-false p q
-
 -- ---- all different
--- one of a list of different numbers is not among the others
-pub record Alone (n : ℕ) (xs ys : List ℕ) : Type 0 where
-  pub ahead : isIn n xs ≡ false
-  pub behind : isIn n ys ≡ false
-
-pub alone : (xs : List ℕ) (n : ℕ) (ys : List ℕ) → T (allDifferent (xs ++ n ∷ ys)) → Alone n xs ys
-alone [] n ys t = record { ahead = refl; behind = failed (and-l (not (isIn n ys)) (allDifferent ys) t) }
-alone (x ∷ xs) n ys t =
-    let rest = xs ++ n ∷ ys in
-    let i = alone xs n ys (and-r (not (isIn x rest)) (allDifferent rest) t) in
-    let o = absent-right x xs (n ∷ ys) (failed (and-l (not (isIn x rest)) (allDifferent rest) t)) in
-    record { ahead = or-false (flip-eqb n x (or-false-left (eqb n x) (isIn x ys) o)) (i .ahead); behind = i .behind }
-
 -- fewer are all different too
 pub different-without : (xs : List ℕ) (n : ℕ) (ys : List ℕ) → T (allDifferent (xs ++ n ∷ ys)) → T (allDifferent (xs ++ ys))
 different-without [] n ys t = and-r (not (isIn n ys)) (allDifferent ys) t

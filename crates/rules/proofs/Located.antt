@@ -1,12 +1,11 @@
 -- Where an aircraft is, whether it is first and whom it follows, on a field that an order stands for. Assumes nothing.
 use mathlib.Core.Path.{_≡_, refl, sym, ap, _∙_, subst}
 use mathlib.Core.Logic.{_⊎_, inl, inr}
-use mathlib.Core.Bool.{Bool, true, false, cond, not, _&&_, _||_, true≢false}
-use mathlib.Core.List.{List, [], _∷_, _++_, map, append-assoc}
-use Prim.Native.Nat.{ℕ, zero, suc, _+_, _≤_, _<_}
-use native.Mathlib.Nat.{ne-of-gt}
+use mathlib.Core.Bool.{Bool, true, false, cond, _||_, true≢false}
+use mathlib.Core.List.{List, [], _∷_, _++_, append-assoc}
+use Prim.Native.Nat.{ℕ, suc, _≤_}
 use native.Mathlib.Omega.{arith}
-use lib.Dec.{T, leb, eqb, leb→le, le→leb, eqb→eq}
+use lib.Dec.{T, leb, eqb, leb→le, le→leb}
 use lib.ListN.{length, getD}
 use lib.Seq.{getD-append-seam}
 use lib.Ieee.Fits.{and-i, and-l, and-r}
@@ -17,29 +16,17 @@ use Rattle.field.specs.declared.Field.{Field}
 use Rattle.field.specs.declared.Place.{Place}
 use Rattle.field.specs.Boxes.{everywhere, inZone, orderOf, nobody}
 use Rattle.field.specs.Counts.{isIn}
-use Rattle.field.specs.Find.{placeFrom, nowhere, findIn, placeOf, aircraftAt, fixOf, isHead, isFirst, aheadOf, leaderOf, leaderZone}
-use Rattle.field.specs.Bounds.{every, allDifferent}
+use Rattle.field.specs.Find.{placeFrom, nowhere, findIn, placeOf, aircraftAt, fixOf, isHead, isFirst, aheadOf, leaderOf}
+use Rattle.field.specs.Bounds.{allDifferent}
 use Rattle.order.specs.Model.{Side, between, lastOr, isNil, all}
-use Rattle.rules.proofs.Tests.{passed, pass, if-true, if-false, decided, same, each-zone}
-use Rattle.rules.proofs.Lists.{map-append, Ends, nothing, with-last, ends, or-false-left, or-false-right, absent-left, absent-right, Alone, alone, head-is, ahead-is, ahead-absent, last-is}
-use Rattle.rules.proofs.Line.{order-for, sequenceFor, Placed, zonesIn, numbersOf, inside, fieldOf}
+use Rattle.field.proofs.Tests.{pass, if-true, if-false, decided, same, each-zone}
+use Rattle.field.proofs.Lists.{or-false-left, or-false-right, absent-left, absent-right, Alone, alone}
+use Rattle.rules.proofs.Lists.{map-append, head-is, ahead-is}
+use Rattle.field.proofs.FindLaws.{numbers, at, no-place, place-at}
+use Rattle.rules.proofs.Line.{order-for, Placed, zonesIn, numbersOf, inside, fieldOf}
 use Rattle.rules.proofs.Counted.{inside-append, in-line, on-runway}
 
-abbrev pub numbers : List Aircraft → List ℕ
-numbers xs = map (λ a. a .number) xs
-
 -- ---- the place in a queue
-pub no-place : (k n : ℕ) (xs : List Aircraft) → isIn n (numbers xs) ≡ false → placeFrom k n xs ≡ 0
-no-place k n [] e = refl
-no-place k n (x ∷ xs) e = if-false k (placeFrom (suc k) n xs) (or-false-left (eqb (x .number) n) (isIn n (numbers xs)) e) ∙ no-place (suc k) n xs (or-false-right (eqb (x .number) n) (isIn n (numbers xs)) e)
-
-pub place-at : (k : ℕ) (xs : List Aircraft) (a : Aircraft) (ys : List Aircraft) → isIn (a .number) (numbers xs) ≡ false → placeFrom k (a .number) (xs ++ a ∷ ys) ≡ k + length xs
-place-at k [] a ys e = if-true k (placeFrom (suc k) (a .number) ys) (same (a .number)) ∙ omega arith
-place-at k (x ∷ xs) a ys e =
-    if-false k (placeFrom (suc k) (a .number) (xs ++ a ∷ ys)) (or-false-left (eqb (x .number) (a .number)) (isIn (a .number) (numbers xs)) e)
-    ∙ place-at (suc k) xs a ys (or-false-right (eqb (x .number) (a .number)) (isIn (a .number) (numbers xs)) e)
-    ∙ omega arith
-
 -- who is not in the line is in none of its zones
 pub absent-inside : (n z : ℕ) (line : List Placed) → isIn n (numbersOf line) ≡ false → isIn n (numbers (inside z line)) ≡ false
 absent-inside n z [] e = refl
@@ -50,9 +37,6 @@ absent-inside n z (p ∷ line) e = go (eqb (p .zone) z) (absent-inside n z line 
     go false h = h
 
 -- ---- the search over zones
-abbrev pub at : ℕ → ℕ → Place
-at zone place = record { zone = zone; place = place }
-
 module _ (f : Field) (n : ℕ) where
   pub find-none : (zs : List ℕ) → T (all (between 1 13) zs) → ((z : ℕ) → T (between 1 13 z) → placeFrom 1 n (inZone f z) ≡ 0) → findIn f n zs ≡ nowhere
   unfolding findIn
@@ -94,7 +78,7 @@ zone-below z t h =
     and-i (leb 1 z) (leb z 12) (le→leb 1 z l) (le→leb z 12 (below z l u h))
   where
     below : (z : ℕ) → 1 ≤ z → z ≤ 13 → (z ≡ 13 → ⊥) → z ≤ 12
-    below z l u h = elim (Rattle.rules.proofs.Tests.decided (leb z 12)) [ inl e ↦ leb→le z 12 (pass e) | inr e ↦ absurd (h (let k = borrow.Author.Tests.leb-false z 12 e in omega arith)) ]
+    below z l u h = elim (Rattle.field.proofs.Tests.decided (leb z 12)) [ inl e ↦ leb→le z 12 (pass e) | inr e ↦ absurd (h (let k = borrow.Author.Tests.leb-false z 12 e in omega arith)) ]
 
 -- a zone of the field is the runway, or one of the operation area
 pub zone-split : {P : ℕ → Type 0} → P 13 → ((z : ℕ) → T (between 1 12 z) → P z) → (z : ℕ) → T (between 1 13 z) → P z
@@ -151,7 +135,7 @@ module _ (f : Side) (a : List Placed) (e : Placed) (b : List Placed) (runway : L
   elsewhere : (z : ℕ) → eqb (e .zone) z ≡ false → isIn n (numbers (inside z (a ++ e ∷ b))) ≡ false
   elsewhere z h =
       ap (λ (l : List Aircraft). isIn n (numbers l)) (inside-other z a e b h ∙ sym (inside-append z a b))
-      ∙ absent-inside n z (a ++ b) (ap (isIn n) (map-append (λ (p : Placed). p .aircraft .number) a b) ∙ Rattle.rules.proofs.Lists.absent-both n (numbersOf a) (numbersOf b) (apart .ahead) (absent-left n (numbersOf b) (numbers runway) (apart .behind)))
+      ∙ absent-inside n z (a ++ b) (ap (isIn n) (map-append (λ (p : Placed). p .aircraft .number) a b) ∙ Rattle.field.proofs.Lists.absent-both n (numbersOf a) (numbersOf b) (apart .ahead) (absent-left n (numbersOf b) (numbers runway) (apart .behind)))
 
   pub located : T (between 1 12 (e .zone)) → placeOf F n ≡ at (e .zone) (suc (length (inside (e .zone) a)))
   unfolding placeOf

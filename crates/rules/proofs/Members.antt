@@ -1,13 +1,12 @@
 -- How often a number stands in a list decides who is in it, whether all differ and whether none is 0; and the numbers of a field's zones
 -- are, as often each, those of the order that it stands for. Assumes nothing.
-use mathlib.Core.Path.{_≡_, refl, sym, ap, _∙_, subst}
+use mathlib.Core.Path.{_≡_, refl, sym, ap, _∙_}
 use mathlib.Core.Logic.{_⊎_, inl, inr}
 use mathlib.Core.Bool.{Bool, true, false, cond, not, _&&_, _||_, true≢false}
-use mathlib.Core.List.{List, [], _∷_, _++_, map}
-use Prim.Native.Nat.{ℕ, zero, suc, _+_, _≤_, _<_}
+use mathlib.Core.List.{List, [], _∷_, _++_}
+use Prim.Native.Nat.{ℕ, _+_, _≤_}
 use native.Mathlib.Omega.{arith}
-use lib.Dec.{T, leb, eqb, leb→le, le→leb, eqb→eq}
-use lib.ListN.{length}
+use lib.Dec.{T, leb, eqb, leb→le}
 use lib.Ieee.Fits.{and-i, and-l, and-r}
 use borrow.Author.Tests.{eqb-true}
 use Rattle.field.specs.declared.Aircraft.{Aircraft}
@@ -17,11 +16,10 @@ use Rattle.field.specs.Boxes.{everywhere, operation, inZone}
 use Rattle.field.specs.Counts.{isIn, total}
 use Rattle.field.specs.Bounds.{every, numbersIn, allDifferent}
 use Rattle.order.specs.Model.{Side, between, count, all, one}
-use Rattle.rules.proofs.Tests.{passed, pass, failed, fail, decided, if-true, if-false, same, each-zone}
-use Rattle.rules.proofs.Lists.{in-append, map-append}
+use Rattle.field.proofs.Tests.{pass, failed, fail, decided, if-true, if-false, same, each-zone}
 use Rattle.rules.proofs.Line.{Placed, zonesIn, numbersOf, inside, fieldOf}
 use Rattle.rules.proofs.Counted.{in-line, on-runway, total-same, total-add}
-use Rattle.rules.proofs.Located.{numbers}
+use Rattle.field.proofs.FindLaws.{numbers}
 use Rattle.rules.proofs.Leaders.{nonzero}
 
 -- ---- by how often a number stands in a list
@@ -108,7 +106,7 @@ every-in xs ys h = go xs (λ n. count-le n)
         right-true false = refl
 
 -- ---- the numbers of the zones
-numbers-total : (f : Field) (n : ℕ) (zs : List ℕ) → count (numbersIn f zs) n ≡ total (λ z. count (numbers (inZone f z)) n) zs
+pub numbers-total : (f : Field) (n : ℕ) (zs : List ℕ) → count (numbersIn f zs) n ≡ total (λ z. count (numbers (inZone f z)) n) zs
 numbers-total f n [] = refl
 numbers-total f n (z ∷ zs) = let a = count-append (numbers (inZone f z)) (numbersIn f zs) n in let b = numbers-total f n zs in omega arith
 

@@ -1,15 +1,13 @@
 -- What the moves of one aircraft do to a field that an order stands for: it stands for the order with that aircraft in its new zone,
 -- or without it. Assumes nothing.
-use mathlib.Core.Path.{_≡_, refl, sym, ap, _∙_, subst}
-use mathlib.Core.Logic.{_⊎_, inl, inr}
-use mathlib.Core.Bool.{Bool, true, false, cond, not, _&&_, _||_}
-use mathlib.Core.List.{List, [], _∷_, _++_, map, append-nil, append-assoc}
-use Prim.Native.Nat.{ℕ, zero, suc, _+_, _≤_, _<_}
-use native.Mathlib.Nat.{le-trans}
+use mathlib.Core.Path.{_≡_, refl, sym, ap, _∙_}
+use mathlib.Core.Logic.{inl, inr}
+use mathlib.Core.Bool.{false, cond}
+use mathlib.Core.List.{List, [], _∷_, _++_, append-nil}
+use Prim.Native.Nat.{ℕ, suc, _+_, _≤_, _<_}
 use native.Mathlib.Omega.{arith}
-use lib.Dec.{T, leb, eqb, leb→le, le→leb}
+use lib.Dec.{T, eqb}
 use lib.ListN.{length, length-append}
-use lib.Ieee.Fits.{and-i, and-l, and-r}
 use borrow.Author.Tests.{eqb-true}
 use Rattle.field.specs.declared.Aircraft.{Aircraft}
 use Rattle.field.specs.declared.Zone.{Zone}
@@ -19,15 +17,16 @@ use Rattle.field.specs.declared.Field.{Field}
 use Rattle.field.specs.Boxes.{zoneOf, progressInto, withProgress}
 use Rattle.field.specs.Find.{aircraftAt}
 use Rattle.field.specs.Bounds.{allDifferent}
-use Rattle.field.specs.Edits.{withoutHead, withTail, withZone, withSequence, removed}
+use Rattle.field.specs.Edits.{withoutHead, withTail, withZone}
 use Rattle.order.specs.Model.{Side, opp, num, nextFix, between}
-use Rattle.rules.specs.Kinds.{moved, headGone, outOfSequence, landed, exited}
-use Rattle.rules.proofs.Tests.{passed, pass, if-true, if-false, decided, same}
+use Rattle.rules.specs.Kinds.{moved}
+use Rattle.field.proofs.Tests.{if-true, if-false, decided}
 use Rattle.rules.proofs.Lists.{map-append}
-use Rattle.rules.proofs.Line.{zoneFor, tail-for, head-for, sequenceFor, removed-for, fieldBy, zone-by, with-by, by-zones, Placed, zonesIn, numbersOf, inside, zonesOf, fieldOf}
-use Rattle.rules.proofs.Counted.{inside-append, lower, not-13, zone-of-line, zone-of-runway, on-runway}
-use Rattle.rules.proofs.Located.{numbers, inside-at, inside-other, head-there, zone-split}
-use Rattle.rules.proofs.Orderly.{inside-le, length-numbers}
+use Rattle.rules.proofs.Line.{zoneFor, tail-for, head-for, sequenceFor, fieldBy, zone-by, with-by, by-zones, Placed, zonesIn, numbersOf, inside, zonesOf, fieldOf}
+use Rattle.rules.proofs.Counted.{lower, not-13, zone-of-line}
+use Rattle.field.proofs.FindLaws.{numbers}
+use Rattle.rules.proofs.Located.{inside-at, inside-other, head-there}
+use Rattle.rules.proofs.Orderly.{inside-le}
 
 -- ---- one zone, or two, written anew
 module _ (g h : ℕ → Zone) (s : Sequence) (next : ℕ) (legs : Legs) where
@@ -130,7 +129,7 @@ module _ (f : Side) (a : List Placed) (e : Placed) (b : List Placed) (runway : L
       ∙ sym (if-false (zoneFor runway) (zoneFor (inside z (a ++ into w e ∷ b))) (not-13 z (m .from-zone)) ∙ ap zoneFor (inside-other z a (into w e) b (m .other-zone) ∙ ap (λ (l : List Aircraft). l ++ inside z b) (m .heads)))
 
   flipped : eqb z w ≡ false
-  flipped = Rattle.rules.proofs.Tests.flip-eqb w z (m .other-zone)
+  flipped = Rattle.field.proofs.Tests.flip-eqb w z (m .other-zone)
 
   before-zone : inside w (a ++ e ∷ b) ≡ inside w a
   before-zone = inside-other w a e b flipped ∙ ap (λ (l : List Aircraft). inside w a ++ l) (m .none-behind) ∙ append-nil (inside w a)
@@ -146,7 +145,7 @@ module _ (f : Side) (a : List Placed) (e : Placed) (b : List Placed) (runway : L
   kept-zone : (y : ℕ) → T (between 1 13 y) → eqb y z ≡ false → eqb y w ≡ false → G y ≡ H y
   kept-zone y t p q =
       ap (λ (l : List Aircraft). cond (eqb y 13) (zoneFor runway) (zoneFor l))
-      (inside-other y a e b (Rattle.rules.proofs.Tests.flip-eqb y z p) ∙ sym (inside-other y a (into w e) b (Rattle.rules.proofs.Tests.flip-eqb y w q)))
+      (inside-other y a e b (Rattle.field.proofs.Tests.flip-eqb y z p) ∙ sym (inside-other y a (into w e) b (Rattle.field.proofs.Tests.flip-eqb y w q)))
 
   head-is : aircraftAt F z 1 ≡ e .aircraft
   head-is = head-there f a e b runway legs d (m .from-zone) (m .heads)

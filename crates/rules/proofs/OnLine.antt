@@ -1,11 +1,10 @@
 -- The kinds that take an aircraft from one zone of the operation area to another: 3, 4, 5, 6 and 11. Assumes nothing.
 use mathlib.Core.Path.{_≡_, refl, sym, ap, _∙_, subst}
-use mathlib.Core.Logic.{_⊎_, inl, inr}
-use mathlib.Core.Bool.{Bool, true, false, cond, not, _&&_, _||_}
-use mathlib.Core.List.{List, [], _∷_, _++_}
-use Prim.Native.Nat.{ℕ, zero, suc, _+_, _≤_, _<_}
+use mathlib.Core.Bool.{Bool, true, false, cond, _&&_, _||_}
+use mathlib.Core.List.{List, _∷_, _++_}
+use Prim.Native.Nat.{ℕ}
 use native.Mathlib.Omega.{arith}
-use lib.Dec.{T, leb, eqb, leb→le, le→leb}
+use lib.Dec.{T, leb, eqb}
 use lib.Ieee.Fits.{and-i, and-l, and-r}
 use borrow.Author.Tests.{eqb-true}
 use Rattle.request.specs.Input.{within, firstRefused}
@@ -18,42 +17,53 @@ use Rattle.field.specs.declared.Place.{Place}
 use Rattle.field.specs.Boxes.{opposite, sideOf, at3000, at2000, base}
 use Rattle.field.specs.Counts.{howMany}
 use Rattle.field.specs.Find.{placeOf, isFirst, leaderZone}
-use Rattle.field.specs.Bounds.{every, isEmpty}
+use Rattle.field.specs.Bounds.{isEmpty}
 use Rattle.order.specs.Model as model
-use Rattle.order.specs.Model.{Side, between, count, free, isNil, lastOr, descend, approaching, merge, final, hold, needs, target, all}
+use Rattle.order.specs.Model.{Side, between, count, free, isNil, lastOr, descend, approaching, merge, final, hold}
 use Rattle.order.proofs.Facts.{okay-zones}
 use Rattle.rules.specs.Kinds.{startsFrom, zoneBefore, mayApproach, baseFree, moved, approached, held}
-use Rattle.rules.specs.Step.{effectOf}
-use Rattle.rules.proofs.Tests.{passed, pass, if-true, if-false, each-zone}
+use Rattle.field.proofs.Tests.{passed, pass, if-true, zones-imply}
 use Rattle.rules.proofs.Lists.{map-append, every-left}
 use Rattle.rules.proofs.Line.{Placed, zonesIn, numbersOf, fieldOf}
 use Rattle.rules.proofs.Counted.{how-many, lower}
-use Rattle.rules.proofs.Located.{numbers, at, first-there}
+use Rattle.field.proofs.FindLaws.{numbers, at}
+use Rattle.rules.proofs.Located.{first-there}
 use Rattle.rules.proofs.Leaders.{nonzero, leader-zone}
 use Rattle.rules.proofs.Orderly.{Orderly}
 use Rattle.rules.proofs.After.{After, zone-in, line-move, staysOn}
-use Rattle.rules.proofs.Checks.{effectFor, effect-at, besides}
+use Rattle.rules.proofs.Checks.{effect-at, besides}
 
 -- ---- the zones that a kind starts from, and those that it leads to, one by one
-three-from : (z : ℕ) → T (between 1 13 z) → T (startsFrom 3 z) → T (between 1 2 z) × T (between 1 12 (at2000 z))
+three-from : (z : ℕ) → T (between 1 13 z) → T (startsFrom 3 z) → T (between 1 2 z && between 1 12 (at2000 z))
 unfolding startsFrom
-three-from = each-zone (λ (z : ℕ). T (startsFrom 3 z) → T (between 1 2 z) × T (between 1 12 (at2000 z))) ((λ u. (tt, tt)), ((λ u. (tt, tt)), ((λ u. absurd u), ((λ u. absurd u), ((λ u. absurd u), ((λ u. absurd u), ((λ u. absurd u), ((λ u. absurd u), ((λ u. absurd u), ((λ u. absurd u), ((λ u. absurd u), ((λ u. absurd u), ((λ u. absurd u), tt)))))))))))))
+three-from = zones-imply (startsFrom 3) (λ z. between 1 2 z && between 1 12 (at2000 z)) tt
 
-four-from : (z : ℕ) → T (between 1 13 z) → T (startsFrom 4 z) → T (between 3 6 z) × T (between 1 12 (base (opposite (sideOf z))))
+four-from : (z : ℕ) → T (between 1 13 z) → T (startsFrom 4 z) → T (between 3 6 z && between 1 12 (base (opposite (sideOf z))))
 unfolding startsFrom sideOf opposite
-four-from = each-zone (λ (z : ℕ). T (startsFrom 4 z) → T (between 3 6 z) × T (between 1 12 (base (opposite (sideOf z))))) ((λ u. absurd u), ((λ u. absurd u), ((λ u. (tt, tt)), ((λ u. (tt, tt)), ((λ u. (tt, tt)), ((λ u. (tt, tt)), ((λ u. absurd u), ((λ u. absurd u), ((λ u. absurd u), ((λ u. absurd u), ((λ u. absurd u), ((λ u. absurd u), ((λ u. absurd u), tt)))))))))))))
+four-from = zones-imply (startsFrom 4) (λ z. between 3 6 z && between 1 12 (base (opposite (sideOf z)))) tt
 
 five-from : (z : ℕ) → T (between 1 13 z) → T (startsFrom 5 z) → T (between 9 10 z)
 unfolding startsFrom
-five-from = each-zone (λ (z : ℕ). T (startsFrom 5 z) → T (between 9 10 z)) ((λ u. u), ((λ u. u), ((λ u. u), ((λ u. u), ((λ u. u), ((λ u. u), ((λ u. u), ((λ u. u), ((λ u. u), ((λ u. u), ((λ u. u), ((λ u. u), ((λ u. u), tt)))))))))))))
+five-from = zones-imply (startsFrom 5) (between 9 10) tt
 
 six-from : (z : ℕ) → T (between 1 13 z) → T (startsFrom 6 z) → T (eqb z 11)
 unfolding startsFrom
-six-from = each-zone (λ (z : ℕ). T (startsFrom 6 z) → T (eqb z 11)) ((λ u. u), ((λ u. u), ((λ u. u), ((λ u. u), ((λ u. u), ((λ u. u), ((λ u. u), ((λ u. u), ((λ u. u), ((λ u. u), ((λ u. u), ((λ u. u), ((λ u. u), tt)))))))))))))
+six-from = zones-imply (startsFrom 6) (λ z. eqb z 11) tt
 
-pub eleven-from : (z : ℕ) → T (between 1 13 z) → T (startsFrom 11 z) → T (between 7 8 z) × T (between 1 12 (at3000 (sideOf z))) × T (between 1 12 (at2000 (sideOf z)))
+-- a missed zone, with the two holdings of its side
+pub record MissedZone (z : ℕ) : Type 0 where
+  pub is-missed : T (between 7 8 z)
+  pub above : T (between 1 12 (at3000 (sideOf z)))
+  pub below : T (between 1 12 (at2000 (sideOf z)))
+
+pub eleven-from : (z : ℕ) → T (between 1 13 z) → T (startsFrom 11 z) → MissedZone z
 unfolding startsFrom sideOf
-eleven-from = each-zone (λ (z : ℕ). T (startsFrom 11 z) → T (between 7 8 z) × T (between 1 12 (at3000 (sideOf z))) × T (between 1 12 (at2000 (sideOf z)))) ((λ u. absurd u), ((λ u. absurd u), ((λ u. absurd u), ((λ u. absurd u), ((λ u. absurd u), ((λ u. absurd u), ((λ u. (tt, tt, tt)), ((λ u. (tt, tt, tt)), ((λ u. absurd u), ((λ u. absurd u), ((λ u. absurd u), ((λ u. absurd u), ((λ u. absurd u), tt)))))))))))))
+eleven-from z t u =
+    record {
+      is-missed = zones-imply (startsFrom 11) (between 7 8) tt z t u;
+      above = zones-imply (startsFrom 11) (λ z. between 1 12 (at3000 (sideOf z))) tt z t u;
+      below = zones-imply (startsFrom 11) (λ z. between 1 12 (at2000 (sideOf z))) tt z t u;
+    }
 
 -- a move to one of two zones
 pub either-zone : (f : Field) (z p q : ℕ) (b : Bool) → cond b (moved f z p) (moved f z q) ≡ moved f z (cond b p q)
@@ -114,9 +124,11 @@ module _ (f : Side) (a : List Placed) (e : Placed) (b : List Placed) (runway : L
   pub after-3 : r .kind ≡ 3 → firstRefused (besides F r 3) ≡ 0 → After f (a ++ e ∷ b) runway legs r
   after-3 h c =
       let q = three-from z in-13 (from-kind h) in
+      let q₁ = and-l (between 1 2 z) (between 1 12 (at2000 z)) q in
+      let q₂ = and-r (between 1 2 z) (between 1 12 (at2000 z)) q in
       let t = input.passed (besides F r 3) (tt, tt) c .0 in
       line-move f a e b runway legs o descend r heads
-      (and-i (between 1 2 z) (free (zs₁ ++ z ∷ zs₂) (at2000 z)) (q .0) (pass (sym (empty-free (at2000 z) (q .1)) ∙ ap (λ (w : ℕ). isEmpty F (at2000 w)) (sym zone-before) ∙ t)))
+      (and-i (between 1 2 z) (free (zs₁ ++ z ∷ zs₂) (at2000 z)) q₁ (pass (sym (empty-free (at2000 z) q₂) ∙ ap (λ (w : ℕ). isEmpty F (at2000 w)) (sym zone-before) ∙ t)))
       (effect-at F r h ∙ ap (λ (w : ℕ). moved F w (at2000 w)) zone-before)
       (subst (λ (k : ℕ). T (staysOn k)) (sym h) tt) (λ u. let n : 12 ≡ r .kind = sym u in omega arith) named
 
@@ -129,15 +141,17 @@ module _ (f : Side) (a : List Placed) (e : Placed) (b : List Placed) (runway : L
   unfolding approached
   after-4 h c =
       let q = four-from z in-13 (from-kind h) in
+      let q₁ = and-l (between 3 6 z) (between 1 12 (base (opposite (sideOf z)))) q in
+      let q₂ = and-r (between 3 6 z) (between 1 12 (base (opposite (sideOf z)))) q in
       let p = input.passed (besides F r 4) (tt, (tt, tt)) c in
       let t₁ : (between 5 6 z || mayApproach F (r .number)) ≡ true = ap (λ (w : ℕ). within 5 6 w || mayApproach F (r .number)) (sym zone-before) ∙ p .0 in
       let t₂ : (between 5 6 z || baseFree F (sideOf z)) ≡ true = ap (λ (w : ℕ). within 5 6 w || baseFree F (sideOf w)) (sym zone-before) ∙ p .1 .0 in
       line-move f a e b runway legs o approaching r heads
-      (and-i (between 3 6 z) (between 5 6 z || model.mayApproach zs₁ z zs₂) (q .0)
-      (pass (ap (λ (t : Bool). between 5 6 z || t) (sym (may-is (q .1))) ∙ excused (between 5 6 z) (mayApproach F (r .number)) (baseFree F (sideOf z)) t₁ t₂)))
+      (and-i (between 3 6 z) (between 5 6 z || model.mayApproach zs₁ z zs₂) q₁
+      (pass (ap (λ (t : Bool). between 5 6 z || t) (sym (may-is q₂)) ∙ excused (between 5 6 z) (mayApproach F (r .number)) (baseFree F (sideOf z)) t₁ t₂)))
       (effect-at F r h
       ∙ ap (λ (w : ℕ). cond (mayApproach F (r .number) && baseFree F (sideOf w)) (moved F w (base (sideOf w))) (moved F w (at2000 (sideOf w)))) zone-before
-      ∙ ap (λ (t : Bool). cond t (moved F z (base (sideOf z))) (moved F z (at2000 (sideOf z)))) (may-is (q .1))
+      ∙ ap (λ (t : Bool). cond t (moved F z (base (sideOf z))) (moved F z (at2000 (sideOf z)))) (may-is q₂)
       ∙ either-zone F z (base (sideOf z)) (at2000 (sideOf z)) (model.mayApproach zs₁ z zs₂))
       (subst (λ (k : ℕ). T (staysOn k)) (sym h) tt) (λ u. let n : 12 ≡ r .kind = sym u in omega arith) named
 
@@ -165,10 +179,10 @@ module _ (f : Side) (a : List Placed) (e : Placed) (b : List Placed) (runway : L
   after-11 h t =
       let q = eleven-from z in-13 (from-kind h) in
       line-move f a e b runway legs o hold r heads
-      (and-i (between 7 8 z) (free (zs₁ ++ z ∷ zs₂) (at3000 (sideOf z))) (q .0) (pass (sym (empty-free (at3000 (sideOf z)) (q .1)) ∙ t)))
+      (and-i (between 7 8 z) (free (zs₁ ++ z ∷ zs₂) (at3000 (sideOf z))) (q .is-missed) (pass (sym (empty-free (at3000 (sideOf z)) (q .above)) ∙ t)))
       (effect-at F r h
       ∙ ap (λ (w : ℕ). cond (isEmpty F (at3000 (sideOf w))) (cond (isEmpty F (at2000 (sideOf w))) (moved F w (at2000 (sideOf w))) (moved F w (at3000 (sideOf w)))) (moved (moved F (at3000 (sideOf w)) (at2000 (sideOf w))) w (at3000 (sideOf w)))) zone-before
       ∙ if-true (cond (isEmpty F (at2000 (sideOf z))) (moved F z (at2000 (sideOf z))) (moved F z (at3000 (sideOf z)))) (moved (moved F (at3000 (sideOf z)) (at2000 (sideOf z))) z (at3000 (sideOf z))) t
       ∙ either-zone F z (at2000 (sideOf z)) (at3000 (sideOf z)) (isEmpty F (at2000 (sideOf z)))
-      ∙ ap (λ (c : Bool). moved F z (cond c (at2000 (sideOf z)) (at3000 (sideOf z)))) (empty-free (at2000 (sideOf z)) (q .2)))
+      ∙ ap (λ (c : Bool). moved F z (cond c (at2000 (sideOf z)) (at3000 (sideOf z)))) (empty-free (at2000 (sideOf z)) (q .below)))
       (subst (λ (k : ℕ). T (staysOn k)) (sym h) tt) (λ u. let n : 12 ≡ r .kind = sym u in omega arith) named

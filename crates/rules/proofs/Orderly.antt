@@ -1,34 +1,25 @@
 -- What every field reached from an empty one keeps, said of the order that it stands for; and that such a field is within the bounds.
 -- Assumes nothing.
-use mathlib.Core.Path.{_≡_, refl, sym, ap, _∙_, subst}
+use mathlib.Core.Path.{_≡_, refl, sym, ap, _∙_}
 use mathlib.Core.Logic.{_⊎_, inl, inr}
-use mathlib.Core.Bool.{Bool, true, false, cond, not, _&&_, _||_, true≢false}
-use mathlib.Core.List.{List, [], _∷_, _++_, map, append-assoc, append-nil}
-use Prim.Native.Nat.{ℕ, zero, suc, _+_, _-_, _≤_, _<_}
-use native.Mathlib.Nat.{le-trans, le-of-eq}
+use mathlib.Core.Bool.{Bool, true, false, cond, _&&_}
+use mathlib.Core.List.{List, [], _∷_, _++_, map}
+use Prim.Native.Nat.{ℕ, suc, _+_, _≤_}
 use native.Mathlib.Omega.{arith}
-use lib.Dec.{T, leb, eqb, leb→le, le→leb, eqb→eq, eqb-refl}
-use lib.ListN.{length, drop, replicate}
+use lib.Dec.{T, eqb, eqb→eq}
+use lib.ListN.{length}
 use lib.Ieee.Fits.{and-i, and-l, and-r}
 use borrow.Author.Tests.{eq-eqb, eqb-true}
 use Rattle.field.specs.declared.Aircraft.{Aircraft}
-use Rattle.field.specs.declared.Zone.{Zone}
-use Rattle.field.specs.declared.Sequence.{Sequence}
 use Rattle.field.specs.declared.Legs.{Legs}
-use Rattle.field.specs.declared.Field.{Field}
-use Rattle.field.specs.Boxes.{isSide, opposite, at3000, at2000, lateral, missed, zonesFrom, operation, everywhere, area, zoneOf, inZone, orderOf}
-use Rattle.field.specs.Counts.{isIn, total, howMany, inOperation, inArea, perFix}
-use Rattle.field.specs.Find.{aircraftAt, fixOf, isFirst}
-use Rattle.field.specs.Bounds.{every, boundA, boundB, isEmpty, lateralRule, boundC, boundD, numbersIn, allDifferent, numbersDiffer, sequenceExact, finalFirst, isNobody, zoneKept, sequenceKept, boundE, alternate, boundF, fitsZone, legalLegs, boundG, withinBounds}
-use Rattle.order.specs.Model.{Side, right, left, opp, num, nextFix, between, count, countFix, free, isNil, all, okay}
-use Rattle.order.proofs.Facts.{okay-length, okay-zones, Bounds, okay-bounds}
-use Rattle.rules.proofs.Tests.{passed, pass, failed, fail, decided, if-true, if-false, same}
-use Rattle.rules.proofs.Lists.{map-append, every-left}
-use Rattle.rules.proofs.Line.{zoneFor, sequenceFor, order-for, Placed, zonesIn, numbersOf, inside, fieldOf}
-use Rattle.rules.proofs.Counted.{length-inside, free-inside, Alternates, zone-of-line, zone-of-runway, in-line, on-runway, how-many, how-many-runway, in-operation, in-area, per-fix, all-counted}
-use Rattle.rules.proofs.Located.{numbers, zone-split, fix-there, first-there, head-there}
-use Rattle.rules.proofs.Leaders.{nonzero, all-at}
-use Rattle.rules.proofs.Members.{count-append, different-count, count-different, nonzero-count, count-nonzero, every-in, operation-numbers, field-numbers}
+use Rattle.field.specs.Boxes.{opposite}
+use Rattle.field.specs.Bounds.{every, allDifferent, isNobody, zoneKept, sequenceKept, alternate, fitsZone, legalLegs}
+use Rattle.order.specs.Model.{Side, right, left, opp, num, nextFix, between, count, free, all, okay}
+use Rattle.field.proofs.Tests.{pass, decided}
+use Rattle.rules.proofs.Line.{zoneFor, sequenceFor, Placed, zonesIn, numbersOf, inside}
+use Rattle.rules.proofs.Counted.{length-inside, Alternates}
+use Rattle.field.proofs.FindLaws.{numbers}
+use Rattle.rules.proofs.Leaders.{nonzero}
 
 -- ---- what is kept
 pub record Orderly (f : Side) (line : List Placed) (runway : List Aircraft) (legs : Legs) : Type 0 where

@@ -2,29 +2,29 @@
 -- that is neither 10 nor 25. Assumes nothing.
 use mathlib.Core.Path.{_≡_, refl, sym, ap, _∙_, subst}
 use mathlib.Core.Logic.{_⊎_, inl, inr}
-use mathlib.Core.Bool.{Bool, true, false, cond, not, _&&_, _||_}
+use mathlib.Core.Bool.{Bool, true, false, cond, _||_}
 use mathlib.Core.List.{List, [], _∷_, _++_}
-use Prim.Native.Nat.{ℕ, zero, suc, _+_, _≤_, _<_}
+use Prim.Native.Nat.{ℕ}
 use native.Mathlib.Omega.{arith}
-use lib.Dec.{T, leb, eqb, leb→le, le→leb}
-use lib.Ieee.Fits.{and-i, and-l, and-r}
+use lib.Dec.{T, leb, eqb, leb→le}
+use lib.Ieee.Fits.{and-l}
 use borrow.Author.Tests.{eqb-true, eqb-false, eq-eqb, ne-eqb}
 use Rattle.request.specs.Input.{firstRefused, inputNumber}
 use Rattle.request.specs.declared.Request.{Request}
 use Rattle.field.specs.declared.Aircraft.{Aircraft}
 use Rattle.field.specs.declared.Legs.{Legs}
 use Rattle.field.specs.declared.Field.{Field}
-use Rattle.field.specs.Bounds.{every, withinBounds}
+use Rattle.field.specs.Bounds.{withinBounds}
 use Rattle.order.specs.Model.{Side, between}
 use Rattle.rules.specs.declared.Answer.{Answer}
 use Rattle.rules.specs.declared.Stepped.{Stepped}
 use Rattle.rules.specs.Step.{checksOf, effectOf, numberOf, numberAndZeros, acceptance, answerOf, stepOf}
-use Rattle.rules.proofs.Tests.{passed, pass, decided, or-left, or-right, if-true, if-false}
+use Rattle.field.proofs.Tests.{passed, decided, or-left, or-right, if-true, if-false}
 use Rattle.rules.proofs.Line.{Placed, fieldOf}
 use Rattle.rules.proofs.Orderly.{Orderly}
 use Rattle.rules.proofs.Within.{within-bounds}
 use Rattle.rules.proofs.After.{After}
-use Rattle.rules.proofs.Checks.{numberedIn, refused-in, refused-more, refused-first, checks-numbered, input-numbered}
+use Rattle.rules.proofs.Checks.{refused-in, refused-more, refused-first, checks-numbered, wider, input-numbered}
 use Rattle.rules.proofs.Steps.{accepted-after}
 
 -- ---- the step by its number, on any field
@@ -53,6 +53,11 @@ pub field-refused : (f : Field) (r : Request) → (numberOf f r ≡ 0 → ⊥) �
 unfolding stepOf
 field-refused f r e = ap (λ (s : Stepped). s .field) (if-false (record { answer = answerOf f r; field = effectOf f r }) (record { answer = numberAndZeros (numberOf f r); field = f }) (ne-eqb (numberOf f r) 0 e))
 
+-- an accepted request passes the input rules
+pub input-of : (f : Field) (r : Request) → numberOf f r ≡ 0 → inputNumber r ≡ 0
+unfolding numberOf
+input-of f r h = elim (decided (eqb (inputNumber r) 0)) [ inl e ↦ eqb-true (inputNumber r) 0 e | inr e ↦ sym (if-false (firstRefused ((10, withinBounds f) ∷ checksOf f r ++ ((25, withinBounds (effectOf f r)) ∷ []))) (inputNumber r) e) ∙ h ]
+
 -- ---- the number of a refusal on an orderly field: 1 to 4, or 11 to 24
 abbrev pub refusable : ℕ → Bool
 refusable n = between 1 4 n || between 11 24 n
@@ -75,14 +80,6 @@ module _ (f : Side) (line : List Placed) (runway : List Aircraft) (legs : Legs) 
   number-input : (inputNumber r ≡ 0 → ⊥) → numberOf F r ≡ inputNumber r
   unfolding numberOf
   number-input e = if-false (firstRefused ((10, withinBounds F) ∷ checksOf F r ++ ((25, withinBounds (effectOf F r)) ∷ []))) (inputNumber r) (ne-eqb (inputNumber r) 0 e)
-
-  wider : (cs : List (ℕ × Bool)) → T (numberedIn 11 24 cs) → T (numberedIn 1 99 cs)
-  wider [] t = tt
-  wider (c ∷ cs) t =
-      let p = and-l (leb 11 (c .0) && leb (c .0) 24) (numberedIn 11 24 cs) t in
-      let l = leb→le 11 (c .0) (and-l (leb 11 (c .0)) (leb (c .0) 24) p) in
-      let h = leb→le (c .0) 24 (and-r (leb 11 (c .0)) (leb (c .0) 24) p) in
-      and-i (leb 1 (c .0) && leb (c .0) 99) (numberedIn 1 99 cs) (and-i (leb 1 (c .0)) (leb (c .0) 99) (le→leb 1 (c .0) (omega arith)) (le→leb (c .0) 99 (omega arith))) (wider cs (and-r (leb 11 (c .0) && leb (c .0) 24) (numberedIn 11 24 cs) t))
 
   -- a request that passes the input rules and its checks is accepted
   pub accepted-by : inputNumber r ≡ 0 → firstRefused (checksOf F r) ≡ 0 → Accepted f line runway legs r

@@ -1,10 +1,10 @@
 -- Any list of requests from a field that an orderly line stands for leads to such a field; with the counts over its answers.
 -- Assumes nothing.
 use mathlib.Core.Path.{_≡_, refl, sym, ap, _∙_, subst}
-use mathlib.Core.Logic.{_⊎_, inl, inr}
-use mathlib.Core.Bool.{Bool, true, false, cond, not, _&&_, _||_}
-use mathlib.Core.List.{List, [], _∷_, _++_}
-use Prim.Native.Nat.{ℕ, zero, suc, _+_, _≤_, _<_}
+use mathlib.Core.Logic.{inl, inr}
+use mathlib.Core.Bool.{Bool, true, false, not, _&&_, _||_}
+use mathlib.Core.List.{List, [], _∷_}
+use Prim.Native.Nat.{ℕ, _+_, _≤_}
 use native.Mathlib.Omega.{arith}
 use lib.Dec.{T, leb, eqb, leb→le}
 use lib.ListN.{length}
@@ -16,15 +16,14 @@ use Rattle.field.specs.declared.Aircraft.{Aircraft}
 use Rattle.field.specs.declared.Legs.{Legs}
 use Rattle.field.specs.declared.Field.{Field}
 use Rattle.order.specs.Model.{Side, between, one}
-use Rattle.rules.specs.declared.Answer.{Answer}
 use Rattle.rules.specs.Step.{numberOf, stepOf}
 use Rattle.rules.specs.Play.{fieldAfter, played, isAccepted, accepted, letIn, taxiedOff, exitedFrom, moves}
 use Rattle.rules.specs.Demand.{neverAnswers, addsMoves}
-use Rattle.rules.proofs.Tests.{passed, pass, failed, fail, decided}
+use Rattle.field.proofs.Tests.{pass, fail, decided}
 use Rattle.rules.proofs.Line.{Placed, fieldOf}
 use Rattle.rules.proofs.Orderly.{Orderly}
-use Rattle.rules.proofs.After.{After, leaves, weightOf}
-use Rattle.rules.proofs.Outcomes.{number-is, field-accepted, field-refused, refusable, Accepted, outcome}
+use Rattle.rules.proofs.After.{leaves, weightOf}
+use Rattle.rules.proofs.Outcomes.{number-is, field-accepted, field-refused, refusable, outcome}
 
 -- after a list from the field g, with p present and w the weight of the moves left
 pub record Run (legs : Legs) (g : Field) (p w : ℕ) (rs : List Request) : Type 0 where
@@ -39,7 +38,7 @@ pub record Run (legs : Legs) (g : Field) (p w : ℕ) (rs : List Request) : Type 
   pub few : accepted addsMoves (played g rs) ≡ 0 → moves (played g rs) ≤ w
 
 -- ---- one request more in front
-refusable-range : (n : ℕ) → T (refusable n) → (n ≡ 0 → ⊥) × (n ≡ 10 → ⊥) × (n ≡ 25 → ⊥)
+pub refusable-range : (n : ℕ) → T (refusable n) → (n ≡ 0 → ⊥) × (n ≡ 10 → ⊥) × (n ≡ 25 → ⊥)
 refusable-range n t =
     elim (decided (between 1 4 n)) [
       | inl e ↦

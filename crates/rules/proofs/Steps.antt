@@ -1,19 +1,19 @@
 -- A step on a field that an orderly line stands for: what an accepted request leaves behind, and that neither 10 nor 25 is answered.
 -- Assumes nothing.
 use mathlib.Core.Path.{_≡_, refl, sym, ap, _∙_, subst}
-use mathlib.Core.Logic.{_⊎_, inl, inr}
-use mathlib.Core.Bool.{Bool, true, false, cond, not, _&&_, _||_, true≢false, false≢true, Bool·not-not}
-use mathlib.Core.List.{List, [], _∷_, _++_, map}
-use Prim.Native.Nat.{ℕ, zero, suc, _+_, _≤_, _<_}
+use mathlib.Core.Logic.{inl, inr}
+use mathlib.Core.Bool.{Bool, true, false, not, _&&_, _||_, false≢true, Bool·not-not}
+use mathlib.Core.List.{List, [], _∷_, _++_}
+use Prim.Native.Nat.{ℕ, _≤_}
 use native.Mathlib.Omega.{arith}
-use lib.Dec.{T, leb, ltb, eqb, leb→le, le→leb, eqb→eq}
+use lib.Dec.{T, leb, ltb, eqb, leb→le, le→leb}
 use lib.ListN.{length}
-use lib.Ieee.Fits.{and-i, and-l, and-r}
-use borrow.Author.Tests.{eqb-true, eqb-false, eq-eqb, ne-eqb}
-use Rattle.request.specs.Input.{within, isEntry, firstRefused, inputNumber}
+use lib.Ieee.Fits.{and-i, and-l}
+use borrow.Author.Tests.{eqb-true}
+use Rattle.request.specs.Input.{isEntry, firstRefused, inputNumber}
 use Rattle.request.specs.declared.Request.{Request}
 use Rattle.request.proofs.Tests as input
-use Rattle.request.proofs.ByKind.{KindKnown, EntryKnown, TickKnown, kind-known, entry-known, tick-known}
+use Rattle.request.proofs.ByKind.{EntryKnown, kind-known, entry-known, tick-known}
 use Rattle.field.specs.declared.Aircraft.{Aircraft}
 use Rattle.field.specs.declared.Legs.{Legs}
 use Rattle.field.specs.declared.Field.{Field}
@@ -21,33 +21,28 @@ use Rattle.field.specs.declared.Place.{Place}
 use Rattle.field.specs.Boxes.{isFlyingZone, at3000, lateral, missed, approach}
 use Rattle.field.specs.Counts.{isIn, total, approachHolds, potentialOf}
 use Rattle.field.specs.Find.{placeOf}
-use Rattle.field.specs.Bounds.{isEmpty, withinBounds}
-use Rattle.order.specs.Model.{Side, right, left, num, between, countFix, free, potential, mayEnter, mayEnterLateral}
+use Rattle.field.specs.Bounds.{isEmpty}
+use Rattle.field.proofs.Shapes.{one-of-two}
+use Rattle.order.specs.Model.{Side, right, left, num, between, countFix, free, potential, mayEnter}
 use Rattle.order.proofs.Facts.{enter, enter-lateral}
 use Rattle.rules.specs.Kinds.{zoneBefore, verticalChecks, lateralChecks, descendChecks, approachChecks, mergeChecks, flownOutChecks, landChecks, exitChecks}
-use Rattle.rules.specs.Step.{checksOf, effectOf, numberOf, stepOf}
-use Rattle.rules.proofs.Tests.{passed, pass, failed, decided, if-true, if-false, each-zone}
-use Rattle.rules.proofs.Lists.{absent-both}
+use Rattle.rules.specs.Step.{checksOf}
+use Rattle.field.proofs.Tests.{passed, pass, decided, each-zone}
+use Rattle.field.proofs.Lists.{absent-both}
 use Rattle.rules.proofs.Line.{Placed, zonesIn, numbersOf, fieldOf}
 use Rattle.rules.proofs.Counted.{how-many, approach-holds, potential-is}
-use Rattle.rules.proofs.Located.{numbers, at, located, located-runway}
+use Rattle.field.proofs.FindLaws.{numbers, at}
+use Rattle.rules.proofs.Located.{located, located-runway}
 use Rattle.rules.proofs.Orderly.{Orderly}
-use Rattle.rules.proofs.Within.{within-bounds}
 use Rattle.rules.proofs.After.{After, zone-in}
-use Rattle.rules.proofs.Heads.{InLine, find-line}
-use Rattle.rules.proofs.Checks.{checksFor, checks-at, effect-at, numberedIn, refused-in, refused-more, refused-first, checks-numbered, input-numbered}
+use Rattle.rules.proofs.Heads.{find-line}
+use Rattle.rules.proofs.Checks.{checksFor, checks-at, effect-at}
 use Rattle.rules.proofs.AtEnds.{after-entry, after-12}
 use Rattle.rules.proofs.Accepted.{three, four, five, six, seven, eight, nine, ten, eleven}
 
 -- ---- a side of a request
 side-known : (n : ℕ) → 1 ≤ n → n ≤ 2 → (s : Side) × (n ≡ num s)
-side-known n l h = elim (decided (eqb n 1)) [ inl e ↦ (right, eqb-true n 1 e) | inr e ↦ (left, two n l h (eqb-false n 1 e)) ]
-  where
-    two : (n : ℕ) → 1 ≤ n → n ≤ 2 → (n ≡ 1 → ⊥) → n ≡ 2
-    two n l h k = elim (decided (eqb n 2)) [ inl e ↦ eqb-true n 2 e | inr e ↦ absurd (k (let q = eqb-false n 2 e in one-of n l h q)) ]
-      where
-        one-of : (n : ℕ) → 1 ≤ n → n ≤ 2 → (n ≡ 2 → ⊥) → n ≡ 1
-        one-of n l h q = elim (decided (leb n 1)) [ inl e ↦ (let m = leb→le n 1 (pass e) in omega arith) | inr e ↦ absurd (q (let m = borrow.Author.Tests.leb-false n 1 e in omega arith)) ]
+side-known n l h = one-of-two (λ (m : ℕ). (s : Side) × (m ≡ num s)) 1 n l (omega arith) (right, refl) (left, refl)
 
 -- ---- kinds 1 and 2
 module _ (f : Side) (line : List Placed) (runway : List Aircraft) (legs : Legs) (o : Orderly f line runway legs) (r : Request) where

@@ -1,23 +1,22 @@
 -- What a tick does to a field that an order stands for: each of the line in a flying zone has its progress after the tick. Assumes nothing.
-use mathlib.Core.Path.{_≡_, refl, sym, ap, _∙_, subst}
+use mathlib.Core.Path.{_≡_, refl, sym, ap, _∙_}
 use mathlib.Core.Logic.{_⊎_, inl, inr}
 use mathlib.Core.Bool.{Bool, true, false, cond}
-use mathlib.Core.List.{List, [], _∷_, _++_, map}
-use Prim.Native.Nat.{ℕ, zero, suc, _+_, _≤_, _<_}
+use mathlib.Core.List.{List, [], _∷_, map}
+use Prim.Native.Nat.{ℕ, _≤_}
 use native.Mathlib.Nat.{le-trans}
 use native.Mathlib.Omega.{arith}
-use lib.Dec.{T, leb, eqb}
+use lib.Dec.{eqb}
 use lib.ListN.{length}
 use lib.Ieee.{Float}
 use borrow.Author.Tests.{eqb-true}
 use Rattle.field.specs.declared.Aircraft.{Aircraft}
 use Rattle.field.specs.declared.Zone.{Zone}
 use Rattle.field.specs.declared.Legs.{Legs}
-use Rattle.field.specs.declared.Field.{Field}
 use Rattle.field.specs.Boxes.{isFlyingZone, legOf, withProgress}
 use Rattle.field.specs.Edits.{tickedAircraft, tickedZone, ticked}
-use Rattle.order.specs.Model.{Side, opp, num, nextFix, between}
-use Rattle.rules.proofs.Tests.{if-true, if-false, decided}
+use Rattle.order.specs.Model.{Side, num, nextFix}
+use Rattle.field.proofs.Tests.{if-true, if-false, decided}
 use Rattle.rules.proofs.Line.{zoneFor, sequenceFor, fieldBy, by-zones, Placed, zonesIn, numbersOf, inside, zonesOf, fieldOf}
 use Rattle.rules.proofs.Counted.{not-13}
 use Rattle.rules.proofs.Located.{zone-split}

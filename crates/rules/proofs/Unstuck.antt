@@ -1,44 +1,45 @@
 -- Somebody can always move: on a field that an orderly line stands for, with everyone's leg flown out, the one on the runway taxies off,
 -- and where there is none the first of the sequence goes on. Assumes nothing.
 use mathlib.Core.Path.{_≡_, refl, sym, ap, _∙_, subst}
-use mathlib.Core.Logic.{_⊎_, inl, inr}
-use mathlib.Core.Bool.{Bool, true, false, cond, not, _&&_, _||_, true≢false}
+use mathlib.Core.Bool.{Bool, true, false, cond, not, _||_}
 use mathlib.Core.List.{List, [], _∷_, _++_}
-use Prim.Native.Nat.{ℕ, zero, suc, _+_, _≤_, _<_}
+use Prim.Native.Nat.{ℕ, _+_, _≤_, _<_}
 use native.Mathlib.Nat.{pos-of-ne-zero}
 use native.Mathlib.Omega.{arith}
-use lib.Dec.{T, leb, eqb, leb→le, le→leb, eqb→eq}
+use lib.Dec.{T, leb, eqb, leb→le}
 use lib.ListN.{length}
-use lib.Ieee.Fits.{and-i, and-l, and-r}
-use borrow.Author.Tests.{eqb-true, eqb-false, eq-eqb}
+use lib.Ieee.Fits.{and-l, and-r}
+use borrow.Author.Tests.{eqb-false}
 use Rattle.request.specs.Input.{within, firstRefused}
 use Rattle.request.specs.declared.Request.{Request}
 use Rattle.request.proofs.Tests as input
-use Rattle.request.proofs.ByKind.{MoveKnown, move-allowed}
+use Rattle.request.proofs.ByKind.{move-allowed}
 use Rattle.field.specs.declared.Aircraft.{Aircraft}
 use Rattle.field.specs.declared.Legs.{Legs}
 use Rattle.field.specs.declared.Field.{Field}
 use Rattle.field.specs.declared.Place.{Place}
-use Rattle.field.specs.Boxes.{sideOf, opposite, at2000, base, inZone, isFlyingZone, flownOutIn, zonesFrom}
+use Rattle.field.specs.Boxes.{sideOf, opposite, at2000, inZone, isFlyingZone, flownOutIn, zonesFrom}
 use Rattle.field.specs.Counts.{howMany}
 use Rattle.field.specs.Find.{placeOf, aircraftAt, isFirst, leaderZone}
-use Rattle.field.specs.Bounds.{every, isEmpty, allDifferent}
+use Rattle.field.specs.Bounds.{every, isEmpty}
 use Rattle.order.specs.Model as model
 use Rattle.order.specs.Model.{Side, between, count, free, needs}
 use Rattle.order.proofs.Facts.{headKind, head-moves}
 use Rattle.rules.specs.Kinds.{zoneBefore, startsFrom, headChecks, mayApproach, baseFree, descendChecks, approachChecks, mergeChecks, flownOutChecks, landChecks}
-use Rattle.rules.specs.Step.{checksOf, stepOf}
+use Rattle.rules.specs.Step.{checksOf}
 use Rattle.rules.specs.Demand.{allFlownOut, movesOn, MovesOn}
-use Rattle.rules.proofs.Tests.{passed, pass, failed, decided, or-left, each-zone}
-use Rattle.rules.proofs.Lists.{every-left, every-right, alone}
+use Rattle.field.proofs.Tests.{passed, failed, each-zone, every-from}
+use Rattle.field.proofs.Lists.{alone}
+use Rattle.rules.proofs.Lists.{every-right}
 use Rattle.rules.proofs.Line.{Placed, zonesIn, numbersOf, inside, fieldOf}
 use Rattle.rules.proofs.Counted.{lower, in-line, how-many, how-many-runway}
-use Rattle.rules.proofs.Located.{numbers, at, located, located-runway, inside-at, first-there, head-there}
+use Rattle.field.proofs.FindLaws.{at}
+use Rattle.rules.proofs.Located.{located, located-runway, inside-at, first-there, head-there}
 use Rattle.rules.proofs.Leaders.{nonzero}
 use Rattle.rules.proofs.Orderly.{Orderly}
 use Rattle.rules.proofs.After.{zone-in}
 use Rattle.rules.proofs.Checks.{checks-at, besides}
-use Rattle.rules.proofs.Outcomes.{number-is, Accepted, accepted-by}
+use Rattle.rules.proofs.Outcomes.{number-is, accepted-by}
 
 -- a request of a kind by a number
 abbrev pub move : ℕ → ℕ → Request
@@ -109,52 +110,15 @@ module _ (f : Side) (e : Placed) (b : List Placed) (legs : Legs) (o : Orderly f 
   legs-are = refl
 
   -- its leg is flown out, where it flies
-  flown-in : (y : ℕ) → T (between 1 13 y) → T (isFlyingZone y) → T (every (λ y. every (flownOutIn (G .legs) y) (inZone G y)) (zonesFrom 7 6)) → T (every (flownOutIn (G .legs) y) (inZone G y))
+  flown-in : (y : ℕ) → T (isFlyingZone y) → T (every (λ y. every (flownOutIn (G .legs) y) (inZone G y)) (zonesFrom 7 6)) → T (every (flownOutIn (G .legs) y) (inZone G y))
   unfolding isFlyingZone
-  flown-in =
-      let p : ℕ → Bool = λ y. every (flownOutIn (G .legs) y) (inZone G y) in
-      each-zone (λ (y : ℕ). T (isFlyingZone y) → T (every p (zonesFrom 7 6)) → T (p y)) (
-        (λ u. absurd u),
-        (
-          (λ u. absurd u),
-          (
-            (λ u. absurd u),
-            (
-              (λ u. absurd u),
-              (
-                (λ u. absurd u),
-                (
-                  (λ u. absurd u),
-                  (
-                    (λ u t. and-l (p 7) (every p (zonesFrom 8 5)) t),
-                    (
-                      (λ u t. and-l (p 8) (every p (zonesFrom 9 4)) (and-r (p 7) (every p (zonesFrom 8 5)) t)),
-                      (
-                        (λ u t. and-l (p 9) (every p (zonesFrom 10 3)) (and-r (p 8) (every p (zonesFrom 9 4)) (and-r (p 7) (every p (zonesFrom 8 5)) t))),
-                        (
-                          (λ u t. and-l (p 10) (every p (zonesFrom 11 2)) (and-r (p 9) (every p (zonesFrom 10 3)) (and-r (p 8) (every p (zonesFrom 9 4)) (and-r (p 7) (every p (zonesFrom 8 5)) t)))),
-                          (
-                            (λ u t. and-l (p 11) (every p (zonesFrom 12 1)) (and-r (p 10) (every p (zonesFrom 11 2)) (and-r (p 9) (every p (zonesFrom 10 3)) (and-r (p 8) (every p (zonesFrom 9 4)) (and-r (p 7) (every p (zonesFrom 8 5)) t))))),
-                            (
-                              (λ u t. and-l (p 12) true (and-r (p 11) (every p (zonesFrom 12 1)) (and-r (p 10) (every p (zonesFrom 11 2)) (and-r (p 9) (every p (zonesFrom 10 3)) (and-r (p 8) (every p (zonesFrom 9 4)) (and-r (p 7) (every p (zonesFrom 8 5)) t)))))),
-                              ((λ u. absurd u), tt),
-                            ),
-                          ),
-                        ),
-                      ),
-                    ),
-                  ),
-                ),
-              ),
-            ),
-          ),
-        ),
-      )
+  flown-in y u t =
+      every-from (λ y. every (flownOutIn (G .legs) y) (inZone G y)) 7 6 t y (leb→le 7 y (and-l (leb 7 y) (leb y 12) u)) (let h = leb→le y 12 (and-r (leb 7 y) (leb y 12) u) in omega arith)
 
   flown-out : (k : ℕ) → T (isFlyingZone z) → flownOutIn (G .legs) (zoneBefore G (move k m)) (aircraftAt G (zoneBefore G (move k m)) 1) ≡ true
   unfolding allFlownOut
   flown-out k u =
-      let t = flown-in z (lower z z-in) u flown in
+      let t = flown-in z u flown in
       let q = subst (λ (l : List Aircraft). T (every (flownOutIn (G .legs) z) l)) (in-line f (e ∷ b) [] legs z z-in ∙ inside-at [] e b) t in
       ap (λ (y : ℕ). flownOutIn (G .legs) y (aircraftAt G y 1)) (before-is k)
       ∙ ap (flownOutIn (G .legs) z) (head-there f [] e b [] legs (o .different) z-in refl)
@@ -170,7 +134,7 @@ module _ (f : Side) (e : Placed) (b : List Placed) (legs : Legs) (o : Orderly f 
       (ap firstRefused c ∙ head-checks f (e ∷ b) [] legs o k m z place (not-zero z z-in) s (besides G (move k m) k) d)
     where
       not-zero : (y : ℕ) → T (between 1 12 y) → T (not (eqb y 0))
-      not-zero y t = Rattle.rules.proofs.Tests.fail (borrow.Author.Tests.ne-eqb y 0 (λ q. let l = leb→le 1 y (and-l (leb 1 y) (leb y 12) t) in omega arith))
+      not-zero y t = Rattle.field.proofs.Tests.fail (borrow.Author.Tests.ne-eqb y 0 (λ q. let l = leb→le 1 y (and-l (leb 1 y) (leb y 12) t) in omega arith))
 
   pub first-moves : MovesOn G
   unfolding startsFrom isFlyingZone descendChecks approachChecks mergeChecks flownOutChecks landChecks mayApproach baseFree sideOf opposite

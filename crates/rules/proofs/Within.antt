@@ -1,30 +1,30 @@
 -- A field that an orderly line stands for is within the bounds a to g. Assumes nothing.
 use mathlib.Core.Path.{_≡_, refl, sym, ap, _∙_, subst}
 use mathlib.Core.Logic.{_⊎_, inl, inr}
-use mathlib.Core.Bool.{Bool, true, false, cond, not, _&&_, _||_}
+use mathlib.Core.Bool.{Bool, true, false, cond, _&&_, _||_}
 use mathlib.Core.List.{List, [], _∷_, _++_, map, append-assoc}
-use Prim.Native.Nat.{ℕ, zero, suc, _+_, _≤_, _<_}
+use Prim.Native.Nat.{ℕ, _≤_}
 use native.Mathlib.Nat.{le-trans}
 use native.Mathlib.Omega.{arith}
-use lib.Dec.{T, leb, eqb, leb→le, le→leb}
+use lib.Dec.{T, leb, eqb, le→leb}
 use lib.ListN.{length}
 use lib.Ieee.Fits.{and-i, and-l, and-r}
-use borrow.Author.Tests.{eq-eqb}
 use Rattle.field.specs.declared.Aircraft.{Aircraft}
 use Rattle.field.specs.declared.Zone.{Zone}
 use Rattle.field.specs.declared.Legs.{Legs}
 use Rattle.field.specs.declared.Field.{Field}
-use Rattle.field.specs.Boxes.{isSide, at3000, at2000, lateral, missed, zonesFrom, operation, everywhere, area, zoneOf, inZone, orderOf}
-use Rattle.field.specs.Counts.{isIn, total, howMany, inOperation, inArea, perFix}
+use Rattle.field.specs.Boxes.{isSide, at3000, at2000, lateral, missed, zonesFrom, operation, everywhere, zoneOf, inZone, orderOf}
+use Rattle.field.specs.Counts.{isIn, howMany, inOperation, inArea, perFix}
 use Rattle.field.specs.Find.{aircraftAt, fixOf, isFirst}
 use Rattle.field.specs.Bounds.{every, boundA, boundB, isEmpty, lateralRule, boundC, boundD, numbersIn, allDifferent, numbersDiffer, sequenceExact, finalFirst, zoneKept, sequenceKept, boundE, alternate, boundF, fitsZone, legalLegs, boundG, withinBounds}
-use Rattle.order.specs.Model.{Side, right, left, num, nextFix, between, count, countFix, free, isNil, all, okay}
+use Rattle.order.specs.Model.{Side, right, left, num, nextFix, between, count, free, isNil, all, okay}
 use Rattle.order.proofs.Facts.{okay-length, okay-zones, Bounds, okay-bounds, final-first}
-use Rattle.rules.proofs.Tests.{passed, pass, decided, or-left, or-right}
-use Rattle.rules.proofs.Lists.{map-append, every-left}
-use Rattle.rules.proofs.Line.{sequenceFor, order-for, Placed, zonesIn, numbersOf, inside, fieldOf}
+use Rattle.field.proofs.Tests.{pass, decided, or-left, or-right}
+use Rattle.rules.proofs.Lists.{map-append}
+use Rattle.rules.proofs.Line.{order-for, Placed, zonesIn, numbersOf, inside, fieldOf}
 use Rattle.rules.proofs.Counted.{free-inside, zone-of-line, zone-of-runway, in-line, on-runway, how-many, how-many-runway, in-operation, in-area, per-fix, all-counted}
-use Rattle.rules.proofs.Located.{numbers, zone-split, fix-there, first-there, head-there}
+use Rattle.field.proofs.FindLaws.{numbers}
+use Rattle.rules.proofs.Located.{zone-split, fix-there, first-there, head-there}
 use Rattle.rules.proofs.Leaders.{nonzero, all-at}
 use Rattle.rules.proofs.Members.{count-append, different-count, count-different, nonzero-count, count-nonzero, every-in, operation-numbers, field-numbers}
 use Rattle.rules.proofs.Orderly.{Orderly, every-zone, every-same, kept-for, sequence-kept, length-zones, length-numbers, inside-le, Split, first-in, fixesOf, alternates-pass}

@@ -53,7 +53,7 @@ hasFlown zone miles f = flownOut (aircraftAt f zone 1 .progress) (whole miles)
 
 -- ---- the way to final and back, by aircraft 7 and others on legs of one mile at one mile a minute
 
--- from 3000 or 2000 to base
+-- from 3000 by 2000 to base
 abbrev pub toBase : ℕ → List Request → List Request
 toBase n rest = ask 3 0 n 0 ∷ ask 4 0 n 0 ∷ rest
 

@@ -1,19 +1,18 @@
 -- Document 01, "The requests" and "Turned away by the field": what each kind of request needs and does.
-use mathlib.Core.Bool.{Bool, true, false, cond, not, _&&_, _||_}
+use mathlib.Core.Bool.{Bool, cond, not, _&&_, _||_}
 use mathlib.Core.List.{List, [], _∷_, _++_}
-use Prim.Native.Nat.{ℕ, _+_, _-_}
+use Prim.Native.Nat.{ℕ}
 use lib.Dec.{eqb, leb, ltb}
 use lib.ListN.{length}
 use Rattle.request.specs.Input.{within}
 use Rattle.request.specs.declared.Request.{Request}
 use Rattle.field.specs.declared.Aircraft.{Aircraft}
-use Rattle.field.specs.declared.Sequence.{Sequence}
 use Rattle.field.specs.declared.Field.{Field}
 use Rattle.field.specs.Boxes.{opposite, sideOf, at3000, at2000, lateral, missed, base, intermediate, finalApproach, runway, zoneOf, orderOf, progressInto, entering, withProgress, withFix, flownOutIn}
 use Rattle.field.specs.Counts.{howMany, approachHolds, potentialOf}
 use Rattle.field.specs.Find.{placeOf, aircraftAt, isFirst, leaderZone}
 use Rattle.field.specs.Bounds.{isEmpty}
-use Rattle.field.specs.Edits.{withoutHead, withTail, appended, removed, withZone, withSequence, ticked}
+use Rattle.field.specs.Edits.{withoutHead, withTail, appended, removed, withZone, withSequence}
 
 -- ---- where an aircraft is
 

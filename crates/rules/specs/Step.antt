@@ -1,12 +1,12 @@
 -- Document 01, "The requests" and "Turned away by the field": the step of any request on any field.
-use mathlib.Core.Bool.{Bool, true, false, cond, not, _&&_, _||_}
+use mathlib.Core.Bool.{Bool, cond}
 use mathlib.Core.List.{List, [], _∷_, _++_}
-use Prim.Native.Nat.{ℕ, _+_}
-use lib.Dec.{eqb, leb}
+use Prim.Native.Nat.{ℕ}
+use lib.Dec.{eqb}
 use Rattle.request.specs.Input.{firstRefused, inputNumber}
 use Rattle.request.specs.declared.Request.{Request}
 use Rattle.field.specs.declared.Field.{Field}
-use Rattle.field.specs.Boxes.{at3000, at2000, lateral, intermediate, finalApproach, runway, progressInto}
+use Rattle.field.specs.Boxes.{at3000, at2000, lateral, intermediate, finalApproach, runway}
 use Rattle.field.specs.Find.{placeOf, fixOf, leaderOf}
 use Rattle.field.specs.Bounds.{withinBounds}
 use Rattle.field.specs.Edits.{ticked}

@@ -23,7 +23,7 @@ use Rattle.rules.specs.declared.Answer.{Answer}
 use Rattle.rules.specs.declared.Stepped.{Stepped}
 use Rattle.rules.specs.Kinds.{heldAlong}
 use Rattle.rules.specs.Step.{checksOf, effectOf, numberOf, numberAndZeros, acceptance, answerOf, stepOf}
-use Rattle.rules.proofs.Tests.{pass, passed, decided}
+use Rattle.field.proofs.Tests.{pass, passed, decided}
 use Rattle.rules.proofs.Checks.{numberedIn, checks-numbered, input-numbered}
 
 -- ---- the number

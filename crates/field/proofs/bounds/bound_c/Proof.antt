@@ -18,7 +18,9 @@ lateral-rule-requires c κs = search needs
 
 returns-2 : tie.Need-returns-2
 unfolding boundC
-returns-2 c = sym (and-cut _ (and-then (holds (c .before .before .before .one-each .ensures) (c .before .before .if1 .left)) (fails (c .before .lateral-rule .ensures) (c .if2 .taken))))
+returns-2 c =
+    let each = holds (c .before .before .before .one-each .ensures) (c .before .before .if1 .left) in
+    sym (and-cut _ (and-then each (fails (c .before .lateral-rule .ensures) (c .if2 .taken))))
 
 lateral-rule-requires-2 : tie.Need-lateral-rule-requires-2
 lateral-rule-requires-2 c κs = search needs

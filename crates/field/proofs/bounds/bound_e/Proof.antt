@@ -19,7 +19,8 @@ sequence-exact-requires c κs = search needs
 returns-2 : tie.Need-returns-2
 unfolding boundE
 returns-2 c =
-    let numbers = holds (c .before .before .before .numbers-differ .ensures) (c .before .before .if1 .left) in
+    let at1 = c .before .before in
+    let numbers = holds (at1 .before .numbers-differ .ensures) (at1 .if1 .left) in
     sym (and-cut _ (and-cut _ (and-cut _ (and-then numbers (fails (c .before .sequence-exact .ensures) (c .if2 .taken))))))
 
 final-first-requires : tie.Need-final-first-requires
@@ -28,8 +29,10 @@ final-first-requires c κs = search needs
 returns-3 : tie.Need-returns-3
 unfolding boundE
 returns-3 c =
-    let numbers = holds (c .before .before .before .before .before .numbers-differ .ensures) (c .before .before .before .before .if1 .left) in
-    let sequence = holds (c .before .before .before .sequence-exact .ensures) (c .before .before .if2 .left) in
+    let at2 = c .before .before in
+    let at1 = at2 .before .before in
+    let numbers = holds (at1 .before .numbers-differ .ensures) (at1 .if1 .left) in
+    let sequence = holds (at2 .before .sequence-exact .ensures) (at2 .if2 .left) in
     sym (and-cut _ (and-cut _ (and-then (and-then numbers sequence) (fails (c .before .final-first .ensures) (c .if3 .taken)))))
 
 zones-kept-requires : tie.Need-zones-kept-requires
@@ -38,9 +41,12 @@ zones-kept-requires c κs = search needs
 returns-4 : tie.Need-returns-4
 unfolding boundE
 returns-4 c =
-    let numbers = holds (c .before .before .before .before .before .before .before .numbers-differ .ensures) (c .before .before .before .before .before .before .if1 .left) in
-    let sequence = holds (c .before .before .before .before .before .sequence-exact .ensures) (c .before .before .before .before .if2 .left) in
-    let final = holds (c .before .before .before .final-first .ensures) (c .before .before .if3 .left) in
+    let at3 = c .before .before in
+    let at2 = at3 .before .before in
+    let at1 = at2 .before .before in
+    let numbers = holds (at1 .before .numbers-differ .ensures) (at1 .if1 .left) in
+    let sequence = holds (at2 .before .sequence-exact .ensures) (at2 .if2 .left) in
+    let final = holds (at3 .before .final-first .ensures) (at3 .if3 .left) in
     sym (and-cut _ (and-then (and-then (and-then numbers sequence) final) (fails (c .before .zones-kept .ensures) (c .if4 .taken))))
 
 sequence-kept-requires : tie.Need-sequence-kept-requires
@@ -49,10 +55,14 @@ sequence-kept-requires c κs = search needs
 returns-5 : tie.Need-returns-5
 unfolding boundE
 returns-5 c =
-    let numbers = holds (c .before .before .before .before .before .before .before .before .before .numbers-differ .ensures) (c .before .before .before .before .before .before .before .before .if1 .left) in
-    let sequence = holds (c .before .before .before .before .before .before .before .sequence-exact .ensures) (c .before .before .before .before .before .before .if2 .left) in
-    let final = holds (c .before .before .before .before .before .final-first .ensures) (c .before .before .before .before .if3 .left) in
-    let zones = holds (c .before .before .before .zones-kept .ensures) (c .before .before .if4 .left) in
+    let at4 = c .before .before in
+    let at3 = at4 .before .before in
+    let at2 = at3 .before .before in
+    let at1 = at2 .before .before in
+    let numbers = holds (at1 .before .numbers-differ .ensures) (at1 .if1 .left) in
+    let sequence = holds (at2 .before .sequence-exact .ensures) (at2 .if2 .left) in
+    let final = holds (at3 .before .final-first .ensures) (at3 .if3 .left) in
+    let zones = holds (at4 .before .zones-kept .ensures) (at4 .if4 .left) in
     sym (and-then (and-then (and-then (and-then numbers sequence) final) zones) (sym (c .sequence-kept .ensures)))
 
 pub bound-e-spec : {M : Type 1} → statement M

@@ -1,6 +1,6 @@
 -- `field::bounds::bound_f` meets its contract: each that the loop has passed is followed by its opposite. Assumes nothing.
 use mathlib.Core.Path.{_≡_, refl, sym, ap, _∙_}
-use mathlib.Core.Bool.{Bool, true, false, _&&_}
+use mathlib.Core.Bool.{false, _&&_}
 use mathlib.Core.List.{List, [], _∷_, _++_, map}
 use Prim.Native.Nat.{ℕ, zero, suc, _+_, _-_, _≤_, _<_}
 use lib.Dec.{eqb}
@@ -16,9 +16,13 @@ use native.Mathlib.Omega.{arith}
 use Rattle.field.proofs.bounds.bound_f.Statement.{statement}
 use Rattle.field.proofs.bounds.bound_f.Tie as tie
 
--- the fixes along the sequence, and the next fix
+-- the fixes along the sequence, ..
+abbrev named : Field → List ℕ
+named f = map (fixOf f) (orderOf (f .sequence))
+
+-- .. and the next fix behind them
 abbrev fixes : Field → List ℕ
-fixes f = map (fixOf f) (orderOf (f .sequence)) ++ (f .next ∷ [])
+fixes f = named f ++ (f .next ∷ [])
 
 -- past the end of a list its default may stand
 last-is : (l : List ℕ) (i d : ℕ) → getD (l ++ (d ∷ [])) i d ≡ getD l i d
@@ -30,6 +34,30 @@ last-is (x ∷ l) (suc i) d = last-is l i d
 -- one that another follows
 followed : (x : ℕ) {y : ℕ} {l m : List ℕ} → l ≡ y ∷ m → alternate (x ∷ l) ≡ (eqb y (opposite x) && alternate l)
 followed x {y} e = ap (λ (r : List ℕ). alternate (x ∷ r)) e ∙ ap (λ (r : List ℕ). eqb y (opposite x) && alternate r) (sym e)
+
+-- the fix at index i, its opposite and the fix behind it, as the code has them
+module _ (f : Field) (i : ℕ) (within : i + 1 < length (fixes f)) (w : Walked alternate (fixes f) 0 i) where
+  here : {x : ℕ} → x ≡ getD (named f) i (f .next) → opposite x ≡ opposite (getD (fixes f) i (f .next))
+  here e = ap opposite (e ∙ sym (last-is (named f) i (f .next)))
+
+  behind : {y : ℕ} → y ≡ getD (named f) (i + 1) (f .next) → y ≡ getD (fixes f) (i + 1) (f .next)
+  behind e = e ∙ sym (last-is (named f) (i + 1) (f .next))
+
+  two : alternate (getD (fixes f) i (f .next) ∷ drop (i + 1) (fixes f))
+      ≡ (eqb (getD (fixes f) (i + 1) (f .next)) (opposite (getD (fixes f) i (f .next))) && alternate (drop (i + 1) (fixes f)))
+  two = followed (getD (fixes f) i (f .next)) (next-of (fixes f) (i + 1) (f .next) within)
+
+  goes : {x o y : ℕ} → x ≡ getD (named f) i (f .next) → o ≡ opposite x → y ≡ getD (named f) (i + 1) (f .next) → y ≡ o
+      → Walked alternate (fixes f) 0 (i + 1)
+  goes e g h k =
+      let this = next-of (fixes f) i (f .next) (omega arith) in
+      walked-more alternate (fixes f) 0 i w (omega arith) this (two ∙ and-then (is (behind h) (k ∙ g ∙ here e)) refl)
+
+  stops : {x o y : ℕ} → x ≡ getD (named f) i (f .next) → o ≡ opposite x → y ≡ getD (named f) (i + 1) (f .next) → (y ≡ o → ⊥)
+      → alternate (fixes f) ≡ false
+  stops e g h k =
+      let this = next-of (fixes f) i (f .next) (omega arith) in
+      walked-stop alternate (fixes f) 0 i w this (two ∙ and-cut _ (is-not (behind h) (λ same. k (same ∙ sym (g ∙ here e)))))
 
 abbrev Inv-loop : tie.InvT-loop
 Inv-loop f end i₀ i = (i ≤ end) × ((length (fixes f) ≡ end + 1) × Walked alternate (fixes f) 0 i)
@@ -44,8 +72,8 @@ loop-holds : tie.Need-loop-holds Inv-loop μ-loop
 unfolding orderLength
 loop-holds c =
     let f = c .before .before .args .f in
-    let named = map (fixOf f) (orderOf (f .sequence)) in
-    let long : length (fixes f) ≡ c .order-length .result + 1 = omega (arith, length-append named (f .next ∷ []), length-map (orderOf (f .sequence)) (fixOf f), c .order-length .ensures) in
+    let long : length (fixes f) ≡ c .order-length .result + 1 =
+    omega (arith, length-append (named f) (f .next ∷ []), length-map (orderOf (f .sequence)) (fixOf f), c .order-length .ensures) in
     (omega arith, (long, walked-none _ _ 0 (omega arith)))
 
 fix-at-requires : tie.Need-fix-at-requires Inv-loop μ-loop
@@ -63,14 +91,10 @@ fix-at-requires-2 c κs = search needs
 returns : tie.Need-returns Inv-loop μ-loop
 unfolding boundF
 returns c =
-    let f = c .before .before .before .before .before .before .before .before .args .f in
     let l = c .before .before .before .before .before .loop in
-    let i = l .i in
-    let here = c .before .before .before .fix-at .ensures ∙ sym (last-is (map (fixOf f) (orderOf (f .sequence))) i (f .next)) in
-    let other = c .before .before .opposite .ensures ∙ ap opposite here in
-    let then = c .before .fix-at2 .ensures ∙ sym (last-is (map (fixOf f) (orderOf (f .sequence))) (i + 1) (f .next)) in
-    let two = followed (getD (fixes f) i (f .next)) (next-of (fixes f) (i + 1) (f .next) (omega arith)) in
-    sym (walked-stop alternate (fixes f) 0 i (l .inv .1 .1) (next-of (fixes f) i (f .next) (omega arith)) (two ∙ and-cut _ (is-not then (λ e. c .if1 .taken (e ∙ sym other)))))
+    let o = c .before .before in
+    let f = c .before .before .before .before .before .before .before .before .args .f in
+    sym (stops f (l .i) (omega arith) (l .inv .1 .1) (o .before .fix-at .ensures) (o .opposite .ensures) (c .before .fix-at2 .ensures) (c .if1 .taken))
 
 add-i : tie.Need-add-i Inv-loop μ-loop
 add-i c = search needs
@@ -80,14 +104,11 @@ loop-less c = search needs
 
 loop-again : tie.Need-loop-again Inv-loop μ-loop
 loop-again c =
-    let f = c .before .before .before .before .before .before .before .before .args .f in
     let l = c .before .before .before .before .before .loop in
-    let i = l .i in
-    let here = c .before .before .before .fix-at .ensures ∙ sym (last-is (map (fixOf f) (orderOf (f .sequence))) i (f .next)) in
-    let other = c .before .before .opposite .ensures ∙ ap opposite here in
-    let then = c .before .fix-at2 .ensures ∙ sym (last-is (map (fixOf f) (orderOf (f .sequence))) (i + 1) (f .next)) in
-    let two = followed (getD (fixes f) i (f .next)) (next-of (fixes f) (i + 1) (f .next) (omega arith)) in
-    (omega arith, (l .inv .1 .0, walked-more alternate (fixes f) 0 i (l .inv .1 .1) (omega arith) (next-of (fixes f) i (f .next) (omega arith)) (two ∙ and-then (is then (c .if1 .left ∙ other)) refl)))
+    let o = c .before .before in
+    let f = c .before .before .before .before .before .before .before .before .args .f in
+    let more = goes f (l .i) (omega arith) (l .inv .1 .1) (o .before .fix-at .ensures) (o .opposite .ensures) (c .before .fix-at2 .ensures) (c .if1 .left) in
+    (omega arith, (l .inv .1 .0, more))
 
 returns-2 : tie.Need-returns-2 Inv-loop μ-loop
 unfolding boundF
@@ -95,7 +116,9 @@ returns-2 c =
     let f = c .before .before .before .before .args .f in
     let l = c .before .loop in
     let x = getD (fixes f) (l .i) (f .next) in
-    sym (walked-stop alternate (fixes f) 0 (l .i) (l .inv .1 .1) (next-of (fixes f) (l .i) (f .next) (omega arith)) (ap (λ (r : List ℕ). alternate (x ∷ r)) (drop-of-length-le (fixes f) {i = l .i + 1} (omega arith))))
+    let none = drop-of-length-le (fixes f) {i = l .i + 1} (omega arith) in
+    let this = next-of (fixes f) (l .i) (f .next) (omega arith) in
+    sym (walked-stop alternate (fixes f) 0 (l .i) (l .inv .1 .1) this (ap (λ (r : List ℕ). alternate (x ∷ r)) none))
 
 pub bound-f-spec : {M : Type 1} → statement M
 bound-f-spec =

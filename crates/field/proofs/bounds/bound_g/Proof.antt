@@ -19,7 +19,8 @@ is-side-requires c κs = search needs
 returns-2 : tie.Need-returns-2
 unfolding boundG
 returns-2 c =
-    let zones = holds (c .before .before .before .zones-fit .ensures) (c .before .before .if1 .left) in
+    let at1 = c .before .before in
+    let zones = holds (at1 .before .zones-fit .ensures) (at1 .if1 .left) in
     sym (and-cut _ (and-then zones (fails (c .before .is-side .ensures) (c .if2 .taken))))
 
 legal-legs-requires : tie.Need-legal-legs-requires
@@ -28,8 +29,10 @@ legal-legs-requires c κs = search needs
 returns-3 : tie.Need-returns-3
 unfolding boundG
 returns-3 c =
-    let zones = holds (c .before .before .before .before .before .zones-fit .ensures) (c .before .before .before .before .if1 .left) in
-    let next = holds (c .before .before .before .is-side .ensures) (c .before .before .if2 .left) in
+    let at2 = c .before .before in
+    let at1 = at2 .before .before in
+    let zones = holds (at1 .before .zones-fit .ensures) (at1 .if1 .left) in
+    let next = holds (at2 .before .is-side .ensures) (at2 .if2 .left) in
     sym (and-then (and-then zones next) (sym (c .legal-legs .ensures)))
 
 pub bound-g-spec : {M : Type 1} → statement M

@@ -1,6 +1,5 @@
 -- `field::bounds::final_first` meets its contract, part by part. Assumes nothing.
 use mathlib.Core.Path.{sym, ap, _∙_}
-use Prim.Native.Nat.{ℕ}
 use Rattle.field.specs.declared.Aircraft.{Aircraft}
 use Rattle.field.specs.Find.{isFirst}
 use Rattle.field.specs.Bounds.{finalFirst}

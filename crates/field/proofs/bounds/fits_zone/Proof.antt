@@ -19,13 +19,15 @@ returns c = sym (and-cut _ (and-cut _ (fails (c .before .is-side .ensures) (c .i
 returns-2 : tie.Need-returns-2
 unfolding fitsZone
 returns-2 c =
-    let side = holds (c .before .before .before .is-side .ensures) (c .before .before .if1 .left) in
+    let at1 = c .before .before in
+    let side = holds (at1 .before .is-side .ensures) (at1 .if1 .left) in
     sym (and-cut _ (and-then side (and-cut _ (lt-leb _ _ (c .if2 .taken)))))
 
 returns-3 : tie.Need-returns-3
 unfolding fitsZone
 returns-3 c =
-    let side = holds (c .before .before .before .before .before .is-side .ensures) (c .before .before .before .before .if1 .left) in
+    let at1 = c .before .before .before .before in
+    let side = holds (at1 .before .is-side .ensures) (at1 .if1 .left) in
     let low = le-leb _ _ (c .before .before .if2 .left) in
     sym (and-cut _ (and-then side (and-then low (lt-leb _ _ (c .if3 .taken)))))
 
@@ -38,12 +40,15 @@ is-waiting-requires c κs = search needs
 returns-4 : tie.Need-returns-4
 unfolding fitsZone
 returns-4 c =
-    let side = holds (c .before .before .before .before .before .before .before .before .before .is-side .ensures) (c .before .before .before .before .before .before .before .before .if1 .left) in
+    let at1 = c .before .before .before .before .before .before .before .before in
+    let side = holds (at1 .before .is-side .ensures) (at1 .if1 .left) in
     let low = le-leb _ _ (c .before .before .before .before .before .before .if2 .left) in
     let high = le-leb _ _ (c .before .before .before .before .if3 .left) in
     let fit = and-then side (and-then low high) in
-    let flying = sym (c .before .before .before .is-flying-zone .ensures) ∙ c .before .before .if4 .taken in
-    sym (and-then fit (cond-then _ flying (and-cut _ (ap not (sym (c .before .is-waiting .ensures) ∙ c .if5 .taken)))))
+    let at4 = c .before .before in
+    let flying = sym (at4 .before .is-flying-zone .ensures) ∙ at4 .if4 .taken in
+    let still = sym (c .before .is-waiting .ensures) ∙ c .if5 .taken in
+    sym (and-then fit (cond-then _ flying (and-cut _ (ap not still))))
 
 leg-of-requires : tie.Need-leg-of-requires
 leg-of-requires c κs = search needs
@@ -54,13 +59,17 @@ within-requires c κs = search needs
 returns-5 : tie.Need-returns-5
 unfolding fitsZone
 returns-5 c =
-    let side = holds (c .before .before .before .before .before .before .before .before .before .before .before .is-side .ensures) (c .before .before .before .before .before .before .before .before .before .before .if1 .left) in
+    let at1 = c .before .before .before .before .before .before .before .before .before .before in
+    let side = holds (at1 .before .is-side .ensures) (at1 .if1 .left) in
     let low = le-leb _ _ (c .before .before .before .before .before .before .before .before .if2 .left) in
     let high = le-leb _ _ (c .before .before .before .before .before .before .if3 .left) in
     let fit = and-then side (and-then low high) in
-    let flying = sym (c .before .before .before .before .before .is-flying-zone .ensures) ∙ c .before .before .before .before .if4 .taken in
-    let moving = ap not (sym (c .before .before .before .is-waiting .ensures) ∙ c .before .before .if5 .left) in
-    let miles = c .within .ensures ∙ ap (withinLeg (c .before .before .before .before .before .before .before .before .before .before .before .before .args .a .progress)) (c .before .leg-of .ensures) in
+    let at4 = c .before .before .before .before in
+    let flying = sym (at4 .before .is-flying-zone .ensures) ∙ at4 .if4 .taken in
+    let at5 = c .before .before in
+    let moving = ap not (sym (at5 .before .is-waiting .ensures) ∙ at5 .if5 .left) in
+    let p = c .before .before .before .before .before .before .before .before .before .before .before .before .args .a .progress in
+    let miles = c .within .ensures ∙ ap (withinLeg p) (c .before .leg-of .ensures) in
     sym (and-then fit (cond-then _ flying (and-then moving (sym miles))))
 
 is-waiting-requires-2 : tie.Need-is-waiting-requires-2
@@ -69,11 +78,13 @@ is-waiting-requires-2 c κs = search needs
 returns-6 : tie.Need-returns-6
 unfolding fitsZone
 returns-6 c =
-    let side = holds (c .before .before .before .before .before .before .before .before .is-side .ensures) (c .before .before .before .before .before .before .before .if1 .left) in
+    let at1 = c .before .before .before .before .before .before .before in
+    let side = holds (at1 .before .is-side .ensures) (at1 .if1 .left) in
     let low = le-leb _ _ (c .before .before .before .before .before .if2 .left) in
     let high = le-leb _ _ (c .before .before .before .if3 .left) in
     let fit = and-then side (and-then low high) in
-    let still = sym (c .before .before .is-flying-zone .ensures) ∙ c .before .if4 .left in
+    let at4 = c .before in
+    let still = sym (at4 .before .is-flying-zone .ensures) ∙ at4 .if4 .left in
     sym (and-then fit (cond-else _ still (sym (c .is-waiting2 .ensures))))
 
 pub fits-zone-spec : {M : Type 1} → statement M

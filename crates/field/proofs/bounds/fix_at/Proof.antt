@@ -26,7 +26,8 @@ mul-fix-of : tie.Need-mul-fix-of
 unfolding orderLength
 mul-fix-of c =
     let s = c .before .before .before .args .f .sequence in
-    record { fits = omega (arith, c .before .order-length .ensures, order-fits s (unmapped _ (s .numbers) (c .before .before .before .good .0 .1 .1 .1 .0 .1 .1 .0 .1 .0 .1))) }
+    let long = unmapped _ (s .numbers) (c .before .before .before .good .0 .1 .1 .1 .0 .1 .1 .0 .1 .0 .1) in
+    record { fits = omega (arith, c .before .order-length .ensures, order-fits s long) }
 
 element-copy-out-fix-of : tie.Need-element-copy-out-fix-of
 unfolding orderLength
@@ -50,7 +51,8 @@ unfolding orderLength
 returns-2 c =
     let f = c .before .before .before .args .f in
     let i = c .before .before .before .args .i in
-    let past : length (map (fixOf f) (orderOf (f .sequence))) ≤ i = omega (arith, c .before .order-length .ensures, length-map (orderOf (f .sequence)) (fixOf f)) in
+    let past : length (map (fixOf f) (orderOf (f .sequence))) ≤ i =
+    omega (arith, c .before .order-length .ensures, length-map (orderOf (f .sequence)) (fixOf f)) in
     sym (List·getD-eq-default (map (fixOf f) (orderOf (f .sequence))) (f .next) past)
 
 pub fix-at-spec : {M : Type 1} → statement M

@@ -14,14 +14,17 @@ returns c = sym (and-cut _ (and-cut _ (and-cut _ (ne-eqb _ _ (c .if1 .taken)))))
 returns-2 : tie.Need-returns-2
 unfolding isNobody
 returns-2 c =
-    let number = eq-eqb _ _ (c .before .before .if1 .left) in
+    let at1 = c .before .before in
+    let number = eq-eqb _ _ (at1 .if1 .left) in
     sym (and-cut _ (and-cut _ (and-then number (ne-eqb _ _ (c .if2 .taken)))))
 
 returns-3 : tie.Need-returns-3
 unfolding isNobody
 returns-3 c =
-    let number = eq-eqb _ _ (c .before .before .before .before .if1 .left) in
-    let fix = eq-eqb _ _ (c .before .before .if2 .left) in
+    let at2 = c .before .before in
+    let at1 = at2 .before .before in
+    let number = eq-eqb _ _ (at1 .if1 .left) in
+    let fix = eq-eqb _ _ (at2 .if2 .left) in
     sym (and-cut _ (and-then (and-then number fix) (ne-eqb _ _ (c .if3 .taken))))
 
 is-waiting-requires : tie.Need-is-waiting-requires
@@ -30,9 +33,12 @@ is-waiting-requires c κs = search needs
 returns-4 : tie.Need-returns-4
 unfolding isNobody
 returns-4 c =
-    let number = eq-eqb _ _ (c .before .before .before .before .before .if1 .left) in
-    let fix = eq-eqb _ _ (c .before .before .before .if2 .left) in
-    let speed = eq-eqb _ _ (c .before .if3 .left) in
+    let at3 = c .before in
+    let at2 = at3 .before .before in
+    let at1 = at2 .before .before in
+    let number = eq-eqb _ _ (at1 .if1 .left) in
+    let fix = eq-eqb _ _ (at2 .if2 .left) in
+    let speed = eq-eqb _ _ (at3 .if3 .left) in
     sym (and-then (and-then (and-then number fix) speed) (sym (c .is-waiting .ensures)))
 
 pub is-nobody-spec : {M : Type 1} → statement M

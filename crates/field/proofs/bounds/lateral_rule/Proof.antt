@@ -23,7 +23,9 @@ how-many-requires-2 c κs = search needs
 
 returns-2 : tie.Need-returns-2
 unfolding lateralRule
-returns-2 c = sym (or-else (is-not (c .before .before .before .how-many .ensures) (c .before .before .if1 .left)) (and-cut _ (and-cut _ (is-not (c .before .how-many2 .ensures) (c .if2 .taken)))))
+returns-2 c =
+    let lateral = is-not (c .before .before .before .how-many .ensures) (c .before .before .if1 .left) in
+    sym (or-else lateral (and-cut _ (and-cut _ (is-not (c .before .how-many2 .ensures) (c .if2 .taken)))))
 
 add-how-many-2 : tie.Need-add-how-many-2
 add-how-many-2 c = search needs

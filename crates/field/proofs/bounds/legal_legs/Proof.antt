@@ -19,7 +19,8 @@ legal-requires-2 c κs = search needs
 returns-2 : tie.Need-returns-2
 unfolding legalLegs
 returns-2 c =
-    let missed = holds (c .before .before .before .legal .ensures) (c .before .before .if1 .left) in
+    let at1 = c .before .before in
+    let missed = holds (at1 .before .legal .ensures) (at1 .if1 .left) in
     sym (and-cut _ (and-cut _ (and-then missed (fails (c .before .legal2 .ensures) (c .if2 .taken)))))
 
 legal-requires-3 : tie.Need-legal-requires-3
@@ -28,8 +29,10 @@ legal-requires-3 c κs = search needs
 returns-3 : tie.Need-returns-3
 unfolding legalLegs
 returns-3 c =
-    let missed = holds (c .before .before .before .before .before .legal .ensures) (c .before .before .before .before .if1 .left) in
-    let base = holds (c .before .before .before .legal2 .ensures) (c .before .before .if2 .left) in
+    let at2 = c .before .before in
+    let at1 = at2 .before .before in
+    let missed = holds (at1 .before .legal .ensures) (at1 .if1 .left) in
+    let base = holds (at2 .before .legal2 .ensures) (at2 .if2 .left) in
     sym (and-cut _ (and-then (and-then missed base) (fails (c .before .legal3 .ensures) (c .if3 .taken))))
 
 legal-requires-4 : tie.Need-legal-requires-4
@@ -38,9 +41,12 @@ legal-requires-4 c κs = search needs
 returns-4 : tie.Need-returns-4
 unfolding legalLegs
 returns-4 c =
-    let missed = holds (c .before .before .before .before .before .before .legal .ensures) (c .before .before .before .before .before .if1 .left) in
-    let base = holds (c .before .before .before .before .legal2 .ensures) (c .before .before .before .if2 .left) in
-    let intermediate = holds (c .before .before .legal3 .ensures) (c .before .if3 .left) in
+    let at3 = c .before in
+    let at2 = at3 .before .before in
+    let at1 = at2 .before .before in
+    let missed = holds (at1 .before .legal .ensures) (at1 .if1 .left) in
+    let base = holds (at2 .before .legal2 .ensures) (at2 .if2 .left) in
+    let intermediate = holds (at3 .before .legal3 .ensures) (at3 .if3 .left) in
     sym (and-then (and-then (and-then missed base) intermediate) (sym (c .legal4 .ensures)))
 
 pub legal-legs-spec : {M : Type 1} → statement M

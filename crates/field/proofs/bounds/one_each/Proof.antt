@@ -1,7 +1,7 @@
 -- `field::bounds::one_each` meets its contract: each zone that the loop has passed holds at most one. Assumes nothing.
-use mathlib.Core.Path.{sym, refl}
+use mathlib.Core.Path.{sym}
 use mathlib.Core.Bool.{Bool}
-use Prim.Native.Nat.{ℕ, _+_, _-_, _≤_}
+use Prim.Native.Nat.{ℕ, _-_}
 use lib.Dec.{leb}
 use Rattle.field.specs.declared.Field.{Field}
 use Rattle.field.specs.Counts.{howMany}
@@ -28,7 +28,10 @@ how-many-requires : tie.Need-how-many-requires Inv-loop μ-loop
 how-many-requires c κs = search needs
 
 returns : tie.Need-returns Inv-loop μ-loop
-returns c = sym (passed-not (one (c .before .before .before .before .args .f)) 1 6 (c .before .before .before .loop .zone) (c .before .before .before .loop .inv) (omega arith) (over (c .before .how-many .ensures) (c .if1 .taken)))
+returns c =
+    let l = c .before .before .before .loop in
+    let f = c .before .before .before .before .args .f in
+    sym (passed-not (one f) 1 6 (l .zone) (l .inv) (omega arith) (over (c .before .how-many .ensures) (c .if1 .taken)))
 
 add-zone : tie.Need-add-zone Inv-loop μ-loop
 add-zone c = search needs
@@ -37,7 +40,10 @@ loop-less : tie.Need-loop-less Inv-loop μ-loop
 loop-less c = search needs
 
 loop-again : tie.Need-loop-again Inv-loop μ-loop
-loop-again c = passed-more (one (c .before .before .before .before .args .f)) 1 6 (c .before .before .before .loop .zone) (c .before .before .before .loop .inv) (omega arith) (at-most (c .before .how-many .ensures) (c .if1 .left))
+loop-again c =
+    let l = c .before .before .before .loop in
+    let f = c .before .before .before .before .args .f in
+    passed-more (one f) 1 6 (l .zone) (l .inv) (omega arith) (at-most (c .before .how-many .ensures) (c .if1 .left))
 
 returns-2 : tie.Need-returns-2 Inv-loop μ-loop
 returns-2 c = sym (passed-all (one (c .before .before .args .f)) 1 6 (c .before .loop .zone) (c .before .loop .inv) (omega arith))

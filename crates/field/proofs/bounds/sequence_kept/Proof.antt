@@ -1,13 +1,11 @@
 -- `field::bounds::sequence_kept` meets its contract: the places that the loop has passed are zero. Assumes nothing.
-use mathlib.Core.Path.{_≡_, refl, sym, ap, _∙_}
-use Prim.Native.Nat.{ℕ, _+_, _-_, _≤_, _<_}
-use lib.ListN.{length}
+use mathlib.Core.Path.{sym}
 use mathlib.Core.Bool.{Bool}
+use Prim.Native.Nat.{ℕ, _-_}
+use borrow.Author.Tests.{lt-leb, eq-eqb, ne-eqb}
 use lib.Dec.{eqb}
-use borrow.Author.Tests.{le-leb, lt-leb, eq-eqb, ne-eqb}
-use Rattle.field.specs.Bounds.{every, sequenceKept}
-use Rattle.field.proofs.Parts.{and-then, and-cut}
-use Rattle.field.proofs.Arrays.{Walked, next-of, walked-none, walked-more, walked-stop, walked-all}
+use Rattle.field.specs.Bounds.{sequenceKept}
+use Rattle.field.proofs.Parts.{and-cut, Kept, kept-none, kept-more, kept-not, kept-all}
 use Rattle.field.proofs.Shapes.{unmapped}
 use borrow.Author.Needs.{needs}
 use native.Mathlib.Omega.{arith}
@@ -18,7 +16,7 @@ abbrev isZero : ℕ → Bool
 isZero n = eqb n 0
 
 abbrev Inv-loop : tie.InvT-loop
-Inv-loop s n i₀ i = (length (s .numbers) ≡ 4) × ((n ≤ 4) × Walked (every isZero) (s .numbers) n i)
+Inv-loop s n i₀ i = Kept isZero (s .numbers) n i
 
 abbrev μ-loop : tie.MeasureT-loop
 μ-loop s n i₀ i = 4 - i
@@ -29,9 +27,8 @@ returns c = sym (and-cut _ (lt-leb _ _ (c .if1 .taken)))
 
 loop-holds : tie.Need-loop-holds Inv-loop μ-loop
 loop-holds c =
-    let s = c .before .args .t1 in
-    let long = unmapped _ (s .numbers) (c .before .good .0 .1 .1 .0 .1 .0 .1) in
-    (long, (omega arith, walked-none _ _ _ (omega arith)))
+    let a = c .before .args .t1 in
+    kept-none isZero (a .numbers) (a .length) (unmapped _ (a .numbers) (c .before .good .0 .1 .1 .0 .1 .0 .1)) (omega arith)
 
 mul-if2 : tie.Need-mul-if2 Inv-loop μ-loop
 mul-if2 c = search needs
@@ -42,10 +39,9 @@ element-copy-out-if2 c = search needs
 returns-2 : tie.Need-returns-2 Inv-loop μ-loop
 unfolding sequenceKept
 returns-2 c =
-    let s = c .before .before .before .before .before .args .t1 in
+    let a = c .before .before .before .before .before .args .t1 in
     let l = c .before .before .before .loop in
-    let stop = walked-stop (every isZero) (s .numbers) (s .length) (l .i) (l .inv .1 .1) (next-of (s .numbers) (l .i) 0 (omega arith)) (and-cut _ (ne-eqb _ _ (c .if2 .taken))) in
-    sym (and-then (le-leb _ _ (l .inv .1 .0)) stop)
+    sym (kept-not isZero (a .numbers) (a .length) (l .i) 0 (l .inv) (omega arith) (ne-eqb _ _ (c .if2 .taken)))
 
 add-i : tie.Need-add-i Inv-loop μ-loop
 add-i c = search needs
@@ -55,16 +51,16 @@ loop-less c = search needs
 
 loop-again : tie.Need-loop-again Inv-loop μ-loop
 loop-again c =
-    let s = c .before .before .before .before .before .args .t1 in
+    let a = c .before .before .before .before .before .args .t1 in
     let l = c .before .before .before .loop in
-    (l .inv .0, (l .inv .1 .0, walked-more (every isZero) (s .numbers) (s .length) (l .i) (l .inv .1 .1) (omega arith) (next-of (s .numbers) (l .i) 0 (omega arith)) (and-then (eq-eqb _ _ (c .if2 .left)) refl)))
+    kept-more isZero (a .numbers) (a .length) (l .i) 0 (l .inv) (omega arith) (eq-eqb _ _ (c .if2 .left))
 
 returns-3 : tie.Need-returns-3 Inv-loop μ-loop
 unfolding sequenceKept
 returns-3 c =
-    let s = c .before .before .before .args .t1 in
+    let a = c .before .before .before .args .t1 in
     let l = c .before .loop in
-    sym (and-then (le-leb _ _ (l .inv .1 .0)) (walked-all (every isZero) (s .numbers) (s .length) (l .i) (l .inv .1 .1) (omega arith)))
+    sym (kept-all isZero (a .numbers) (a .length) (l .i) (l .inv) (omega arith))
 
 pub sequence-kept-spec : {M : Type 1} → statement M
 sequence-kept-spec =

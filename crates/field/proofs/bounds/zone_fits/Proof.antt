@@ -1,11 +1,11 @@
--- `field::bounds::zone_fits` meets its contract: those that the loop has passed do. Assumes nothing.
-use mathlib.Core.Path.{_≡_, refl, sym}
-use Prim.Native.Nat.{ℕ, _+_, _-_, _≤_, _<_}
+-- `field::bounds::zone_fits` meets its contract: those that the loop has passed fit the zone. Assumes nothing.
+use mathlib.Core.Path.{_≡_, sym}
+use Prim.Native.Nat.{_-_, _≤_}
 use lib.ListN.{length}
 use Rattle.field.specs.Boxes.{nobody, queueOf, queueLength}
 use Rattle.field.specs.Bounds.{every, fitsZone}
-use Rattle.field.proofs.Parts.{and-then, and-cut, holds, fails}
-use Rattle.field.proofs.Arrays.{Walked, walked-none, walked-more, walked-stop, walked-all}
+use Rattle.field.proofs.Parts.{holds, fails, each-more, each-not}
+use Rattle.field.proofs.Arrays.{Walked, walked-none, walked-all}
 use Rattle.field.proofs.Shapes.{unmapped, queue-next, queue-fits}
 use borrow.Author.Needs.{needs}
 use native.Mathlib.Omega.{arith}
@@ -41,7 +41,8 @@ returns : tie.Need-returns Inv-loop μ-loop
 returns c =
     let a = c .before .before .before .before .before .before .args in
     let l = c .before .before .before .before .loop in
-    sym (walked-stop (every (fitsZone (a .legs) (a .zone))) (queueOf (a .t3)) 0 (l .i) (l .inv .1 .1) (queue-next (a .t3) (l .i) nobody (omega arith)) (and-cut _ (fails (c .before .fits-zone .ensures) (c .if1 .taken))))
+    let here = queue-next (a .t3) (l .i) nobody (omega arith) in
+    sym (each-not (fitsZone (a .legs) (a .zone)) (queueOf (a .t3)) 0 (l .i) (l .inv .1 .1) here (fails (c .before .fits-zone .ensures) (c .if1 .taken)))
 
 add-i : tie.Need-add-i Inv-loop μ-loop
 add-i c = search needs
@@ -53,7 +54,9 @@ loop-again : tie.Need-loop-again Inv-loop μ-loop
 loop-again c =
     let a = c .before .before .before .before .before .before .args in
     let l = c .before .before .before .before .loop in
-    (l .inv .0, (l .inv .1 .0, walked-more (every (fitsZone (a .legs) (a .zone))) (queueOf (a .t3)) 0 (l .i) (l .inv .1 .1) (omega arith) (queue-next (a .t3) (l .i) nobody (omega arith)) (and-then (holds (c .before .fits-zone .ensures) (c .if1 .left)) refl)))
+    let here = queue-next (a .t3) (l .i) nobody (omega arith) in
+    let fit = holds (c .before .fits-zone .ensures) (c .if1 .left) in
+    (l .inv .0, (l .inv .1 .0, each-more (fitsZone (a .legs) (a .zone)) (queueOf (a .t3)) 0 (l .i) (l .inv .1 .1) (omega arith) here fit))
 
 returns-2 : tie.Need-returns-2 Inv-loop μ-loop
 returns-2 c =

@@ -1,7 +1,7 @@
--- `field::bounds::zones_fit` meets its contract: those of each zone that the loop has passed do. Assumes nothing.
+-- `field::bounds::zones_fit` meets its contract: those of each zone that the loop has passed fit it. Assumes nothing.
 use mathlib.Core.Path.{sym, ap, _∙_}
 use mathlib.Core.Bool.{Bool}
-use Prim.Native.Nat.{ℕ, _+_, _-_, _≤_, _<_}
+use Prim.Native.Nat.{ℕ, _-_}
 use Rattle.field.specs.declared.Field.{Field}
 use Rattle.field.specs.declared.Zone.{Zone}
 use Rattle.field.specs.Boxes.{queueOf, inZone}

@@ -1,7 +1,7 @@
 -- `field::bounds::zones_kept` meets its contract: each zone that the loop has passed is kept. Assumes nothing.
 use mathlib.Core.Path.{sym, ap, _∙_}
 use mathlib.Core.Bool.{Bool}
-use Prim.Native.Nat.{ℕ, _+_, _-_, _≤_, _<_}
+use Prim.Native.Nat.{ℕ, _-_}
 use Rattle.field.specs.declared.Field.{Field}
 use Rattle.field.specs.Boxes.{zoneOf}
 use Rattle.field.specs.Bounds.{zoneKept}

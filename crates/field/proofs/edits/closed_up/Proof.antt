@@ -9,9 +9,14 @@ use native.Mathlib.Omega.{arith}
 use Rattle.field.proofs.edits.closed_up.Statement.{statement}
 use Rattle.field.proofs.edits.closed_up.Tie as tie
 
--- what is left of the elements in a row without the one at index k, where k is a numeral
-closed : (k : ℕ) {j : ℕ} (xs : List ℕ) → length xs ≡ 4 → j ≡ k → take k (getD xs 0 0 ∷ getD xs 1 0 ∷ getD xs 2 0 ∷ getD xs 3 0 ∷ []) ++ drop (suc k) (getD xs 0 0 ∷ getD xs 1 0 ∷ getD xs 2 0 ∷ getD xs 3 0 ∷ []) ++ (0 ∷ []) ≡ take j xs ++ drop (suc j) xs ++ (0 ∷ [])
-closed k xs h e = ap (λ (l : List ℕ). take k l ++ drop (suc k) l ++ (0 ∷ [])) (sym (four xs 0 h)) ∙ ap (λ (i : ℕ). take i xs ++ drop (suc i) xs ++ (0 ∷ [])) (sym e)
+-- a list without the one at index k, and 0 at its end
+abbrev without : ℕ → List ℕ → List ℕ
+without k l = take k l ++ drop (suc k) l ++ (0 ∷ [])
+
+-- of the elements in a row it computes, where k is a numeral
+closed : (k : ℕ) {j : ℕ} (xs : List ℕ) → length xs ≡ 4 → j ≡ k
+    → without k (getD xs 0 0 ∷ getD xs 1 0 ∷ getD xs 2 0 ∷ getD xs 3 0 ∷ []) ≡ without j xs
+closed k xs h e = ap (without k) (sym (four xs 0 h)) ∙ ap (λ (i : ℕ). without i xs) (sym e)
 
 array-read-t7 : tie.Need-array-read-t7
 array-read-t7 c = search needs

@@ -50,7 +50,8 @@ unfolding orderLength
 returns c =
     let a = c .before .before .before .before .before .before .args in
     let k = c .before .before .before .before .before .before2 in
-    moved (a .s) (a .number) (k .result) (c .before .closed-up .result) (k .ensures) (omega (arith, c .before .before .before .before .order-length .ensures)) (c .before .closed-up .ensures)
+    let closed = c .before .closed-up in
+    moved (a .s) (a .number) (k .result) (closed .result) (k .ensures) (omega (arith, c .before .before .before .before .order-length .ensures)) (closed .ensures)
 
 returns-2 : tie.Need-returns-2
 unfolding orderLength

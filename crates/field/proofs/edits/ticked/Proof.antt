@@ -1,7 +1,7 @@
 -- `field::edits::ticked` meets its contract: before place i each zone is as the tick leaves it, and from there on each is as it was. Assumes nothing.
 use mathlib.Core.Path.{_≡_, refl, sym, ap, _∙_}
 use mathlib.Core.List.{List, _++_}
-use Prim.Native.Nat.{ℕ, _+_, _-_, _≤_}
+use Prim.Native.Nat.{_+_, _-_, _≤_}
 use lib.ListN.{length, take, drop}
 use Rattle.field.specs.declared.Zone.{Zone}
 use Rattle.field.specs.Boxes.{emptyZone}
@@ -68,7 +68,8 @@ returns c =
     let f = s .args .f in
     let long : length (f .zones) ≡ 13 = unmapped _ (f .zones) (s .good .0 .1 .1 .0 .1 .0 .1) in
     let ys = tickedFrom (f .legs) (s .args .amount) 1 (f .zones) in
-    ap (λ (zs : List Zone). record { zones = zs; sequence = f .sequence; next = f .next; legs = f .legs }) (filled-all (l .zones) ys (f .zones) (l .i) (omega arith) (length-ticked (f .legs) (s .args .amount) 1 (f .zones)) (l .inv .1))
+    let all = filled-all (l .zones) ys (f .zones) (l .i) (omega arith) (length-ticked (f .legs) (s .args .amount) 1 (f .zones)) (l .inv .1) in
+    ap (λ (zs : List Zone). record { zones = zs; sequence = f .sequence; next = f .next; legs = f .legs }) all
 
 pub ticked-spec : {M : Type 1} → statement M
 ticked-spec =

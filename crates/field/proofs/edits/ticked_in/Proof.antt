@@ -1,10 +1,8 @@
 -- `field::edits::ticked_in` meets its contract, by those of what it calls. Assumes nothing.
-use mathlib.Core.Path.{_≡_, sym, ap, _∙_}
-use mathlib.Core.Bool.{Bool, true, false, cond}
-use Prim.Native.Nat.{ℕ}
+use mathlib.Core.Path.{sym, ap, _∙_}
+use mathlib.Core.Bool.{Bool, cond}
 use lib.Ieee.{Float}
-use Rattle.field.specs.declared.Zone.{Zone}
-use Rattle.field.specs.Boxes.{isFlyingZone, legOf}
+use Rattle.field.specs.Boxes.{legOf}
 use Rattle.field.specs.Edits.{tickedZone}
 use borrow.Author.Needs.{needs}
 use Rattle.field.proofs.edits.ticked_in.Statement.{statement}
@@ -22,9 +20,10 @@ ticked-zone-requires c κs = search needs
 returns : tie.Need-returns
 returns c =
     let a = c .before .before .before .before .args in
+    let flying = sym (c .before .before .before .is-flying-zone .ensures) ∙ c .before .before .if1 .taken in
     c .ticked-zone .ensures
     ∙ ap (λ (leg : Float). tickedZone leg (a .amount) (a .q)) (c .before .leg-of .ensures)
-    ∙ sym (ap (λ (t : Bool). cond t (tickedZone (legOf (a .legs) (a .zone)) (a .amount) (a .q)) (a .q)) (sym (c .before .before .before .is-flying-zone .ensures) ∙ c .before .before .if1 .taken))
+    ∙ sym (ap (λ (t : Bool). cond t (tickedZone (legOf (a .legs) (a .zone)) (a .amount) (a .q)) (a .q)) flying)
 
 returns-2 : tie.Need-returns-2
 returns-2 c =

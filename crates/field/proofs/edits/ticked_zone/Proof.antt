@@ -1,7 +1,7 @@
 -- `field::edits::ticked_zone` meets its contract: before place i each aircraft has advanced, and from there on each is as it was. Assumes nothing.
 use mathlib.Core.Path.{_≡_, refl, sym, ap, _∙_}
 use mathlib.Core.List.{List, map, _++_}
-use Prim.Native.Nat.{ℕ, _+_, _-_, _≤_}
+use Prim.Native.Nat.{_+_, _-_, _≤_}
 use lib.ListN.{length, take, drop, length-map}
 use Rattle.field.specs.declared.Aircraft.{Aircraft}
 use Rattle.field.specs.Boxes.{nobody}
@@ -51,7 +51,9 @@ loop-again c =
     let xs = s .args .q .aircraft in
     let long : length xs ≡ 4 = unmapped _ xs (s .good .1 .1 .0 .1 .1 .0 .1 .0 .1) in
     let here = filled-at (l .aircraft) (map g xs) xs (l .i) nobody _ (omega arith) (length-map xs g) (l .inv .1) in
-    (omega arith, filled-more (l .aircraft) (map g xs) xs (l .i) nobody (c .ticked-aircraft .result) (omega arith) (length-map xs g) (l .inv .1) (c .ticked-aircraft .ensures ∙ ap g here ∙ sym (getD-map g xs (l .i) nobody nobody (omega arith))))
+    let ticked = c .ticked-aircraft in
+    let right = ticked .ensures ∙ ap g here ∙ sym (getD-map g xs (l .i) nobody nobody (omega arith)) in
+    (omega arith, filled-more (l .aircraft) (map g xs) xs (l .i) nobody (ticked .result) (omega arith) (length-map xs g) (l .inv .1) right)
 
 returns : tie.Need-returns Inv-loop μ-loop
 unfolding tickedZone
@@ -61,7 +63,8 @@ returns c =
     let g = tickedAircraft (s .args .leg) (s .args .amount) in
     let xs = s .args .q .aircraft in
     let long : length xs ≡ 4 = unmapped _ xs (s .good .1 .1 .0 .1 .1 .0 .1 .0 .1) in
-    ap (λ (l : List Aircraft). record { aircraft = l; length = s .args .q .length }) (filled-all (l .aircraft) (map g xs) xs (l .i) (omega arith) (length-map xs g) (l .inv .1))
+    let all = filled-all (l .aircraft) (map g xs) xs (l .i) (omega arith) (length-map xs g) (l .inv .1) in
+    ap (λ (zs : List Aircraft). record { aircraft = zs; length = s .args .q .length }) all
 
 pub ticked-zone-spec : {M : Type 1} → statement M
 ticked-zone-spec =

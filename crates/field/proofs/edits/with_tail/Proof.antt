@@ -1,6 +1,4 @@
 -- `field::edits::with_tail` meets its contract: the definition takes the arm of the test. Assumes nothing.
-use mathlib.Core.Path.{_≡_, sym, ap}
-use mathlib.Core.Bool.{Bool, cond}
 use borrow.Author.Needs.{needs}
 use borrow.Author.Tests.{lt-ltb, le-ltb}
 use Rattle.field.specs.Edits.{withTail}

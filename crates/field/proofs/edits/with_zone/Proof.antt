@@ -1,6 +1,6 @@
 -- `field::edits::with_zone` meets its contract: the definition takes the arm of the tests. Assumes nothing.
-use mathlib.Core.Path.{_≡_, sym, ap, _∙_}
-use Prim.Native.Nat.{ℕ, _-_, _≤_}
+use mathlib.Core.Path.{_≡_}
+use Prim.Native.Nat.{_-_, _≤_}
 use lib.ListN.{length}
 use lib.Seq.{set-out}
 use Rattle.field.specs.Edits.{withZone}

@@ -1,5 +1,5 @@
 -- `field::edits::without_head` meets its contract: the definition takes the arm of the test. Assumes nothing.
-use mathlib.Core.Path.{_≡_, _∙_, sym, ap}
+use mathlib.Core.Path.{_≡_, sym, ap}
 use mathlib.Core.List.{List, [], _∷_, _++_}
 use lib.ListN.{length, getD, drop}
 use borrow.Author.Needs.{needs}

@@ -1,8 +1,8 @@
 -- `field::numbers::all_different` meets its contract: what the loop has passed is not listed again. Assumes nothing.
 use mathlib.Core.Path.{_≡_, refl, sym, ap, _∙_}
-use mathlib.Core.Bool.{Bool, not}
+use mathlib.Core.Bool.{not}
 use mathlib.Core.List.{List}
-use Prim.Native.Nat.{ℕ, _+_, _-_, _≤_, _<_}
+use Prim.Native.Nat.{ℕ, _+_, _-_}
 use lib.ListN.{length, getD, take, drop, length-drop}
 use lib.Seq.{take-all}
 use Rattle.field.specs.Counts.{isIn}
@@ -55,7 +55,8 @@ returns : tie.Need-returns Inv-loop μ-loop
 returns c =
     let l = c .before .before .before .before .before .loop in
     let xs = c .before .before .before .before .before .before .before .args .numbers .now in
-    sym (walked-stop allDifferent xs 0 (l .i) (l .inv) (next-of xs (l .i) 0 (omega arith)) (and-cut _ (ap not (sym (c .before .is-in .ensures ∙ ap (isIn (getD xs (l .i) 0)) (rest-of xs (l .i + 1))) ∙ c .if1 .taken))))
+    let again = c .before .is-in .ensures ∙ ap (isIn (getD xs (l .i) 0)) (rest-of xs (l .i + 1)) in
+    sym (walked-stop allDifferent xs 0 (l .i) (l .inv) (next-of xs (l .i) 0 (omega arith)) (and-cut _ (ap not (sym again ∙ c .if1 .taken))))
 
 add-i : tie.Need-add-i Inv-loop μ-loop
 add-i c = search needs
@@ -67,7 +68,8 @@ loop-again : tie.Need-loop-again Inv-loop μ-loop
 loop-again c =
     let l = c .before .before .before .before .before .loop in
     let xs = c .before .before .before .before .before .before .before .args .numbers .now in
-    walked-more allDifferent xs 0 (l .i) (l .inv) (omega arith) (next-of xs (l .i) 0 (omega arith)) (and-then (ap not (sym (c .before .is-in .ensures ∙ ap (isIn (getD xs (l .i) 0)) (rest-of xs (l .i + 1))) ∙ c .if1 .left)) refl)
+    let again = c .before .is-in .ensures ∙ ap (isIn (getD xs (l .i) 0)) (rest-of xs (l .i + 1)) in
+    walked-more allDifferent xs 0 (l .i) (l .inv) (omega arith) (next-of xs (l .i) 0 (omega arith)) (and-then (ap not (sym again ∙ c .if1 .left)) refl)
 
 returns-2 : tie.Need-returns-2 Inv-loop μ-loop
 returns-2 c = sym (walked-all allDifferent (c .before .before .before .args .numbers .now) 0 (c .before .loop .i) (c .before .loop .inv) (omega arith))

@@ -1,12 +1,12 @@
 -- `field::numbers::all_nonzero` meets its contract: what the loop has passed is nonzero. Assumes nothing.
-use mathlib.Core.Path.{refl, sym, ap}
+use mathlib.Core.Path.{sym, ap}
 use mathlib.Core.Bool.{Bool, not}
-use Prim.Native.Nat.{ℕ, _+_, _-_, _≤_, _<_}
+use Prim.Native.Nat.{ℕ, _-_}
 use lib.Dec.{eqb}
 use borrow.Author.Tests.{eq-eqb, ne-eqb}
 use Rattle.field.specs.Bounds.{every}
-use Rattle.field.proofs.Parts.{and-then, and-cut}
-use Rattle.field.proofs.Arrays.{Walked, next-of, walked-none, walked-more, walked-stop, walked-all}
+use Rattle.field.proofs.Parts.{each-more, each-not}
+use Rattle.field.proofs.Arrays.{Walked, next-of, walked-none, walked-all}
 use borrow.Author.Needs.{needs}
 use native.Mathlib.Omega.{arith}
 use Rattle.field.proofs.numbers.all_nonzero.Statement.{statement}
@@ -34,7 +34,7 @@ returns : tie.Need-returns Inv-loop μ-loop
 returns c =
     let l = c .before .before .before .loop in
     let xs = c .before .before .before .before .args .numbers .now in
-    sym (walked-stop (every nonzero) xs 0 (l .i) (l .inv) (next-of xs (l .i) 0 (omega arith)) (and-cut _ (ap not (eq-eqb _ _ (c .if1 .taken)))))
+    sym (each-not nonzero xs 0 (l .i) (l .inv) (next-of xs (l .i) 0 (omega arith)) (ap not (eq-eqb _ _ (c .if1 .taken))))
 
 add-i : tie.Need-add-i Inv-loop μ-loop
 add-i c = search needs
@@ -46,7 +46,7 @@ loop-again : tie.Need-loop-again Inv-loop μ-loop
 loop-again c =
     let l = c .before .before .before .loop in
     let xs = c .before .before .before .before .args .numbers .now in
-    walked-more (every nonzero) xs 0 (l .i) (l .inv) (omega arith) (next-of xs (l .i) 0 (omega arith)) (and-then (ap not (ne-eqb _ _ (c .if1 .left))) refl)
+    each-more nonzero xs 0 (l .i) (l .inv) (omega arith) (next-of xs (l .i) 0 (omega arith)) (ap not (ne-eqb _ _ (c .if1 .left)))
 
 returns-2 : tie.Need-returns-2 Inv-loop μ-loop
 returns-2 c = sym (walked-all (every nonzero) (c .before .before .args .numbers .now) 0 (c .before .loop .i) (c .before .loop .inv) (omega arith))

@@ -1,12 +1,12 @@
 -- `field::numbers::each_in` meets its contract: what the loop has passed is among the others. Assumes nothing.
-use mathlib.Core.Path.{refl, sym}
+use mathlib.Core.Path.{sym}
 use mathlib.Core.Bool.{Bool}
 use mathlib.Core.List.{List}
-use Prim.Native.Nat.{ℕ, _+_, _-_, _≤_, _<_}
+use Prim.Native.Nat.{ℕ, _-_}
 use Rattle.field.specs.Counts.{isIn}
 use Rattle.field.specs.Bounds.{every}
-use Rattle.field.proofs.Parts.{and-then, and-cut, holds, fails}
-use Rattle.field.proofs.Arrays.{Walked, next-of, walked-none, walked-more, walked-stop, walked-all}
+use Rattle.field.proofs.Parts.{holds, fails, each-more, each-not}
+use Rattle.field.proofs.Arrays.{Walked, next-of, walked-none, walked-all}
 use borrow.Author.Needs.{needs}
 use native.Mathlib.Omega.{arith}
 use Rattle.field.proofs.numbers.each_in.Statement.{statement}
@@ -37,7 +37,8 @@ returns : tie.Need-returns Inv-loop μ-loop
 returns c =
     let l = c .before .before .before .before .loop in
     let a = c .before .before .before .before .before .before .before .args in
-    sym (walked-stop (every (among (a .others .now))) (a .numbers .now) 0 (l .i) (l .inv) (next-of (a .numbers .now) (l .i) 0 (omega arith)) (and-cut _ (fails (c .before .is-in .ensures) (c .if1 .taken))))
+    let xs = a .numbers .now in
+    sym (each-not (among (a .others .now)) xs 0 (l .i) (l .inv) (next-of xs (l .i) 0 (omega arith)) (fails (c .before .is-in .ensures) (c .if1 .taken)))
 
 add-i : tie.Need-add-i Inv-loop μ-loop
 add-i c = search needs
@@ -49,10 +50,13 @@ loop-again : tie.Need-loop-again Inv-loop μ-loop
 loop-again c =
     let l = c .before .before .before .before .loop in
     let a = c .before .before .before .before .before .before .before .args in
-    walked-more (every (among (a .others .now))) (a .numbers .now) 0 (l .i) (l .inv) (omega arith) (next-of (a .numbers .now) (l .i) 0 (omega arith)) (and-then (holds (c .before .is-in .ensures) (c .if1 .left)) refl)
+    let xs = a .numbers .now in
+    each-more (among (a .others .now)) xs 0 (l .i) (l .inv) (omega arith) (next-of xs (l .i) 0 (omega arith)) (holds (c .before .is-in .ensures) (c .if1 .left))
 
 returns-2 : tie.Need-returns-2 Inv-loop μ-loop
-returns-2 c = sym (walked-all (every (among (c .before .before .before .before .args .others .now))) (c .before .before .before .before .args .numbers .now) 0 (c .before .loop .i) (c .before .loop .inv) (omega arith))
+returns-2 c =
+    let a = c .before .before .before .before .args in
+    sym (walked-all (every (among (a .others .now))) (a .numbers .now) 0 (c .before .loop .i) (c .before .loop .inv) (omega arith))
 
 pub each-in-spec : {M : Type 1} → statement M
 each-in-spec =

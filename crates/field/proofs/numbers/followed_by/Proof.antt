@@ -1,5 +1,5 @@
 -- `field::numbers::followed_by` meets its contract: the loop has written the numbers of the first i of the queue behind those that were there. Assumes nothing.
-use mathlib.Core.Path.{_≡_, refl, sym, ap, _∙_}
+use mathlib.Core.Path.{_≡_, sym, ap, _∙_}
 use mathlib.Core.List.{List, [], _∷_, _++_, map, map-append, append-nil, append-assoc}
 use Prim.Native.Nat.{ℕ, suc, _+_, _-_, _≤_, _<_}
 use native.Mathlib.Nat.{add-zero}
@@ -34,10 +34,17 @@ written q start list₀ list i d h k e =
     let here : getD (queueOf q) i d ≡ getD (q .aircraft) i d = queue-read q i d k in
     let x = getD (q .aircraft) i d .number in
     let more : start + (i + 1) ≡ suc (start + i) = omega arith in
-    let left : take (start + (i + 1)) (set list (start + i) x) ≡ take (start + i) list ++ (x ∷ []) = ap (λ (n : ℕ). take n (set list (start + i) x)) more ∙ take-suc-set list (start + i) x h in
+    let left : take (start + (i + 1)) (set list (start + i) x) ≡ take (start + i) list ++ (x ∷ []) =
+    ap (λ (n : ℕ). take n (set list (start + i) x)) more ∙ take-suc-set list (start + i) x h in
     let right : map numberOf (take (i + 1) (queueOf q)) ≡ map numberOf (take i (queueOf q)) ++ (x ∷ []) =
-    ap (λ (n : ℕ). map numberOf (take n (queueOf q))) (add-one i) ∙ ap (map numberOf) (take-suc (queueOf q) i d k) ∙ map-append numberOf (take i (queueOf q)) (getD (queueOf q) i d ∷ []) ∙ ap (λ (a : Aircraft). map numberOf (take i (queueOf q)) ++ (numberOf a ∷ [])) here in
-    left ∙ ap (λ (l : List ℕ). l ++ (x ∷ [])) e ∙ append-assoc (take start list₀) (map numberOf (take i (queueOf q))) (x ∷ []) ∙ ap (λ (l : List ℕ). take start list₀ ++ l) (sym right)
+    ap (λ (n : ℕ). map numberOf (take n (queueOf q))) (add-one i)
+    ∙ ap (map numberOf) (take-suc (queueOf q) i d k)
+    ∙ map-append numberOf (take i (queueOf q)) (getD (queueOf q) i d ∷ [])
+    ∙ ap (λ (a : Aircraft). map numberOf (take i (queueOf q)) ++ (numberOf a ∷ [])) here in
+    left
+    ∙ ap (λ (l : List ℕ). l ++ (x ∷ [])) e
+    ∙ append-assoc (take start list₀) (map numberOf (take i (queueOf q))) (x ∷ [])
+    ∙ ap (λ (l : List ℕ). take start list₀ ++ l) (sym right)
 
 abbrev Inv-loop : tie.InvT-loop
 Inv-loop q end start list₀ i₀ list i = Written q end start list₀ list i
@@ -55,7 +62,10 @@ loop-holds c =
     let q = s .args .t2 in
     let n = s .args .n in
     let fits = queue-fits q (unmapped _ (q .aircraft) (s .good .1 .0 .1 .1 .0 .1 .0 .1)) in
-    record { within = omega arith; all = c .before .queue-length .ensures; few = omega (arith, c .before .queue-length .ensures); room = s .pre; long = unmapped _ (n .list) (s .good .0 .1 .1 .0 .1 .0 .1); made = ap (λ (k : ℕ). take k (n .list)) (add-zero (n .length)) ∙ sym (append-nil (take (n .length) (n .list))) }
+    let all = c .before .queue-length .ensures in
+    let long = unmapped _ (n .list) (s .good .0 .1 .1 .0 .1 .0 .1) in
+    let made = ap (λ (k : ℕ). take k (n .list)) (add-zero (n .length)) ∙ sym (append-nil (take (n .length) (n .list))) in
+    record { within = omega arith; all = all; few = omega (arith, all); room = s .pre; long = long; made = made }
 
 mul-a : tie.Need-mul-a Inv-loop μ-loop
 mul-a c = search needs
@@ -85,7 +95,8 @@ loop-again c =
     let q = s .args .t2 in
     let n = s .args .n in
     let w = l .inv in
-    record { within = omega arith; all = w .all; few = w .few; room = w .room; long = simp length-set (w .long); made = written q (n .length) (n .list) (l .list) (l .i) _ (omega arith) (omega (arith, w .all)) (w .made) }
+    let made = written q (n .length) (n .list) (l .list) (l .i) _ (omega arith) (omega (arith, w .all)) (w .made) in
+    record { within = omega arith; all = w .all; few = w .few; room = w .room; long = simp length-set (w .long); made = made }
 
 add-t19 : tie.Need-add-t19 Inv-loop μ-loop
 add-t19 c = search needs
@@ -98,7 +109,9 @@ returns c =
     let n = s .args .n in
     let w = l .inv in
     let end : n .length + c .before .before .before .queue-length .result ≡ n .length + l .i = omega arith in
-    (omega arith, ap (λ (k : ℕ). take k (l .list)) end ∙ w .made ∙ ap (λ (queue : List Aircraft). take (n .length) (n .list) ++ map numberOf queue) (take-all (l .i) (queueOf q) (omega (arith, w .all))))
+    let whole = take-all (l .i) (queueOf q) (omega (arith, w .all)) in
+    let made = ap (λ (k : ℕ). take k (l .list)) end ∙ w .made ∙ ap (λ (queue : List Aircraft). take (n .length) (n .list) ++ map numberOf queue) whole in
+    (omega arith, made)
 
 pub followed-by-spec : {M : Type 1} → statement M
 followed-by-spec =

@@ -1,6 +1,6 @@
 -- `field::numbers::is_in` meets its contract: what the loop has passed is not the number. Assumes nothing.
 use mathlib.Core.Path.{sym, refl}
-use Prim.Native.Nat.{ℕ, _+_, _-_, _≤_, _<_}
+use Prim.Native.Nat.{_-_}
 use borrow.Author.Tests.{eq-eqb, ne-eqb}
 use Rattle.field.specs.Counts.{isIn}
 use Rattle.field.proofs.Parts.{or-first, or-else}
@@ -29,7 +29,8 @@ returns : tie.Need-returns Inv-loop μ-loop
 returns c =
     let a = c .before .before .before .before .args in
     let l = c .before .before .before .loop in
-    sym (walked-stop (isIn (a .number)) (a .numbers .now) 0 (l .i) (l .inv) (next-of (a .numbers .now) (l .i) 0 (omega arith)) (or-first _ (eq-eqb _ _ (c .if1 .taken))))
+    let here = next-of (a .numbers .now) (l .i) 0 (omega arith) in
+    sym (walked-stop (isIn (a .number)) (a .numbers .now) 0 (l .i) (l .inv) here (or-first _ (eq-eqb _ _ (c .if1 .taken))))
 
 add-i : tie.Need-add-i Inv-loop μ-loop
 add-i c = search needs
@@ -41,10 +42,13 @@ loop-again : tie.Need-loop-again Inv-loop μ-loop
 loop-again c =
     let a = c .before .before .before .before .args in
     let l = c .before .before .before .loop in
-    walked-more (isIn (a .number)) (a .numbers .now) 0 (l .i) (l .inv) (omega arith) (next-of (a .numbers .now) (l .i) 0 (omega arith)) (or-else (ne-eqb _ _ (c .if1 .left)) refl)
+    let here = next-of (a .numbers .now) (l .i) 0 (omega arith) in
+    walked-more (isIn (a .number)) (a .numbers .now) 0 (l .i) (l .inv) (omega arith) here (or-else (ne-eqb _ _ (c .if1 .left)) refl)
 
 returns-2 : tie.Need-returns-2 Inv-loop μ-loop
-returns-2 c = sym (walked-all (isIn (c .before .before .args .number)) (c .before .before .args .numbers .now) 0 (c .before .loop .i) (c .before .loop .inv) (omega arith))
+returns-2 c =
+    let a = c .before .before .args in
+    sym (walked-all (isIn (a .number)) (a .numbers .now) 0 (c .before .loop .i) (c .before .loop .inv) (omega arith))
 
 pub is-in-spec : {M : Type 1} → statement M
 is-in-spec =

@@ -1,5 +1,5 @@
 -- `field::numbers::numbers_differ` meets its contract, part by part. Assumes nothing.
-use mathlib.Core.Path.{_≡_, sym, ap, _∙_}
+use mathlib.Core.Path.{sym, ap, _∙_}
 use mathlib.Core.Bool.{not}
 use Prim.Native.Nat.{ℕ}
 use lib.Dec.{eqb}
@@ -42,7 +42,8 @@ returns-2 : tie.Need-returns-2
 unfolding numbersDiffer
 returns-2 c =
     let made = c .before .before .before .before .before .numbers-to .ensures .1 in
-    sym (and-then (holds (c .before .before .all-nonzero .ensures ∙ ap (every (λ (n : ℕ). not (eqb n 0))) made) (c .before .if1 .left)) (sym (c .all-different .ensures ∙ ap allDifferent made)))
+    let nonzero = holds (c .before .before .all-nonzero .ensures ∙ ap (every (λ (n : ℕ). not (eqb n 0))) made) (c .before .if1 .left) in
+    sym (and-then nonzero (sym (c .all-different .ensures ∙ ap allDifferent made)))
 
 pub numbers-differ-spec : {M : Type 1} → statement M
 numbers-differ-spec =

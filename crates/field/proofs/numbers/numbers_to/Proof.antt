@@ -1,13 +1,13 @@
 -- `field::numbers::numbers_to` meets its contract: the loop has gathered the numbers of zones 1 to `zone`. Assumes nothing.
 use mathlib.Core.Path.{_≡_, refl, sym, ap, _∙_}
 use mathlib.Core.List.{List, _++_, map}
-use Prim.Native.Nat.{ℕ, suc, _+_, _*_, _-_, _≤_, _<_}
+use Prim.Native.Nat.{ℕ, _+_, _*_, _-_, _≤_}
 use native.Mathlib.Numerals.{add-one}
 use lib.ListN.{take}
 use Rattle.field.specs.declared.Zone.{Zone}
 use Rattle.field.specs.Boxes.{zonesFrom, queueOf, inZone}
 use Rattle.field.specs.Bounds.{numbersIn}
-use Rattle.field.proofs.Listed.{numberOf, numbersAt, one-zone-more}
+use Rattle.field.proofs.Listed.{numberOf, one-zone-more}
 use borrow.Author.Needs.{needs}
 use native.Mathlib.Omega.{arith}
 use Rattle.field.proofs.numbers.numbers_to.Statement.{statement}

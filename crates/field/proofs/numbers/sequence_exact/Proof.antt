@@ -50,7 +50,8 @@ slice-aggregate-order : tie.Need-slice-aggregate-order
 unfolding orderOf orderLength
 slice-aggregate-order c =
     let s = c .before .before .before .before .before .before .before .args .f .sequence in
-    part-length (s .numbers) (c .before .before .order-length .result) refl (omega (arith, c .before .before .order-length .ensures, part-fits (s .length) (s .numbers)))
+    let n = c .before .before .order-length in
+    part-length (s .numbers) (n .result) refl (omega (arith, n .ensures, part-fits (s .length) (s .numbers)))
 
 all-different-requires : tie.Need-all-different-requires
 all-different-requires c κs = search needs
@@ -58,7 +59,8 @@ all-different-requires c κs = search needs
 returns : tie.Need-returns
 unfolding sequenceExact
 returns c =
-    let order = listed (c .before .before .before .before .before .before .before .before .before .args .f .sequence) (c .before .before .before .before .order-length .ensures) in
+    let s = c .before .before .before .before .before .before .before .before .before .args .f .sequence in
+    let order = listed s (c .before .before .before .before .order-length .ensures) in
     sym (and-cut _ (and-cut _ (fails (c .before .all-different .ensures ∙ ap allDifferent order) (c .if1 .taken))))
 
 each-in-requires : tie.Need-each-in-requires
@@ -67,7 +69,8 @@ each-in-requires c κs = search needs
 returns-2 : tie.Need-returns-2
 unfolding sequenceExact
 returns-2 c =
-    let order = listed (c .before .before .before .before .before .before .before .before .before .before .before .args .f .sequence) (c .before .before .before .before .before .before .order-length .ensures) in
+    let s = c .before .before .before .before .before .before .before .before .before .before .before .args .f .sequence in
+    let order = listed s (c .before .before .before .before .before .before .order-length .ensures) in
     let there = c .before .before .before .before .before .before .before .before .before .before .numbers-to .ensures .1 in
     let different = holds (c .before .before .before .all-different .ensures ∙ ap allDifferent order) (c .before .before .if1 .left) in
     sym (and-cut _ (and-then different (fails (c .before .each-in .ensures ∙ each order there) (c .if2 .taken))))
@@ -78,7 +81,8 @@ each-in-requires-2 c κs = search needs
 returns-3 : tie.Need-returns-3
 unfolding sequenceExact
 returns-3 c =
-    let order = listed (c .before .before .before .before .before .before .before .before .before .before .before .before .args .f .sequence) (c .before .before .before .before .before .before .before .order-length .ensures) in
+    let s = c .before .before .before .before .before .before .before .before .before .before .before .before .args .f .sequence in
+    let order = listed s (c .before .before .before .before .before .before .before .order-length .ensures) in
     let there = c .before .before .before .before .before .before .before .before .before .before .before .numbers-to .ensures .1 in
     let different = holds (c .before .before .before .before .all-different .ensures ∙ ap allDifferent order) (c .before .before .before .if1 .left) in
     let known = holds (c .before .before .each-in .ensures ∙ each order there) (c .before .if2 .left) in

@@ -35,7 +35,11 @@ moved-requires c κs = search needs
 returns : tie.Need-returns
 returns c =
     let a = c .before .before .before .before .args in
-    by-zone (a .f) (a .r) (c .before .before .before .zone-before .ensures) (c .before .before .side-of .ensures) (c .before .approach-zone .ensures) (c .moved .ensures)
+    by-zone (a .f) (a .r)
+    (c .before .before .before .zone-before .ensures)
+    (c .before .before .side-of .ensures)
+    (c .before .approach-zone .ensures)
+    (c .moved .ensures)
 
 pub approached-spec : {M : Type 1} → statement M
 approached-spec =

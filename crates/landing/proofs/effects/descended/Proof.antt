@@ -1,6 +1,6 @@
 -- `landing::effects::descended` meets its contract. Assumes nothing.
 use native.Mathlib.Omega.{arith}
-use Rattle.landing.proofs.Zones.{zone-below}
+use Rattle.landing.proofs.Starts.{zone-below}
 use borrow.Author.Needs.{needs}
 use Rattle.landing.proofs.effects.descended.Statement.{statement}
 use Rattle.landing.proofs.effects.descended.Tie as tie

@@ -1,37 +1,12 @@
 -- `landing::effects::effect` meets its contract, kind by kind. Assumes nothing.
-use mathlib.Core.Path.{_≡_, sym, ap, _∙_}
+use mathlib.Core.Path.{sym, ap, _∙_}
 use Prim.Native.Nat.{ℕ}
 use borrow.Author.Tests.{ne-eqb}
-use Rattle.request.specs.declared.Request.{Request}
-use Rattle.field.specs.declared.Field.{Field}
-use Rattle.field.specs.Boxes.{at3000, at2000, lateral, intermediate, finalApproach, runway}
-use Rattle.field.specs.Edits.{ticked}
-use Rattle.rules.specs.Kinds.{zoneBefore, moved, headGone, entered, approached, landed, exited, missedApproach, held}
-use Rattle.rules.specs.Step.{byKind, effectOf}
+use Rattle.rules.specs.Kinds.{moved}
+use Rattle.rules.specs.Step.{effectOf}
 use borrow.Author.Needs.{needs}
 use Rattle.landing.proofs.effects.effect.Statement.{statement}
 use Rattle.landing.proofs.effects.effect.Tie as tie
-
--- what a request of kind k does
-abbrev effectFor : ℕ → Field → Request → Field
-effectFor k f r =
-    byKind k
-    (entered f r (at3000 (r .side)))
-    (entered f r (lateral (r .side)))
-    (moved f (zoneBefore f r) (at2000 (zoneBefore f r)))
-    (approached f r)
-    (moved f (zoneBefore f r) intermediate)
-    (moved f intermediate finalApproach)
-    (landed f r)
-    (headGone f runway)
-    (exited f r)
-    (missedApproach f r)
-    (held f r)
-    (ticked f (r .amount))
-
-of-kind : (f : Field) (r : Request) {k : ℕ} → r .kind ≡ k → effectOf f r ≡ effectFor k f r
-unfolding effectOf
-of-kind f r e = ap (λ (k : ℕ). effectFor k f r) e
 
 cast-entered : tie.Need-cast-entered
 cast-entered c = search needs
@@ -82,40 +57,51 @@ ticked-requires : tie.Need-ticked-requires
 ticked-requires c κs = search needs
 
 returns : tie.Need-returns
-returns c = c .entered .ensures ∙ sym (of-kind (c .before .before .before .args .f) (c .before .before .before .args .r) (c .before .before .match .keys1))
+unfolding effectOf
+returns c = c .entered .ensures ∙ sym (simp (c .before .before .match .keys1))
 
 returns-2 : tie.Need-returns-2
-returns-2 c = c .entered2 .ensures ∙ sym (of-kind (c .before .before .before .args .f) (c .before .before .before .args .r) (c .before .before .match .keys2))
+unfolding effectOf
+returns-2 c = c .entered2 .ensures ∙ sym (simp (c .before .before .match .keys2))
 
 returns-3 : tie.Need-returns-3
-returns-3 c = c .descended .ensures ∙ sym (of-kind (c .before .before .args .f) (c .before .before .args .r) (c .before .match .keys3))
+unfolding effectOf
+returns-3 c = c .descended .ensures ∙ sym (simp (c .before .match .keys3))
 
 returns-4 : tie.Need-returns-4
-returns-4 c = c .approached .ensures ∙ sym (of-kind (c .before .before .args .f) (c .before .before .args .r) (c .before .match .keys4))
+unfolding effectOf
+returns-4 c = c .approached .ensures ∙ sym (simp (c .before .match .keys4))
 
 returns-5 : tie.Need-returns-5
+unfolding effectOf
 returns-5 c =
     c .moved .ensures
     ∙ ap (λ (z : ℕ). moved (c .before .before .before .args .f) z 11) (c .before .zone-before .ensures)
-    ∙ sym (of-kind (c .before .before .before .args .f) (c .before .before .before .args .r) (c .before .before .match .keys5))
+    ∙ sym (simp (c .before .before .match .keys5))
 
 returns-6 : tie.Need-returns-6
-returns-6 c = c .moved2 .ensures ∙ sym (of-kind (c .before .before .args .f) (c .before .before .args .r) (c .before .match .keys6))
+unfolding effectOf
+returns-6 c = c .moved2 .ensures ∙ sym (simp (c .before .match .keys6))
 
 returns-7 : tie.Need-returns-7
-returns-7 c = c .landed .ensures ∙ sym (of-kind (c .before .before .args .f) (c .before .before .args .r) (c .before .match .keys7))
+unfolding effectOf
+returns-7 c = c .landed .ensures ∙ sym (simp (c .before .match .keys7))
 
 returns-8 : tie.Need-returns-8
-returns-8 c = c .head-gone .ensures ∙ sym (of-kind (c .before .before .args .f) (c .before .before .args .r) (c .before .match .keys8))
+unfolding effectOf
+returns-8 c = c .head-gone .ensures ∙ sym (simp (c .before .match .keys8))
 
 returns-9 : tie.Need-returns-9
-returns-9 c = c .exited .ensures ∙ sym (of-kind (c .before .before .args .f) (c .before .before .args .r) (c .before .match .keys9))
+unfolding effectOf
+returns-9 c = c .exited .ensures ∙ sym (simp (c .before .match .keys9))
 
 returns-10 : tie.Need-returns-10
-returns-10 c = c .missed-approach .ensures ∙ sym (of-kind (c .before .before .args .f) (c .before .before .args .r) (c .before .match .keys10))
+unfolding effectOf
+returns-10 c = c .missed-approach .ensures ∙ sym (simp (c .before .match .keys10))
 
 returns-11 : tie.Need-returns-11
-returns-11 c = c .held .ensures ∙ sym (of-kind (c .before .before .args .f) (c .before .before .args .r) (c .before .match .keys11))
+unfolding effectOf
+returns-11 c = c .held .ensures ∙ sym (simp (c .before .match .keys11))
 
 returns-12 : tie.Need-returns-12
 unfolding effectOf

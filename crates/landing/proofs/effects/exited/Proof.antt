@@ -1,5 +1,7 @@
 -- `landing::effects::exited` meets its contract. Assumes nothing.
-use Rattle.rules.specs.Kinds.{exited}
+use mathlib.Core.Path.{ap, _∙_}
+use Rattle.field.specs.declared.Field.{Field}
+use Rattle.rules.specs.Kinds.{outOfSequence, exited}
 use borrow.Author.Needs.{needs}
 use Rattle.landing.proofs.effects.exited.Statement.{statement}
 use Rattle.landing.proofs.effects.exited.Tie as tie
@@ -12,7 +14,9 @@ out-of-sequence-requires c κs = search needs
 
 returns : tie.Need-returns
 unfolding exited
-returns c = cc
+returns c =
+    let r = c .before .before .args .r in
+    c .out-of-sequence .ensures ∙ ap (λ (g : Field). outOfSequence g (r .number)) (c .before .head-gone .ensures)
 
 pub exited-spec : {M : Type 1} → statement M
 exited-spec = tie.close (tie.spec head-gone-requires out-of-sequence-requires returns)

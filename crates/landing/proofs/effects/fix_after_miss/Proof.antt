@@ -3,7 +3,7 @@ use mathlib.Core.Path.{sym}
 use Rattle.field.specs.Boxes.{orderLength}
 use Rattle.field.proofs.Parts.{is, is-not}
 use Rattle.rules.specs.Kinds.{fixAfterMiss}
-use Rattle.rules.proofs.Tests.{if-true, if-false}
+use Rattle.field.proofs.Tests.{if-true, if-false}
 use borrow.Author.Needs.{needs}
 use Rattle.landing.proofs.effects.fix_after_miss.Statement.{statement}
 use Rattle.landing.proofs.effects.fix_after_miss.Tie as tie

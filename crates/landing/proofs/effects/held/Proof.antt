@@ -8,7 +8,7 @@ use Rattle.field.specs.Boxes.{at3000, at2000, sideOf}
 use Rattle.field.specs.Bounds.{isEmpty}
 use Rattle.field.proofs.Parts.{holds, fails}
 use Rattle.rules.specs.Kinds.{zoneBefore, moved, held}
-use Rattle.rules.proofs.Tests.{if-true, if-false}
+use Rattle.field.proofs.Tests.{if-true, if-false}
 use borrow.Author.Needs.{needs}
 use Rattle.landing.proofs.effects.held.Statement.{statement}
 use Rattle.landing.proofs.effects.held.Tie as tie
@@ -69,8 +69,9 @@ moved-requires-3 c κs = search needs
 returns-2 : tie.Need-returns-2
 returns-2 c =
     let b = c .before .before .before .before in
+    let high = holds (b .is-empty .ensures) (c .before .before .before .if1 .left) in
     c .moved3 .ensures
-    ∙ sym (if-true _ _ (holds (b .is-empty .ensures) (c .before .before .before .if1 .left)) ∙ if-true _ _ (sym (c .before .before .is-empty2 .ensures) ∙ c .before .if2 .taken))
+    ∙ sym (if-true _ _ high ∙ if-true _ _ (sym (c .before .before .is-empty2 .ensures) ∙ c .before .if2 .taken))
     ∙ held-from _ _ (b .before .before .zone-before .ensures) (b .before .side-of .ensures)
 
 moved-requires-4 : tie.Need-moved-requires-4
@@ -79,8 +80,9 @@ moved-requires-4 c κs = search needs
 returns-3 : tie.Need-returns-3
 returns-3 c =
     let b = c .before .before .before .before in
+    let high = holds (b .is-empty .ensures) (c .before .before .before .if1 .left) in
     c .moved4 .ensures
-    ∙ sym (if-true _ _ (holds (b .is-empty .ensures) (c .before .before .before .if1 .left)) ∙ if-false _ _ (sym (c .before .before .is-empty2 .ensures) ∙ c .before .if2 .left))
+    ∙ sym (if-true _ _ high ∙ if-false _ _ (sym (c .before .before .is-empty2 .ensures) ∙ c .before .if2 .left))
     ∙ held-from _ _ (b .before .before .zone-before .ensures) (b .before .side-of .ensures)
 
 pub held-spec : {M : Type 1} → statement M

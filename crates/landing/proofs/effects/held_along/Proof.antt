@@ -1,4 +1,9 @@
 -- `landing::effects::held_along` meets its contract. Assumes nothing.
+use mathlib.Core.Path.{_≡_, ap, _∙_}
+use Prim.Native.Nat.{ℕ}
+use Rattle.field.specs.declared.Aircraft.{Aircraft}
+use Rattle.field.specs.Boxes.{sideOf}
+use Rattle.field.specs.Find.{aircraftAt}
 use Rattle.rules.specs.Kinds.{heldAlong}
 use borrow.Author.Needs.{needs}
 use Rattle.landing.proofs.effects.held_along.Statement.{statement}
@@ -18,7 +23,9 @@ aircraft-at-requires c κs = search needs
 
 returns : tie.Need-returns
 unfolding heldAlong
-returns c = cc
+returns c =
+    let side = c .before .side-of .ensures ∙ ap sideOf (c .before .before .zone-before .ensures) in
+    ap (λ (a : Aircraft). a .number) (c .aircraft-at .ensures ∙ ap (λ (z : ℕ). aircraftAt (c .before .before .before .args .f) z 1) side)
 
 pub held-along-spec : {M : Type 1} → statement M
 held-along-spec =

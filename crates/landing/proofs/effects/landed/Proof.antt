@@ -1,5 +1,7 @@
 -- `landing::effects::landed` meets its contract. Assumes nothing.
-use Rattle.rules.specs.Kinds.{landed}
+use mathlib.Core.Path.{ap, _∙_}
+use Rattle.field.specs.declared.Field.{Field}
+use Rattle.rules.specs.Kinds.{outOfSequence, landed}
 use borrow.Author.Needs.{needs}
 use Rattle.landing.proofs.effects.landed.Statement.{statement}
 use Rattle.landing.proofs.effects.landed.Tie as tie
@@ -12,7 +14,9 @@ out-of-sequence-requires c κs = search needs
 
 returns : tie.Need-returns
 unfolding landed
-returns c = cc
+returns c =
+    let r = c .before .before .args .r in
+    c .out-of-sequence .ensures ∙ ap (λ (g : Field). outOfSequence g (r .number)) (c .before .moved .ensures)
 
 pub landed-spec : {M : Type 1} → statement M
 landed-spec = tie.close (tie.spec moved-requires out-of-sequence-requires returns)

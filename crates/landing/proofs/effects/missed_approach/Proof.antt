@@ -15,10 +15,10 @@ use Rattle.landing.proofs.effects.missed_approach.Statement.{statement}
 use Rattle.landing.proofs.effects.missed_approach.Tie as tie
 
 -- the field by its parts
-made : (f : Field) (r : Request) {a b d : Aircraft} {p : Progress} {fix next : ℕ} {g h x : Field} {s t : Sequence} → a ≡ aircraftAt f 12 1
-    → fix ≡ fixAfterMiss f a → p ≡ progressInto (6 + a .fix) → b ≡ withProgress a p → d ≡ withFix b fix → g ≡ headGone f 12
-    → h ≡ withZone g (6 + a .fix) (withTail (zoneOf g (6 + a .fix)) d) → s ≡ removed (f .sequence) (r .number) → t ≡ appended s (r .number) → next ≡ opposite fix
-    → x ≡ withSequence h t next → x ≡ missedApproach f r
+made : (f : Field) (r : Request) {a b d : Aircraft} {p : Progress} {fix next : ℕ} {g h x : Field} {s t : Sequence}
+    → a ≡ aircraftAt f 12 1 → fix ≡ fixAfterMiss f a → p ≡ progressInto (6 + a .fix) → b ≡ withProgress a p → d ≡ withFix b fix
+    → g ≡ headGone f 12 → h ≡ withZone g (6 + a .fix) (withTail (zoneOf g (6 + a .fix)) d)
+    → s ≡ removed (f .sequence) (r .number) → t ≡ appended s (r .number) → next ≡ opposite fix → x ≡ withSequence h t next → x ≡ missedApproach f r
 unfolding missedApproach
 made f r ea ef ep eb ed eg eh es et en ex = cc
 
@@ -65,7 +65,19 @@ returns : tie.Need-returns
 returns c =
     let a = c .before .before .before .before .before .before .before .before .before .before .before .before in
     let b = c .before .before .before .before .before .before .before in
-    made (a .before .args .f) (a .before .args .r) (a .aircraft-at .ensures) (b .before .before .before .fix-after-miss .ensures) (b .before .before .progress-into .ensures) (b .before .with-progress .ensures) (b .with-fix .ensures) (c .before .before .before .before .before .before .head-gone .ensures) (c .before .before .before .before .before .tail-put .ensures) (c .before .before .before .removed .ensures) (c .before .before .appended .ensures) (c .before .opposite .ensures) (c .with-sequence .ensures)
+    let d = c .before .before in
+    made (a .before .args .f) (a .before .args .r)
+    (a .aircraft-at .ensures)
+    (b .before .before .before .fix-after-miss .ensures)
+    (b .before .before .progress-into .ensures)
+    (b .before .with-progress .ensures)
+    (b .with-fix .ensures)
+    (d .before .before .before .before .head-gone .ensures)
+    (d .before .before .before .tail-put .ensures)
+    (d .before .removed .ensures)
+    (d .appended .ensures)
+    (c .before .opposite .ensures)
+    (c .with-sequence .ensures)
 
 pub missed-approach-spec : {M : Type 1} → statement M
 missed-approach-spec =

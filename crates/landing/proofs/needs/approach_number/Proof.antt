@@ -1,28 +1,32 @@
 -- `landing::needs::approach_number` meets its contract, need by need. Assumes nothing.
 use mathlib.Core.Path.{_≡_, sym, ap, _∙_}
-use Prim.Native.Nat.{ℕ}
 use mathlib.Core.Bool.{false}
+use Prim.Native.Nat.{ℕ}
 use Rattle.request.specs.Input.{within}
 use Rattle.field.specs.Boxes.{sideOf}
 use Rattle.field.proofs.Parts.{or-first, or-else, holds, fails}
-use Rattle.rules.specs.Kinds.{zoneBefore, baseFree, approachChecks}
-use Rattle.rules.proofs.Tests.{if-true, if-false}
-use Rattle.landing.proofs.Refused.{headThen, head-met, head-unmet}
+use Rattle.rules.specs.Kinds.{zoneBefore, baseFree, headChecks, approachChecks}
+use Rattle.field.proofs.Tests.{if-true, if-false}
+use Rattle.landing.proofs.Refused.{refusedOr, head-met, head-unmet}
 use borrow.Author.Needs.{needs}
 use Rattle.landing.proofs.needs.approach_number.Statement.{statement}
 use Rattle.landing.proofs.needs.approach_number.Tie as tie
 
 -- the needs of the head are met
-at-head : (c : tie.Else1) (x : ℕ) → headThen (c .before .before .args .f) (c .before .before .args .r) x ≡ x
+at-head : (c : tie.Else1) (x : ℕ)
+    → refusedOr (headChecks (c .before .before .args .f) (c .before .before .args .r)) x ≡ x
 at-head c x = head-met (c .before .before .args .f) (c .before .before .args .r) (c .before .head-number .ensures) (c .if1 .left) x
 
 -- the aircraft is in no lateral zone
-elsewhere : (c : tie.Else2) → within 5 6 (zoneBefore (c .before .before .before .before .before .args .f) (c .before .before .before .before .before .args .r)) ≡ false
+elsewhere : (c : tie.Else2)
+    → within 5 6 (zoneBefore (c .before .before .before .before .before .args .f) (c .before .before .before .before .before .args .r)) ≡ false
 elsewhere c = sym (c .before .is-lateral .ensures ∙ ap (within 5 6) (c .before .before .zone-before .ensures)) ∙ c .if2 .left
 
--- the test of the opposite base is that of the side of the aircraft's zone
-opposite-free : (c : tie.After-base-free) → c .base-free .result ≡ baseFree (c .before .before .before .before .before .before .before .before .before .args .f) (sideOf (zoneBefore (c .before .before .before .before .before .before .before .before .before .args .f) (c .before .before .before .before .before .before .before .before .before .args .r)))
-opposite-free c = cc
+-- the test of the opposite base goes by the side of its zone
+free : (c : tie.After-base-free)
+    → let a = c .before .before .before .before .before .before .before .before .before .args in
+    c .base-free .result ≡ baseFree (a .f) (sideOf (zoneBefore (a .f) (a .r)))
+free c = cc
 
 head-number-requires : tie.Need-head-number-requires
 head-number-requires c κs = search needs
@@ -41,7 +45,10 @@ returns-2 : tie.Need-returns-2
 unfolding approachChecks
 returns-2 c =
     let lateral = sym (c .before .is-lateral .ensures ∙ ap (within 5 6) (c .before .before .zone-before .ensures)) ∙ c .if2 .taken in
-    sym (at-head (c .before .before .before) _ ∙ if-true _ _ (or-first _ lateral) ∙ if-true _ _ (or-first _ lateral))
+    sym
+    (at-head (c .before .before .before) _
+    ∙ if-true _ _ (or-first _ lateral)
+    ∙ if-true _ _ (or-first _ lateral))
 
 may-approach-requires : tie.Need-may-approach-requires
 may-approach-requires c κs = search needs
@@ -50,7 +57,9 @@ returns-3 : tie.Need-returns-3
 unfolding approachChecks
 returns-3 c =
     let behind = or-else (elsewhere (c .before .before)) (fails (c .before .may-approach .ensures) (c .if3 .taken)) in
-    sym (at-head (c .before .before .before .before .before) _ ∙ if-false _ _ behind)
+    sym
+    (at-head (c .before .before .before .before .before) _
+    ∙ if-false _ _ behind)
 
 side-of-requires : tie.Need-side-of-requires
 side-of-requires c κs = search needs
@@ -63,14 +72,22 @@ unfolding approachChecks
 returns-4 c =
     let b = c .before .before .before .before .before in
     let next = or-else (elsewhere b) (holds (c .before .before .before .before .may-approach .ensures) (c .before .before .before .if3 .left)) in
-    sym (at-head (c .before .before .before .before .before .before .before .before) _ ∙ if-true _ _ next ∙ if-false _ _ (or-else (elsewhere b) (fails (opposite-free (c .before)) (c .if4 .taken))))
+    let crowded = or-else (elsewhere b) (fails (free (c .before)) (c .if4 .taken)) in
+    sym
+    (at-head (c .before .before .before .before .before .before .before .before) _
+    ∙ if-true _ _ next
+    ∙ if-false _ _ crowded)
 
 returns-5 : tie.Need-returns-5
 unfolding approachChecks
 returns-5 c =
     let b = c .before .before .before .before .before in
     let next = or-else (elsewhere b) (holds (c .before .before .before .before .may-approach .ensures) (c .before .before .before .if3 .left)) in
-    sym (at-head (c .before .before .before .before .before .before .before .before) _ ∙ if-true _ _ next ∙ if-true _ _ (or-else (elsewhere b) (holds (opposite-free (c .before)) (c .if4 .left))))
+    let uncrowded = or-else (elsewhere b) (holds (free (c .before)) (c .if4 .left)) in
+    sym
+    (at-head (c .before .before .before .before .before .before .before .before) _
+    ∙ if-true _ _ next
+    ∙ if-true _ _ uncrowded)
 
 pub approach-number-spec : {M : Type 1} → statement M
 approach-number-spec =

@@ -1,39 +1,11 @@
 -- `landing::needs::check_number` meets its contract, kind by kind. Assumes nothing.
-use mathlib.Core.Path.{_≡_, sym, ap, _∙_}
-use mathlib.Core.List.{List, []}
-use mathlib.Core.Bool.{Bool}
+use mathlib.Core.Path.{_≡_, sym, _∙_}
 use mathlib.Core.Logic.{inl, inr, ⊎-elim}
-use Prim.Native.Nat.{ℕ}
 use borrow.Author.Tests.{ne-eqb}
-use Rattle.request.specs.Input.{firstRefused}
-use Rattle.request.specs.declared.Request.{Request}
-use Rattle.field.specs.declared.Field.{Field}
-use Rattle.rules.specs.Kinds.{headChecks, verticalChecks, lateralChecks, descendChecks, approachChecks, mergeChecks, flownOutChecks, landChecks, exitChecks}
-use Rattle.rules.specs.Step.{byKind, checksOf}
+use Rattle.rules.specs.Step.{checksOf}
 use borrow.Author.Needs.{needs}
 use Rattle.landing.proofs.needs.check_number.Statement.{statement}
 use Rattle.landing.proofs.needs.check_number.Tie as tie
-
--- what a request of kind k needs
-abbrev checksFor : ℕ → Field → Request → List (ℕ × Bool)
-checksFor k f r =
-    byKind k
-    (verticalChecks f r)
-    (lateralChecks f r)
-    (descendChecks f r)
-    (approachChecks f r)
-    (mergeChecks f r)
-    (flownOutChecks f r)
-    (landChecks f r)
-    (headChecks f r)
-    (exitChecks f r)
-    (headChecks f r)
-    (flownOutChecks f r)
-    []
-
-of-kind : (f : Field) (r : Request) {k : ℕ} → r .kind ≡ k → firstRefused (checksOf f r) ≡ firstRefused (checksFor k f r)
-unfolding checksOf
-of-kind f r e = ap (λ (k : ℕ). firstRefused (checksFor k f r)) e
 
 vertical-number-requires : tie.Need-vertical-number-requires
 vertical-number-requires c κs = search needs
@@ -63,35 +35,44 @@ exit-number-requires : tie.Need-exit-number-requires
 exit-number-requires c κs = search needs
 
 returns : tie.Need-returns
-returns c = c .vertical-number .ensures ∙ sym (of-kind (c .before .before .args .f) (c .before .before .args .r) (c .before .match .keys1))
+unfolding checksOf
+returns c = c .vertical-number .ensures ∙ sym (simp (c .before .match .keys1))
 
 returns-2 : tie.Need-returns-2
-returns-2 c = c .lateral-number .ensures ∙ sym (of-kind (c .before .before .args .f) (c .before .before .args .r) (c .before .match .keys2))
+unfolding checksOf
+returns-2 c = c .lateral-number .ensures ∙ sym (simp (c .before .match .keys2))
 
 returns-3 : tie.Need-returns-3
-returns-3 c = c .descend-number .ensures ∙ sym (of-kind (c .before .before .args .f) (c .before .before .args .r) (c .before .match .keys3))
+unfolding checksOf
+returns-3 c = c .descend-number .ensures ∙ sym (simp (c .before .match .keys3))
 
 returns-4 : tie.Need-returns-4
-returns-4 c = c .approach-number .ensures ∙ sym (of-kind (c .before .before .args .f) (c .before .before .args .r) (c .before .match .keys4))
+unfolding checksOf
+returns-4 c = c .approach-number .ensures ∙ sym (simp (c .before .match .keys4))
 
 returns-5 : tie.Need-returns-5
-returns-5 c = c .merge-number .ensures ∙ sym (of-kind (c .before .before .args .f) (c .before .before .args .r) (c .before .match .keys5))
+unfolding checksOf
+returns-5 c = c .merge-number .ensures ∙ sym (simp (c .before .match .keys5))
 
 returns-6 : tie.Need-returns-6
+unfolding checksOf
 returns-6 c =
-    let a = c .before .before .args in
-    c .flown-out-number .ensures ∙ sym (⊎-elim (λ e. of-kind (a .f) (a .r) e) (λ e. of-kind (a .f) (a .r) e) (c .before .match .keys6))
+    let k = c .before .before .args .r .kind in
+    c .flown-out-number .ensures ∙ sym (⊎-elim (λ (e : k ≡ 6). simp e) (λ (e : k ≡ 11). simp e) (c .before .match .keys6))
 
 returns-7 : tie.Need-returns-7
-returns-7 c = c .land-number .ensures ∙ sym (of-kind (c .before .before .args .f) (c .before .before .args .r) (c .before .match .keys7))
+unfolding checksOf
+returns-7 c = c .land-number .ensures ∙ sym (simp (c .before .match .keys7))
 
 returns-8 : tie.Need-returns-8
+unfolding checksOf
 returns-8 c =
-    let a = c .before .before .args in
-    c .head-number .ensures ∙ sym (⊎-elim (λ e. of-kind (a .f) (a .r) e) (λ e. of-kind (a .f) (a .r) e) (c .before .match .keys8))
+    let k = c .before .before .args .r .kind in
+    c .head-number .ensures ∙ sym (⊎-elim (λ (e : k ≡ 8). simp e) (λ (e : k ≡ 10). simp e) (c .before .match .keys8))
 
 returns-9 : tie.Need-returns-9
-returns-9 c = c .exit-number .ensures ∙ sym (of-kind (c .before .before .args .f) (c .before .before .args .r) (c .before .match .keys9))
+unfolding checksOf
+returns-9 c = c .exit-number .ensures ∙ sym (simp (c .before .match .keys9))
 
 returns-10 : tie.Need-returns-10
 unfolding checksOf

@@ -1,20 +1,15 @@
 -- `landing::needs::descend_number` meets its contract, need by need. Assumes nothing.
-use mathlib.Core.Path.{_≡_, sym, ap, _∙_}
+use mathlib.Core.Path.{sym, ap, _∙_}
 use Prim.Native.Nat.{ℕ, _+_}
 use native.Mathlib.Omega.{arith}
 use Rattle.field.specs.Bounds.{isEmpty}
 use Rattle.field.proofs.Parts.{holds, fails}
 use Rattle.rules.specs.Kinds.{descendChecks}
-use Rattle.rules.proofs.Tests.{if-true, if-false}
-use Rattle.landing.proofs.Refused.{headThen, head-met, head-unmet}
-use Rattle.landing.proofs.Zones.{zone-below}
+use Rattle.landing.proofs.Refused.{head-then, head-unmet}
+use Rattle.landing.proofs.Starts.{zone-below}
 use borrow.Author.Needs.{needs}
 use Rattle.landing.proofs.needs.descend_number.Statement.{statement}
 use Rattle.landing.proofs.needs.descend_number.Tie as tie
-
--- the needs of the head are met
-at-head : (c : tie.Else1) (x : ℕ) → headThen (c .before .before .args .f) (c .before .before .args .r) x ≡ x
-at-head c x = head-met (c .before .before .args .f) (c .before .before .args .r) (c .before .head-number .ensures) (c .if1 .left) x
 
 head-number-requires : tie.Need-head-number-requires
 head-number-requires c κs = search needs
@@ -37,14 +32,18 @@ is-empty-requires c κs = search needs
 returns-2 : tie.Need-returns-2
 unfolding descendChecks
 returns-2 c =
-    let below = c .before .is-empty .ensures ∙ ap (λ (z : ℕ). isEmpty (c .before .before .before .before .before .args .f) (2 + z)) (c .before .before .zone-before .ensures) in
-    sym (at-head (c .before .before .before) _ ∙ if-false _ _ (fails below (c .if2 .taken)))
+    let a = c .before .before .before .before .before .args in
+    let below = c .before .is-empty .ensures ∙ ap (λ (z : ℕ). isEmpty (a .f) (2 + z)) (c .before .before .zone-before .ensures) in
+    sym (head-then (a .f) (a .r) (c .before .before .before .before .head-number .ensures) (c .before .before .before .if1 .left) 21
+    (fails below (c .if2 .taken)))
 
 returns-3 : tie.Need-returns-3
 unfolding descendChecks
 returns-3 c =
-    let below = c .before .is-empty .ensures ∙ ap (λ (z : ℕ). isEmpty (c .before .before .before .before .before .args .f) (2 + z)) (c .before .before .zone-before .ensures) in
-    sym (at-head (c .before .before .before) _ ∙ if-true _ _ (holds below (c .if2 .left)))
+    let a = c .before .before .before .before .before .args in
+    let below = c .before .is-empty .ensures ∙ ap (λ (z : ℕ). isEmpty (a .f) (2 + z)) (c .before .before .zone-before .ensures) in
+    sym (head-then (a .f) (a .r) (c .before .before .before .before .head-number .ensures) (c .before .before .before .if1 .left) 21
+    (holds below (c .if2 .left)))
 
 pub descend-number-spec : {M : Type 1} → statement M
 descend-number-spec =

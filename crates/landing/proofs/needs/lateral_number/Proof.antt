@@ -2,7 +2,7 @@
 use mathlib.Core.Path.{sym, _∙_}
 use Rattle.field.proofs.Parts.{is, is-not}
 use Rattle.rules.specs.Kinds.{lateralChecks}
-use Rattle.rules.proofs.Tests.{if-true, if-false}
+use Rattle.field.proofs.Tests.{if-true, if-false}
 use borrow.Author.Needs.{needs}
 use Rattle.landing.proofs.needs.lateral_number.Statement.{statement}
 use Rattle.landing.proofs.needs.lateral_number.Tie as tie

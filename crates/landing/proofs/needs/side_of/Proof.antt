@@ -2,7 +2,7 @@
 use mathlib.Core.Path.{sym}
 use borrow.Author.Tests.{eq-eqb, ne-eqb}
 use Rattle.field.specs.Boxes.{sideOf}
-use Rattle.rules.proofs.Tests.{if-true, if-false}
+use Rattle.field.proofs.Tests.{if-true, if-false}
 use Rattle.landing.proofs.needs.side_of.Statement.{statement}
 use Rattle.landing.proofs.needs.side_of.Tie as tie
 

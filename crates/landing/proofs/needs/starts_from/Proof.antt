@@ -6,14 +6,16 @@ use Prim.Native.Nat.{ℕ}
 use native.Mathlib.Omega.{arith}
 use borrow.Author.Tests.{ne-eqb}
 use Rattle.rules.specs.Kinds.{startsFrom}
-use Rattle.landing.proofs.Zones.{from-3000, from-2000-or-lateral, from-missed, from-base, past-the-last}
+use Rattle.landing.proofs.Starts.{from-3000, from-2000-or-lateral, from-missed, from-base, past-the-last}
 use Rattle.landing.proofs.needs.starts_from.Statement.{statement}
 use Rattle.landing.proofs.needs.starts_from.Tie as tie
 
 returns : tie.Need-returns
 unfolding startsFrom
 returns c =
-    sym (ap (startsFrom (c .before .before .args .kind)) (c .before .match .keys1) ∙ ⊎-elim (ap (λ (k : ℕ). startsFrom k 11)) (ap (λ (k : ℕ). startsFrom k 11)) (c .match2 .keys1))
+    sym
+    (ap (startsFrom (c .before .before .args .kind)) (c .before .match .keys1)
+    ∙ ⊎-elim (ap (λ (k : ℕ). startsFrom k 11)) (ap (λ (k : ℕ). startsFrom k 11)) (c .match2 .keys1))
 
 returns-2 : tie.Need-returns-2
 unfolding startsFrom
@@ -25,7 +27,9 @@ returns-2 c =
 returns-3 : tie.Need-returns-3
 unfolding startsFrom
 returns-3 c =
-    sym (ap (startsFrom (c .before .before .args .kind)) (c .before .match .keys2) ∙ ⊎-elim (ap (λ (k : ℕ). startsFrom k 12)) (ap (λ (k : ℕ). startsFrom k 12)) (c .match3 .keys1))
+    sym
+    (ap (startsFrom (c .before .before .args .kind)) (c .before .match .keys2)
+    ∙ ⊎-elim (ap (λ (k : ℕ). startsFrom k 12)) (ap (λ (k : ℕ). startsFrom k 12)) (c .match3 .keys1))
 
 returns-4 : tie.Need-returns-4
 unfolding startsFrom

@@ -5,10 +5,10 @@ use Prim.Native.Nat.{ℕ, _≤_, _<_}
 use native.Mathlib.Omega.{arith}
 use lib.Dec.{eqb, ltb}
 use borrow.Author.Tests.{lt-ltb, le-ltb}
-use Rattle.field.specs.Counts.{approachHolds, potentialOf}
-use Rattle.field.proofs.Parts.{is, is-not, holds, fails}
+use Rattle.field.specs.Counts.{potentialOf}
+use Rattle.field.proofs.Parts.{is, is-not}
 use Rattle.rules.specs.Kinds.{zoneBefore, verticalChecks}
-use Rattle.rules.proofs.Tests.{if-true, if-false}
+use Rattle.field.proofs.Tests.{if-true, if-false}
 use borrow.Author.Needs.{needs}
 use Rattle.landing.proofs.needs.vertical_number.Statement.{statement}
 use Rattle.landing.proofs.needs.vertical_number.Tie as tie
@@ -27,9 +27,6 @@ absent c = is (c .before .zone-before .ensures) (c .if1 .left)
 room : (c : tie.Else2) → ltb (potentialOf (c .before .before .before .before .args .f) (c .before .before .before .before .args .r .side)) 2 ≡ true
 room c = under (c .before .potential-of .ensures) (c .if2 .left)
 
-unheld : (c : tie.Else3) → not (approachHolds (c .before .before .before .before .before .before .args .f) (c .before .before .before .before .before .before .args .r .side)) ≡ true
-unheld c = ap not (sym (c .before .approach-holds .ensures) ∙ c .if3 .left)
-
 zone-before-requires : tie.Need-zone-before-requires
 zone-before-requires c κs = search needs
 
@@ -42,8 +39,7 @@ potential-of-requires c κs = search needs
 
 returns-2 : tie.Need-returns-2
 unfolding verticalChecks
-returns-2 c =
-    sym (if-true _ _ (absent (c .before .before)) ∙ if-false _ _ (full (c .before .potential-of .ensures) (c .if2 .taken)))
+returns-2 c = sym (if-true _ _ (absent (c .before .before)) ∙ if-false _ _ (full (c .before .potential-of .ensures) (c .if2 .taken)))
 
 approach-holds-requires : tie.Need-approach-holds-requires
 approach-holds-requires c κs = search needs
@@ -54,47 +50,15 @@ returns-3 c =
     let kept = ap not (sym (c .before .approach-holds .ensures) ∙ c .if3 .taken) in
     sym (if-true _ _ (absent (c .before .before .before .before)) ∙ if-true _ _ (room (c .before .before)) ∙ if-false _ _ kept)
 
-cast-side : tie.Need-cast-side
-cast-side c = search needs
-
-add-is-empty : tie.Need-add-is-empty
-add-is-empty c = search needs
-
-is-empty-requires : tie.Need-is-empty-requires
-is-empty-requires c κs = search needs
+side-number-requires : tie.Need-side-number-requires
+side-number-requires c κs = search needs
 
 returns-4 : tie.Need-returns-4
 unfolding verticalChecks
-returns-4 c = sym (if-true _ _ (absent (c .before .before .before .before .before .before .before)) ∙ if-true _ _ (room (c .before .before .before .before .before)) ∙ if-true _ _ (unheld (c .before .before .before)) ∙ if-false _ _ (fails (c .before .is-empty .ensures) (c .if4 .taken)))
-
-add-is-empty-2 : tie.Need-add-is-empty-2
-add-is-empty-2 c = search needs
-
-is-empty-requires-2 : tie.Need-is-empty-requires-2
-is-empty-requires-2 c κs = search needs
-
-returns-5 : tie.Need-returns-5
-unfolding verticalChecks
-returns-5 c =
-    let first = holds (c .before .before .before .is-empty .ensures) (c .before .before .if4 .left) in
-    sym (if-true _ _ (absent (c .before .before .before .before .before .before .before .before .before)) ∙ if-true _ _ (room (c .before .before .before .before .before .before .before)) ∙ if-true _ _ (unheld (c .before .before .before .before .before)) ∙ if-true _ _ first ∙ if-false _ _ (fails (c .before .is-empty2 .ensures) (c .if5 .taken)))
-
-is-empty-requires-3 : tie.Need-is-empty-requires-3
-is-empty-requires-3 c κs = search needs
-
-returns-6 : tie.Need-returns-6
-unfolding verticalChecks
-returns-6 c =
-    let first = holds (c .before .before .before .before .before .is-empty .ensures) (c .before .before .before .before .if4 .left) in
-    let second = holds (c .before .before .before .is-empty2 .ensures) (c .before .before .if5 .left) in
-    sym (if-true _ _ (absent (c .before .before .before .before .before .before .before .before .before .before .before)) ∙ if-true _ _ (room (c .before .before .before .before .before .before .before .before .before)) ∙ if-true _ _ (unheld (c .before .before .before .before .before .before .before)) ∙ if-true _ _ first ∙ if-true _ _ second ∙ if-false _ _ (fails (c .before .is-empty3 .ensures) (c .if6 .taken)))
-
-returns-7 : tie.Need-returns-7
-unfolding verticalChecks
-returns-7 c =
-    let first = holds (c .before .before .before .before .before .is-empty .ensures) (c .before .before .before .before .if4 .left) in
-    let second = holds (c .before .before .before .is-empty2 .ensures) (c .before .before .if5 .left) in
-    sym (if-true _ _ (absent (c .before .before .before .before .before .before .before .before .before .before .before)) ∙ if-true _ _ (room (c .before .before .before .before .before .before .before .before .before)) ∙ if-true _ _ (unheld (c .before .before .before .before .before .before .before)) ∙ if-true _ _ first ∙ if-true _ _ second ∙ if-true _ _ (holds (c .before .is-empty3 .ensures) (c .if6 .left)))
+returns-4 c =
+    let b = c .before .before in
+    let unkept = ap not (sym (b .approach-holds .ensures) ∙ c .before .if3 .left) in
+    c .side-number .ensures ∙ sym (if-true _ _ (absent (b .before .before .before)) ∙ if-true _ _ (room (b .before)) ∙ if-true _ _ unkept)
 
 pub vertical-number-spec : {M : Type 1} → statement M
 vertical-number-spec =
@@ -106,13 +70,5 @@ vertical-number-spec =
     returns-2
     approach-holds-requires
     returns-3
-    cast-side
-    add-is-empty
-    is-empty-requires
-    returns-4
-    add-is-empty-2
-    is-empty-requires-2
-    returns-5
-    is-empty-requires-3
-    returns-6
-    returns-7)
+    side-number-requires
+    returns-4)

@@ -1,0 +1,15 @@
+// Document 01's zones by number. Those of a side are these plus the side; a holding at 3000 has the side's own number.
+pub const AT_2000: usize = 2;
+
+pub const LATERAL: usize = 4;
+
+pub const MISSED: usize = 6;
+
+pub const BASE: usize = 8;
+
+// Those of neither side.
+pub const INTERMEDIATE: usize = 11;
+
+pub const FINAL: usize = 12;
+
+pub const RUNWAY: usize = 13;

@@ -1,0 +1,48 @@
+-- The examples of docs/WHY-SAFE.md hold of the definitions, by computation. Assumes nothing.
+use mathlib.Core.Path.{refl}
+use lib.Dec.{T}
+use lib.Ieee.{add, mul, div, ofInt, round, lt, le, eq}
+use Rattle.leg.specs.Progress.{advanced}
+use Rattle.request.specs.Input.{kindAllowed, sideAllowed, numberAllowed, amountAllowed, inputNumber}
+use Rattle.field.specs.Boxes.{isSide, sideOf, opposite, isFlyingZone, zoneOf, queueOf, inZone, orderOf, progressInto, entering, withProgress, withFix, legOf, flownOutIn, emptyField}
+use Rattle.field.specs.Counts.{howMany, howManyWithFix, inOperation, inArea, perFix, approachHolds, countedFor, potentialOf}
+use Rattle.field.specs.Find.{findIn, placeOf, aircraftAt, fixOf, isFirst, leaderOf, leaderZone}
+use Rattle.field.specs.Bounds.{every, boundA, boundB, lateralRule, boundC, boundD, numbersDiffer, sequenceExact, finalFirst, isNobody, zoneKept, sequenceKept, boundE, boundF, fitsZone, legalLegs, boundG, withinBounds}
+use Rattle.field.specs.Edits.{withoutHead, withTail, appended, removed, withZone, withSequence, tickedAircraft, tickedZone, ticked}
+use Rattle.rules.specs.Kinds.{startsFrom, mayApproach, baseFree, verticalChecks, lateralChecks, descendChecks, approachChecks, mergeChecks, flownOutChecks, landChecks, exitChecks, moved, headGone, outOfSequence, fixTaken, entered, approached, landed, exited, fixAfterMiss, missedApproach, held, heldAlong}
+use Rattle.rules.specs.Step.{checksOf, effectOf, numberOf, numberAndZeros, acceptance, answerOf, stepOf}
+use Rattle.rules.specs.Cases.{caseHolds}
+use Rattle.rules.specs.Reason.{along, approachOrder, areaOrder, roomToMiss, lateralEntry, QueueAgrees}
+use Rattle.rules.specs.Examples.{examples, crowded, missOfSeven, BoundsNotEnough}
+use Rattle.rules.proofs.AlongLine.{each-operation}
+
+-- the three aircraft
+pub examples-hold : T (every caseHolds examples)
+unfolding
+    advanced kindAllowed sideAllowed numberAllowed amountAllowed inputNumber isSide opposite isFlyingZone zoneOf queueOf inZone orderOf progressInto entering
+    withProgress withFix legOf flownOutIn emptyField howMany howManyWithFix inOperation inArea perFix approachHolds countedFor potentialOf findIn placeOf
+    aircraftAt fixOf isFirst leaderOf leaderZone boundA boundB lateralRule boundC boundD numbersDiffer sequenceExact finalFirst isNobody zoneKept sequenceKept
+    boundE boundF fitsZone legalLegs boundG withinBounds withoutHead withTail appended removed withZone withSequence tickedAircraft tickedZone ticked sideOf
+    startsFrom mayApproach baseFree verticalChecks lateralChecks descendChecks approachChecks mergeChecks flownOutChecks landChecks exitChecks moved headGone
+    outOfSequence fixTaken entered approached landed exited fixAfterMiss missedApproach held heldAlong checksOf effectOf numberOf numberAndZeros acceptance
+    answerOf stepOf
+    add mul div ofInt round lt le eq along roomToMiss
+examples-hold = tt
+
+-- the bounds alone are not enough
+pub bounds-not-enough : BoundsNotEnough crowded missOfSeven
+unfolding
+    kindAllowed sideAllowed numberAllowed amountAllowed inputNumber isSide sideOf opposite isFlyingZone zoneOf queueOf inZone orderOf progressInto entering
+    withProgress withFix legOf howMany howManyWithFix inOperation inArea perFix findIn placeOf aircraftAt fixOf isFirst boundA boundB lateralRule boundC boundD
+    numbersDiffer sequenceExact finalFirst isNobody zoneKept sequenceKept boundE boundF fitsZone legalLegs boundG withinBounds withoutHead withTail appended
+    removed withZone withSequence startsFrom headGone fixAfterMiss missedApproach checksOf effectOf numberOf numberAndZeros stepOf along approachOrder areaOrder
+    roomToMiss lateralEntry
+    add mul div ofInt round lt le eq
+bounds-not-enough =
+    record {
+      within-bounds = tt;
+      other-parts = tt;
+      queues-agree = each-operation (QueueAgrees crowded) (refl, refl, refl, refl, refl, refl, refl, refl, refl, refl, refl, refl);
+      no-room = refl;
+      answer-25 = refl;
+    }

@@ -1,0 +1,87 @@
+-- The examples of docs/WHY-SAFE.md: requests from the empty field, and a field within the bounds that no list of requests reaches.
+use mathlib.Core.Path.{_≡_}
+use mathlib.Core.Bool.{false, _&&_}
+use mathlib.Core.List.{List, [], _∷_}
+use Prim.Native.Nat.{ℕ}
+use lib.Dec.{T}
+use Rattle.request.specs.Input.{within}
+use Rattle.request.specs.declared.Request.{Request}
+use Rattle.field.specs.declared.Aircraft.{Aircraft}
+use Rattle.field.specs.declared.Zone.{Zone}
+use Rattle.field.specs.declared.Field.{Field}
+use Rattle.field.specs.Boxes.{right, left, finalApproach, nobody, emptyZone, entering, withProgress, progressInto}
+use Rattle.field.specs.Bounds.{withinBounds}
+use Rattle.rules.specs.Step.{numberAndZeros, stepOf}
+use Rattle.rules.specs.Cases.{ask, says, allLegs, Case, anyField, inOrder, stands, toBase, toFinal}
+use Rattle.rules.specs.Reason.{approachOrder, areaOrder, roomToMiss, lateralEntry, QueueAgrees}
+
+-- ---- three aircraft
+
+-- 7 enters right with fix 1; 8 enters left with fix 2 and descends; 9 enters left behind it with fix 1; 7 goes on to final
+abbrev pub sevenOnFinal : List Request → List Request
+sevenOnFinal rest = ask 1 1 7 64 ∷ ask 1 2 8 64 ∷ ask 3 0 8 0 ∷ ask 1 2 9 64 ∷ toBase 7 (toFinal 7 rest)
+
+abbrev pub examples : List Case
+examples =
+    -- 7 misses: to the right, its old fix, with the next fix, 2, and last; now each of the three has one behind it in the area of its fix,
+    -- or one ahead of it with the same fix
+    record {
+      leg = 64;
+      requests = sevenOnFinal (ask 10 0 7 0 ∷ []);
+      answer = says 7 7 2 9 0;
+      after = λ f. inOrder (8 ∷ 9 ∷ 7 ∷ []) f && stands 8 4 f && stands 9 2 f && roomToMiss f;
+    }
+    -- before that nobody may enter right: 7 and 9 have that fix
+    ∷ record { leg = 64; requests = sevenOnFinal (ask 1 1 10 64 ∷ []); answer = numberAndZeros 16; after = anyField }
+    -- 7 lands: out of the sequence, with its fix and no leader
+    ∷ record { leg = 64; requests = sevenOnFinal (ask 12 0 0 64 ∷ ask 7 0 7 0 ∷ []); answer = says 7 13 1 0 0; after = inOrder (8 ∷ 9 ∷ []) }
+    -- 8 may not merge before its leader on base
+    ∷ record {
+      leg = 64;
+      requests = ask 1 1 7 64 ∷ ask 1 2 8 64 ∷ toBase 7 (toBase 8 (ask 12 0 0 64 ∷ ask 5 0 8 0 ∷ []));
+      answer = numberAndZeros 22;
+      after = anyField;
+    }
+    ∷ []
+
+-- ---- the bounds alone are not enough
+
+-- a queue of one
+abbrev pub onlyOne : Aircraft → Zone
+onlyOne a = record { aircraft = a ∷ nobody ∷ nobody ∷ nobody ∷ []; length = 1 }
+
+-- 7 on final with fix 1, behind it 8 at 2000 right with fix 2, and last 9 at 3000 right with fix 1
+abbrev pub crowded : Field
+crowded =
+    record {
+      zones =
+          onlyOne (entering 9 right 64)
+          ∷ emptyZone
+          ∷ onlyOne (entering 8 left 64)
+          ∷ emptyZone
+          ∷ emptyZone
+          ∷ emptyZone
+          ∷ emptyZone
+          ∷ emptyZone
+          ∷ emptyZone
+          ∷ emptyZone
+          ∷ emptyZone
+          ∷ onlyOne (withProgress (entering 7 right 64) (progressInto finalApproach))
+          ∷ emptyZone
+          ∷ [];
+      sequence = record { numbers = 7 ∷ 8 ∷ 9 ∷ 0 ∷ []; length = 3 };
+      next = left;
+      legs = allLegs 64;
+    }
+
+-- 7 misses
+abbrev pub missOfSeven : Request
+missOfSeven = ask 10 0 7 0
+
+-- a field within the bounds, with every part of the reason but room to miss, and a request on it that 25 refuses
+pub record BoundsNotEnough (f : Field) (r : Request) : Type 0 where
+  pub within-bounds : T (withinBounds f)
+  pub other-parts : T (approachOrder f && areaOrder f right && areaOrder f left && lateralEntry f)
+  pub queues-agree : (zone : ℕ) → T (within 1 12 zone) → QueueAgrees f zone
+  pub no-room : roomToMiss f ≡ false
+  pub answer-25 : stepOf f r .answer .number ≡ 25

@@ -1,0 +1,71 @@
+//! The numbers by which a file or a request is turned away.
+
+/// Why a practice file is not played.
+#[derive(Clone, Copy, Debug, PartialEq, Eq)]
+pub enum FileRefusal {
+    SizeOrLetters,
+    Contents,
+    Leg,
+}
+
+impl FileRefusal {
+    pub fn number(self) -> u8 {
+        match self {
+            FileRefusal::SizeOrLetters => 5,
+            FileRefusal::Contents => 6,
+            FileRefusal::Leg => 7,
+        }
+    }
+}
+
+/// Why a request is not accepted.
+#[derive(Clone, Copy, Debug, PartialEq, Eq)]
+pub enum Refusal {
+    Kind,
+    Side,
+    Number,
+    Amount,
+    FieldBreaksBound,
+    AlreadyPresent,
+    NotOnField,
+    WrongZone,
+    NotAtHead,
+    LegNotFlownOut,
+    Potential,
+    ApproachHoldsFix,
+    MissedOccupied,
+    LateralOccupied,
+    Holding3Occupied,
+    Holding2Occupied,
+    SequenceOrLeader,
+    OppositeBase,
+    RunwayOccupied,
+    StepBreaksBound,
+}
+
+impl Refusal {
+    pub fn number(self) -> u8 {
+        match self {
+            Refusal::Kind => 1,
+            Refusal::Side => 2,
+            Refusal::Number => 3,
+            Refusal::Amount => 4,
+            Refusal::FieldBreaksBound => 10,
+            Refusal::AlreadyPresent => 11,
+            Refusal::NotOnField => 12,
+            Refusal::WrongZone => 13,
+            Refusal::NotAtHead => 14,
+            Refusal::LegNotFlownOut => 15,
+            Refusal::Potential => 16,
+            Refusal::ApproachHoldsFix => 17,
+            Refusal::MissedOccupied => 18,
+            Refusal::LateralOccupied => 19,
+            Refusal::Holding3Occupied => 20,
+            Refusal::Holding2Occupied => 21,
+            Refusal::SequenceOrLeader => 22,
+            Refusal::OppositeBase => 23,
+            Refusal::RunwayOccupied => 24,
+            Refusal::StepBreaksBound => 25,
+        }
+    }
+}

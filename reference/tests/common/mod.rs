@@ -1,0 +1,53 @@
+//! Fields and requests for the tests.
+#![allow(dead_code)]
+
+use reference::{Answer, Field, Legs, PracticeFile, Progress, Refusal, Request};
+
+pub fn empty() -> Field {
+    Field::empty(Legs::from_64ths([64; 4]))
+}
+
+pub fn ask(field: &mut Field, kind: u8, side: u8, number: u16, amount: u16) -> Result<Answer, Refusal> {
+    field.step(&Request::new(kind, side, number, amount))
+}
+
+/// Asks and gives the answer as the six numbers of a report line.
+pub fn line(field: &mut Field, kind: u8, side: u8, number: u16, amount: u16) -> [u16; 6] {
+    match ask(field, kind, side, number, amount) {
+        Ok(a) => [0, a.aircraft, a.zone.into(), a.fix.into(), a.leader, a.along],
+        Err(refusal) => [refusal.number().into(), 0, 0, 0, 0, 0],
+    }
+}
+
+pub fn refused(number: u16) -> [u16; 6] {
+    [number, 0, 0, 0, 0, 0]
+}
+
+/// Plays requests that must all be accepted.
+pub fn play(field: &mut Field, requests: &[(u8, u8, u16, u16)]) {
+    for &(kind, side, number, amount) in requests {
+        let answer = ask(field, kind, side, number, amount);
+        assert!(answer.is_ok(), "{kind} {side} {number} {amount}: {answer:?}");
+    }
+}
+
+/// From 2000 or lateral to final, a leg of one mile at a mile a minute each.
+pub fn to_final(field: &mut Field, number: u16) {
+    play(field, &[(4, 0, number, 0), (12, 0, 0, 64), (5, 0, number, 0), (12, 0, 0, 64), (6, 0, number, 0)]);
+}
+
+pub fn miles(field: &Field, number: u16) -> f64 {
+    match field.find(number).expect("on the field").1.progress {
+        Progress::Flying(miles) => miles,
+        Progress::Waiting => panic!("{number} is waiting"),
+    }
+}
+
+pub fn file(legs_64ths: [u16; 4], requests: &[(u8, u8, u16, u16)]) -> Vec<u8> {
+    let requests = requests.iter().map(|&(k, s, n, a)| Request::new(k, s, n, a)).collect();
+    PracticeFile { legs_64ths, requests }.to_bytes()
+}
+
+pub fn report(file: &[u8]) -> String {
+    String::from_utf8(reference::report(file)).expect("ASCII")
+}

@@ -1,0 +1,57 @@
+//! The proved library, called as C calls it.
+
+extern "C" {
+    /// A `&[u8]` as pointer and length, and the buffer as a pointer.
+    fn baguymo_report(file: *const u8, length: usize, out: *mut u8) -> usize;
+}
+
+/// Bytes of the buffer that the library is lent.
+pub const ROOM: usize = 131_072;
+
+pub type Buffer = [u8; ROOM];
+
+/// Plays a file into a buffer, and yields the length of the report.
+pub fn report_into(file: &[u8], out: &mut Buffer) -> usize {
+    // SAFETY: both pointers are valid for the lengths that the library's signature states.
+    unsafe { baguymo_report(file.as_ptr(), file.len(), out.as_mut_ptr()) }
+}
+
+/// Bytes before and after the buffer that must stay as they are.
+const MARGIN: usize = 4096;
+
+/// A buffer with a margin on both sides.
+pub struct Library {
+    memory: Vec<u8>,
+    fill: u8,
+}
+
+impl Default for Library {
+    fn default() -> Library {
+        Library { memory: vec![0; MARGIN + ROOM + MARGIN], fill: 0 }
+    }
+}
+
+impl Library {
+    /// The report of a file, or what else the library wrote than a report.
+    /// What the buffer holds before is another byte each time.
+    pub fn report(&mut self, file: &[u8]) -> Result<&[u8], String> {
+        self.fill = self.fill.wrapping_add(101);
+        self.memory.fill(self.fill);
+        let buffer = &mut self.memory[MARGIN..MARGIN + ROOM];
+        let length = report_into(file, buffer.try_into().expect("the buffer's length"));
+        if length > ROOM {
+            return Err(format!("says that its report has {length} bytes"));
+        }
+        let (before, rest) = self.memory.split_at(MARGIN);
+        let (report, after) = rest.split_at(length);
+        if !all_are(before, self.fill) || !all_are(after, self.fill) {
+            return Err(String::from("wrote outside its report"));
+        }
+        Ok(report)
+    }
+}
+
+/// Whether all bytes are this one. No branch for each of them, so that it is fast.
+fn all_are(bytes: &[u8], byte: u8) -> bool {
+    bytes.iter().fold(0, |differing, &other| differing | (other ^ byte)) == 0
+}

@@ -1,0 +1,118 @@
+//! Plays many practice files by the proved library and by the reference:
+//! comparison [SEED [COUNT]], COUNT random sessions. The last line says how
+//! many files were compared, and the verdict.
+
+use comparison::dice::Dice;
+use comparison::difference::{readable, same_report};
+use comparison::library::Library;
+use comparison::table::Table;
+use comparison::{damaged, fields, sessions};
+use std::path::Path;
+use std::process::ExitCode;
+use std::{env, fs};
+
+const SEED: u64 = 1;
+const COUNT: usize = 20_000;
+
+#[derive(Default)]
+struct Comparison {
+    library: Library,
+    compared: usize,
+    /// How often a file was played, and refused 5, 6 and 7.
+    played: usize,
+    refused: [usize; 3],
+}
+
+impl Comparison {
+    /// The report of one file. A difference is an error.
+    fn file(&mut self, file: &[u8]) -> Result<Vec<u8>, String> {
+        self.compared += 1;
+        let Ok(report) = same_report(&mut self.library, file) else {
+            return Err(format!("file {} differs:\n{}", self.compared, readable(&mut self.library, file)));
+        };
+        match report.strip_prefix(b"file ") {
+            None => self.played += 1,
+            Some(number) => self.refused[usize::from(number[0] - b'5')] += 1,
+        }
+        Ok(report)
+    }
+
+    fn files(&mut self, what: &str, files: impl IntoIterator<Item = Vec<u8>>) -> Result<(), String> {
+        let before = self.compared;
+        for file in files {
+            self.file(&file)?;
+        }
+        println!("{what}: {} files", self.compared - before);
+        Ok(())
+    }
+
+    /// Random sessions, and the table of their answers. Its faults are an error.
+    fn sessions(&mut self, dice: &mut Dice, count: usize) -> Result<(), String> {
+        let mut table = Table::default();
+        for _ in 0..count {
+            let file = sessions::session(dice);
+            let report = self.file(&file)?;
+            table.count(&file, &report);
+        }
+        println!("random sessions: {count} files, {} requests, answered so often:", table.requests);
+        print!("{table}");
+        match table.faults() {
+            faults if faults.is_empty() => Ok(()),
+            faults => Err(faults.join("\n") + "\n"),
+        }
+    }
+}
+
+/// The files beside the stored sessions.
+fn stored() -> Vec<Vec<u8>> {
+    let folder = Path::new(env!("CARGO_MANIFEST_DIR")).join("../../crates/cases/data");
+    let mut paths: Vec<_> = fs::read_dir(folder)
+        .expect("the stored sessions")
+        .map(|entry| entry.expect("entry").path())
+        .collect();
+    paths.retain(|path| path.extension().is_some_and(|extension| extension == "scap"));
+    paths.sort();
+    assert!(!paths.is_empty(), "no stored sessions");
+    paths.iter().map(|path| fs::read(path).expect("a stored session")).collect()
+}
+
+fn all(comparison: &mut Comparison, seed: u64, count: usize) -> Result<(), String> {
+    let mut dice = Dice::new(seed);
+    comparison.files("stored sessions", stored())?;
+    comparison.files("damaged files", damaged::files(&mut dice))?;
+    comparison.files("random bytes", (0..count).map(|_| damaged::random(&mut dice)))?;
+    let (fields, files) = fields::files();
+    comparison.files(&format!("the {fields} reachable fields, numbers and miles aside"), files)?;
+    comparison.sessions(&mut dice, count)?;
+    let Comparison { played, refused: [five, six, seven], .. } = *comparison;
+    println!("{played} files played, {five} refused 5, {six} refused 6, {seven} refused 7");
+    if [played, five, six, seven].contains(&0) {
+        return Err(String::from("one of these never came\n"));
+    }
+    Ok(())
+}
+
+fn argument<T: std::str::FromStr>(place: usize, default: T) -> T {
+    match env::args().nth(place) {
+        Some(word) => word.parse().unwrap_or_else(|_| panic!("not a number: {word}")),
+        None => default,
+    }
+}
+
+fn main() -> ExitCode {
+    let (seed, count) = (argument(1, SEED), argument(2, COUNT));
+    let mut comparison = Comparison::default();
+    let outcome = all(&mut comparison, seed, count);
+    let compared = comparison.compared;
+    match outcome {
+        Ok(()) => {
+            println!("compare: {compared} files compared (seed {seed}), every report the same");
+            ExitCode::SUCCESS
+        }
+        Err(fault) => {
+            print!("{fault}");
+            println!("compare: FAILED after {compared} files (seed {seed})");
+            ExitCode::FAILURE
+        }
+    }
+}

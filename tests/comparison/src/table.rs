@@ -1,0 +1,90 @@
+//! How often each number was answered for each kind.
+
+use reference::PracticeFile;
+use std::fmt;
+
+/// Every number that a request can be answered with; 10 and 25 are not reachable from an empty field.
+const NUMBERS: [u8; 21] = [0, 1, 2, 3, 4, 10, 11, 12, 13, 14, 15, 16, 17, 18, 19, 20, 21, 22, 23, 24, 25];
+
+/// What can be answered to a kind from an empty field; kind 0 stands for every other than 1 to 12.
+fn reachable(kind: u8) -> &'static [u8] {
+    match kind {
+        0 => &[1],
+        1 => &[0, 2, 3, 4, 11, 16, 17, 18, 19, 20],
+        2 => &[0, 2, 3, 4, 11, 16],
+        3 => &[0, 2, 3, 4, 12, 13, 21],
+        4 => &[0, 2, 3, 4, 12, 13, 22, 23],
+        5 => &[0, 2, 3, 4, 12, 13, 14, 15, 22],
+        6 | 11 => &[0, 2, 3, 4, 12, 13, 14, 15],
+        7 => &[0, 2, 3, 4, 12, 13, 14, 15, 24],
+        8 => &[0, 2, 3, 4, 12, 13],
+        9 => &[0, 2, 3, 4, 12, 13, 14, 22],
+        10 => &[0, 2, 3, 4, 12, 13, 14],
+        _ => &[0, 2, 3, 4],
+    }
+}
+
+/// Counts by kind, 0 to 12, and number.
+#[derive(Default)]
+pub struct Table {
+    counts: [[usize; 26]; 13],
+    pub requests: usize,
+}
+
+impl Table {
+    /// Counts the answers of a report to a file.
+    pub fn count(&mut self, file: &[u8], report: &[u8]) {
+        let Ok(practice) = PracticeFile::read(file) else { return };
+        for (request, line) in practice.requests.iter().zip(report.split(|&byte| byte == b'\n')) {
+            let kind = if request.kind <= 12 { request.kind } else { 0 };
+            self.counts[usize::from(kind)][answered(line)] += 1;
+            self.requests += 1;
+        }
+    }
+
+    /// What should have come and did not, and what came and should not.
+    pub fn faults(&self) -> Vec<String> {
+        let mut faults = Vec::new();
+        for kind in 0..=12 {
+            for number in NUMBERS {
+                let came = self.counts[usize::from(kind)][usize::from(number)] > 0;
+                match (reachable(kind).contains(&number), came) {
+                    (true, false) => faults.push(format!("kind {kind} was never answered {number}")),
+                    (false, true) => faults.push(format!("kind {kind} was answered {number}")),
+                    _ => {}
+                }
+            }
+        }
+        faults
+    }
+}
+
+/// The number in a line: its second one.
+fn answered(line: &[u8]) -> usize {
+    let word = line.split(|&byte| byte == b' ').nth(1).unwrap_or_default();
+    word.iter().fold(0, |number, digit| 10 * number + usize::from(digit - b'0'))
+}
+
+impl fmt::Display for Table {
+    /// A row for each number, a column for each kind; a dash where a number cannot come.
+    fn fmt(&self, f: &mut fmt::Formatter) -> fmt::Result {
+        write!(f, "number")?;
+        for kind in 1..=12 {
+            write!(f, "{:>9}", format!("kind {kind}"))?;
+        }
+        writeln!(f, "    other")?;
+        for number in NUMBERS {
+            write!(f, "{number:>6}")?;
+            for kind in (1..=12).chain([0]) {
+                let count = self.counts[usize::from(kind)][usize::from(number)];
+                if count == 0 && !reachable(kind).contains(&number) {
+                    write!(f, "        -")?;
+                } else {
+                    write!(f, "{count:>9}")?;
+                }
+            }
+            writeln!(f)?;
+        }
+        Ok(())
+    }
+}

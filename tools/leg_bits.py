@@ -1,0 +1,90 @@
+#!/usr/bin/env python3
+"""Writes what the program crate leg_bits must write: crates/leg_bits/stdout.
+
+The arithmetic is IEEE 754's binary64 over exact fractions: every result is the exact one, rounded once to nearest,
+ties to even. No float of the machine takes part.
+
+    tools/leg_bits.py > crates/leg_bits/stdout
+"""
+from fractions import Fraction
+
+SIGNIFICAND_BITS = 53
+LEAST_EXPONENT = -1074
+
+SPEEDS = (1, 2, 3, 63, 64, 65, 127, 255, 256, 333, 511, 512)
+WHOLE_LEGS = (1, 63, 64, 100, 4095, 4096)
+OTHER_LEGS = ("0.015625000000000003", "0.1", "0.3333333333333333", "2.7182818284590451", "63.99999999999999", "32.1",
+              "7.8500000000000005")
+AMOUNTS = ((1,) * 4, (2,) * 4, (3,) * 4, (31,) * 4, (63,) * 4, (64,) * 4, (64, 1, 31, 3))
+STARTS = ("0.0", "0.1", "1e-9", "1.1102230246251568e-16")
+
+
+def unit(exact):
+    """The exponent of the last place of the float nearest to a positive fraction."""
+    exponent = exact.numerator.bit_length() - exact.denominator.bit_length() - SIGNIFICAND_BITS
+    while exact >= Fraction(2) ** (exponent + SIGNIFICAND_BITS):
+        exponent += 1
+    return max(exponent, LEAST_EXPONENT)
+
+
+def rounded(exact):
+    """The float nearest to a fraction that is not negative, ties to even."""
+    if exact == 0:
+        return exact
+    place = Fraction(2) ** unit(exact)
+    count, rest = divmod(exact, place)
+    if 2 * rest > place or (2 * rest == place and count % 2 == 1):
+        count += 1
+    return count * place
+
+
+def bits(value):
+    """The bit pattern of a float that is not negative, as 16 hexadecimal digits."""
+    if value == 0:
+        return "%016x" % 0
+    exponent = unit(value)
+    count = value / Fraction(2) ** exponent
+    assert count.denominator == 1 and count < 2 ** SIGNIFICAND_BITS
+    # The leading bit of a normal significand adds 1 to the exponent field.
+    return "%016x" % (int(count) + (exponent - LEAST_EXPONENT) * 2 ** (SIGNIFICAND_BITS - 1))
+
+
+def just_below(value):
+    """The float before a positive one."""
+    count = value / Fraction(2) ** unit(value)
+    if count == 2 ** (SIGNIFICAND_BITS - 1):
+        return value - Fraction(2) ** (unit(value) - 1)
+    return value - Fraction(2) ** unit(value)
+
+
+def advanced(miles, speed, amount, leg):
+    """The miles after a tick, by document 01, kind 12."""
+    step = rounded(rounded(Fraction(speed, 64)) * rounded(Fraction(amount, 64)))
+    return min(rounded(miles + step), leg)
+
+
+def line(leg, speed, start, amounts):
+    """The line of one combination."""
+    words = [bits(leg), str(speed), bits(start)]
+    miles = start
+    for amount in amounts:
+        miles = advanced(miles, speed, amount, leg)
+        words += [str(amount), bits(miles)]
+    return " ".join(words + ["1" if miles == leg else "0"])
+
+
+def main():
+    """Writes the lines of all combinations whose start is within the leg."""
+    legs = [rounded(Fraction(k, 64)) for k in WHOLE_LEGS] + [rounded(Fraction(leg)) for leg in OTHER_LEGS]
+    combination = 0
+    for leg in legs:
+        starts = [rounded(Fraction(start)) for start in STARTS] + [just_below(leg), leg]
+        for speed in SPEEDS:
+            for start in starts:
+                if start <= leg:
+                    print(line(leg, speed, start, AMOUNTS[combination % len(AMOUNTS)]))
+                combination += 1
+
+
+if __name__ == "__main__":
+    main()
