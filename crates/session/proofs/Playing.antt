@@ -2,13 +2,11 @@
 use mathlib.Core.Path.{_≡_, refl, sym, ap, _∙_, subst}
 use mathlib.Core.List.{List, [], _∷_, _++_}
 use Prim.Native.Nat.{ℕ, zero, suc, _+_, _*_, _^_, _≤_, _<_}
-use native.Mathlib.Nat.{le-of-suc-le-suc}
 use native.Mathlib.Numerals.{add-one}
 use native.Mathlib.Omega.{arith}
 use lib.ListN.{length, drop, length-append}
 use lib.Seq.{drop-nil}
 use Rattle.request.specs.declared.Request.{Request}
-use Rattle.practice.specs.declared.Reading.{Reading}
 use Rattle.practice.specs.declared.Reading.the-variants.{One, End}
 use Rattle.practice.specs.Requests.{readingAt}
 use Rattle.field.specs.declared.Field.{Field}
@@ -18,7 +16,7 @@ use Rattle.rules.specs.declared.Stepped.{Stepped}
 use Rattle.rules.specs.Step.{stepOf}
 use Rattle.rules.specs.Play.{fieldAfter, played}
 use Rattle.session.specs.declared.tally.Tally.{Tally}
-use Rattle.session.specs.Text.{decimal, space, markBefore, line, Put}
+use Rattle.session.specs.Text.{decimal, markBefore, line, Put}
 use Rattle.session.specs.Tally.{tallyOf, counted}
 use Rattle.session.specs.Report.{answerLine, answerLines, endLine, refusedReport}
 use Rattle.session.proofs.Answers.{Short}

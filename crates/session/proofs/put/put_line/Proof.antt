@@ -1,12 +1,12 @@
 -- `session::put::put_line` meets its contract. The loop's invariant: what is left to put is the line from the i-th number on. Assumes
 -- nothing.
 use mathlib.Core.Path.{ap}
-use Prim.Native.Nat.{_+_, _≤_, _-_}
+use Prim.Native.Nat.{_+_, _≤_, _<_, _-_}
 use native.Mathlib.Omega.{arith}
 use lib.ListN.{length, drop}
 use denote.Ref.{now}
 use borrow.Author.Needs.{needs}
-use Rattle.session.specs.Text.{space, newline, line}
+use Rattle.session.specs.Text.{space, newline, line, room}
 use Rattle.session.proofs.Texts.{Left, left-all, left-none, left-room, past-all, mark-between, mark-last, line-longer, line-more}
 use Rattle.session.proofs.put.put_line.Statement.{statement}
 use Rattle.session.proofs.put.put_line.Tie as tie
@@ -36,13 +36,17 @@ put-number-requires c κs =
 add-i : tie.Need-add-i Inv-loop μ-loop
 add-i c = search needs
 
-put-byte-requires : tie.Need-put-byte-requires Inv-loop μ-loop
-put-byte-requires c κs =
-    let l = c .before .before .before .before .before .before .loop in
-    let s = c .before .before .before .before .before .before .before .before in
+-- there is room for the mark
+room-here : (c : tie.After-put-number Inv-loop μ-loop) → c .put-number .result < room
+room-here c =
+    let l = c .before .before .before .before .loop in
+    let s = c .before .before .before .before .before .before in
     let all = left-room (l .inv .1) in
     let here = line-longer (now (s .args .numbers)) (l .i) (omega arith) in
-    omega (arith, s .pre, c .before .before .put-number .ensures .next)
+    omega (arith, s .pre, c .put-number .ensures .next)
+
+put-byte-requires : tie.Need-put-byte-requires Inv-loop μ-loop
+put-byte-requires c κs = room-here (c .before .before)
 
 loop-less : tie.Need-loop-less Inv-loop μ-loop
 loop-less c = search needs
@@ -54,12 +58,7 @@ loop-again c =
     (omega arith, line-more ns (l .i) space (omega arith) (mark-between ns (l .i + 1) (c .before .before .if1 .taken)) (l .inv .1) (c .before .before .before .put-number .ensures) (c .put-byte .ensures .0))
 
 put-byte-requires-2 : tie.Need-put-byte-requires-2 Inv-loop μ-loop
-put-byte-requires-2 c κs =
-    let l = c .before .before .before .before .before .before .loop in
-    let s = c .before .before .before .before .before .before .before .before in
-    let all = left-room (l .inv .1) in
-    let here = line-longer (now (s .args .numbers)) (l .i) (omega arith) in
-    omega (arith, s .pre, c .before .before .put-number .ensures .next)
+put-byte-requires-2 c κs = room-here (c .before .before)
 
 loop-less-2 : tie.Need-loop-less-2 Inv-loop μ-loop
 loop-less-2 c = search needs
