@@ -1,8 +1,9 @@
 //! The proved library and the reference, measured on one practice file.
 //!
-//!   bench time FILE               requests a second of both, and their ratio
+//!   bench requests FILE              how many requests it has
+//!   bench time FILE                  requests a second of both, and their ratio
 //!   bench library|reference FILE N   plays the file N times, to be counted
-//!   bench typical                 prints the typical session in readable form
+//!   bench typical                    prints the typical session in readable form
 
 use comparison::dice::Dice;
 use comparison::library::{report_into, Buffer, ROOM};
@@ -14,7 +15,7 @@ use std::{env, fs};
 
 const ROUNDS: usize = 21;
 /// How long one program plays in one round.
-const ROUND: Duration = Duration::from_millis(400);
+const ROUND: Duration = Duration::from_millis(250);
 const TYPICAL_SEED: u64 = 300;
 const TYPICAL_REQUESTS: usize = 300;
 
