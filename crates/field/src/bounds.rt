@@ -57,7 +57,8 @@ fn one_each(f: Field) -> bool
     ensures { λ r. ⌜ r ≡ every (λ z. leb (howMany f z) 1) (zonesFrom 1 6) ⌝ }
 {
     for zone in 1..=6 {
-        if 1 < how_many(f, zone) {
+        let q = f.zones[zone - 1];
+        if 1 < queue_length(q) {
             return false;
         }
     }
@@ -165,7 +166,8 @@ fn zones_kept(f: Field) -> bool
     ensures { λ r. ⌜ r ≡ every (λ z. zoneKept (zoneOf f z)) everywhere ⌝ }
 {
     for zone in 1..=13 {
-        if !zone_kept(zone_of(f, zone)) {
+        let q = f.zones[zone - 1];
+        if !zone_kept(q) {
             return false;
         }
     }
@@ -278,7 +280,8 @@ fn zones_fit(f: Field) -> bool
 {
     let legs = f.legs;
     for zone in 1..=13 {
-        if !zone_fits(legs, zone, zone_of(f, zone)) {
+        let q = f.zones[zone - 1];
+        if !zone_fits(legs, zone, q) {
             return false;
         }
     }

@@ -4,7 +4,8 @@ use crate::Zone;
 use crate::boxes::queue_length;
 use crate::boxes::zone_of;
 ghost use mathlib.Core.Path.{_≡_};
-ghost use Rattle.field.specs.Boxes.{queueOf, area};
+ghost use mathlib.Core.Bool.{cond};
+ghost use Rattle.field.specs.Boxes.{queueOf, queueLength, area};
 ghost use Rattle.field.specs.Counts.{isIn, haveFix, howMany, howManyWithFix, presentOn, inOperation, inArea, perFix, approachHolds, countedFor, potentialOf};
 
 // How many of a queue have a fix.
@@ -42,7 +43,8 @@ pub fn present_on(f: Field) -> usize
 {
     let mut n: usize = 0;
     for zone in 1..=13 {
-        n += how_many(f, zone);
+        let q = f.zones[zone - 1];
+        n += queue_length(q);
     }
     n
 }
@@ -53,7 +55,8 @@ pub fn in_operation(f: Field) -> usize
 {
     let mut n: usize = 0;
     for zone in 1..=12 {
-        n += how_many(f, zone);
+        let q = f.zones[zone - 1];
+        n += queue_length(q);
     }
     n
 }
@@ -72,7 +75,8 @@ pub fn per_fix(f: Field, side: u8) -> usize
 {
     let mut n: usize = 0;
     for zone in 1..=12 {
-        n += how_many_with_fix(f, side, zone);
+        let q = f.zones[zone - 1];
+        n += have_fix(q, side);
     }
     n
 }
@@ -83,7 +87,8 @@ pub fn approach_holds(f: Field, side: u8) -> bool
 {
     let mut n: usize = 0;
     for zone in 9..=12 {
-        n += how_many_with_fix(f, side, zone);
+        let q = f.zones[zone - 1];
+        n += have_fix(q, side);
     }
     n != 0
 }
@@ -105,15 +110,22 @@ fn is_in_area(side: u8, zone: usize) -> bool
     6 + s == zone
 }
 
-// How many of a zone count for a side: all of them in the side's area, and elsewhere those with the side as fix.
+// How many of a zone's queue count for a side: all of them in the side's area, and elsewhere those with the side as fix.
+fn counted_in(q: Zone, side: u8, zone: usize) -> usize
+    ensures { λ r. ⌜ r ≡ cond (isIn zone (area side)) (queueLength q) (haveFix side (queueOf q)) ⌝ }
+{
+    if is_in_area(side, zone) {
+        queue_length(q)
+    } else {
+        have_fix(q, side)
+    }
+}
+
+// How many of a zone count for a side.
 pub fn counted_for(f: Field, side: u8, zone: usize) -> usize
     ensures { λ r. ⌜ r ≡ countedFor f side zone ⌝ }
 {
-    if is_in_area(side, zone) {
-        how_many(f, zone)
-    } else {
-        how_many_with_fix(f, side, zone)
-    }
+    counted_in(zone_of(f, zone), side, zone)
 }
 
 // The potential number of a side.
@@ -122,7 +134,8 @@ pub fn potential_of(f: Field, side: u8) -> usize
 {
     let mut n: usize = 0;
     for zone in 1..=12 {
-        n += counted_for(f, side, zone);
+        let q = f.zones[zone - 1];
+        n += counted_in(q, side, zone);
     }
     n
 }

@@ -1,10 +1,11 @@
 -- `field::bounds::one_each` meets its contract: each zone that the loop has passed holds at most one. Assumes nothing.
-use mathlib.Core.Path.{sym}
+use mathlib.Core.Path.{sym, _∙_}
 use mathlib.Core.Bool.{Bool}
 use Prim.Native.Nat.{ℕ, _-_}
 use lib.Dec.{leb}
 use Rattle.field.specs.declared.Field.{Field}
 use Rattle.field.specs.Counts.{howMany}
+use Rattle.field.proofs.Shapes.{unmapped, length-read}
 use Rattle.field.proofs.Parts.{at-most, over, Passed, passed-none, passed-more, passed-not, passed-all}
 use borrow.Author.Needs.{needs}
 use native.Mathlib.Omega.{arith}
@@ -24,14 +25,26 @@ abbrev μ-loop : tie.MeasureT-loop
 loop-holds : tie.Need-loop-holds Inv-loop μ-loop
 loop-holds c = passed-none _ 1 6 (omega arith)
 
-how-many-requires : tie.Need-how-many-requires Inv-loop μ-loop
-how-many-requires c κs = search needs
+sub-q : tie.Need-sub-q Inv-loop μ-loop
+sub-q c = search needs
+
+mul-q : tie.Need-mul-q Inv-loop μ-loop
+mul-q c = search needs
+
+element-copy-out-q : tie.Need-element-copy-out-q Inv-loop μ-loop
+element-copy-out-q c = search needs
+
+queue-length-requires : tie.Need-queue-length-requires Inv-loop μ-loop
+queue-length-requires c κs = search needs
 
 returns : tie.Need-returns Inv-loop μ-loop
 returns c =
-    let l = c .before .before .before .loop in
-    let f = c .before .before .before .before .args .f in
-    sym (passed-not (one f) 1 6 (l .zone) (l .inv) (omega arith) (over (c .before .how-many .ensures) (c .if1 .taken)))
+    let start = c .before .before .before .before .before in
+    let f = start .args .t1 in
+    let l = c .before .before .before .before .loop in
+    let thirteen = unmapped _ (f .zones) (start .good .0 .1 .1 .0 .1 .0 .1) in
+    let same = c .before .queue-length .ensures ∙ length-read f (l .zone) _ thirteen (omega arith) (omega arith) in
+    sym (passed-not (one f) 1 6 (l .zone) (l .inv) (omega arith) (over same (c .if1 .taken)))
 
 add-zone : tie.Need-add-zone Inv-loop μ-loop
 add-zone c = search needs
@@ -41,12 +54,15 @@ loop-less c = search needs
 
 loop-again : tie.Need-loop-again Inv-loop μ-loop
 loop-again c =
-    let l = c .before .before .before .loop in
-    let f = c .before .before .before .before .args .f in
-    passed-more (one f) 1 6 (l .zone) (l .inv) (omega arith) (at-most (c .before .how-many .ensures) (c .if1 .left))
+    let start = c .before .before .before .before .before in
+    let f = start .args .t1 in
+    let l = c .before .before .before .before .loop in
+    let thirteen = unmapped _ (f .zones) (start .good .0 .1 .1 .0 .1 .0 .1) in
+    let same = c .before .queue-length .ensures ∙ length-read f (l .zone) _ thirteen (omega arith) (omega arith) in
+    passed-more (one f) 1 6 (l .zone) (l .inv) (omega arith) (at-most same (c .if1 .left))
 
 returns-2 : tie.Need-returns-2 Inv-loop μ-loop
-returns-2 c = sym (passed-all (one (c .before .before .args .f)) 1 6 (c .before .loop .zone) (c .before .loop .inv) (omega arith))
+returns-2 c = sym (passed-all (one (c .before .before .args .t1)) 1 6 (c .before .loop .zone) (c .before .loop .inv) (omega arith))
 
 pub one-each-spec : {M : Type 1} → statement M
 one-each-spec =
@@ -55,7 +71,10 @@ one-each-spec =
     Inv-loop
     μ-loop
     loop-holds
-    how-many-requires
+    sub-q
+    mul-q
+    element-copy-out-q
+    queue-length-requires
     returns
     add-zone
     loop-less

@@ -6,6 +6,7 @@ use Rattle.field.specs.declared.Field.{Field}
 use Rattle.field.specs.declared.Zone.{Zone}
 use Rattle.field.specs.Boxes.{queueOf, inZone}
 use Rattle.field.specs.Bounds.{every, fitsZone}
+use Rattle.field.proofs.Shapes.{unmapped, zone-read}
 use Rattle.field.proofs.Parts.{holds, fails, Passed, passed-none, passed-more, passed-not, passed-all}
 use borrow.Author.Needs.{needs}
 use native.Mathlib.Omega.{arith}
@@ -24,8 +25,14 @@ abbrev μ-loop : tie.MeasureT-loop
 loop-holds : tie.Need-loop-holds Inv-loop μ-loop
 loop-holds c = passed-none _ 1 13 (omega arith)
 
-zone-of-requires : tie.Need-zone-of-requires Inv-loop μ-loop
-zone-of-requires c κs = search needs
+sub-q : tie.Need-sub-q Inv-loop μ-loop
+sub-q c = search needs
+
+mul-q : tie.Need-mul-q Inv-loop μ-loop
+mul-q c = search needs
+
+element-copy-out-q : tie.Need-element-copy-out-q Inv-loop μ-loop
+element-copy-out-q c = search needs
 
 zone-fits-requires : tie.Need-zone-fits-requires Inv-loop μ-loop
 zone-fits-requires c κs = search needs
@@ -33,9 +40,11 @@ zone-fits-requires c κs = search needs
 returns : tie.Need-returns Inv-loop μ-loop
 unfolding inZone
 returns c =
-    let f = c .before .before .before .before .before .before .args .f in
+    let start = c .before .before .before .before .before .before in
+    let f = start .args .t1 in
     let l = c .before .before .before .before .loop in
-    let same = c .before .zone-fits .ensures ∙ ap (λ (q : Zone). every (fitsZone (f .legs) (l .zone)) (queueOf q)) (c .before .before .zone-of .ensures) in
+    let thirteen = unmapped _ (f .zones) (start .good .0 .1 .1 .0 .1 .0 .1) in
+    let same = c .before .zone-fits .ensures ∙ ap (λ (q : Zone). every (fitsZone (f .legs) (l .zone)) (queueOf q)) (zone-read f (l .zone) _ thirteen (omega arith) (omega arith)) in
     sym (passed-not (fit f) 1 13 (l .zone) (l .inv) (omega arith) (fails same (c .if1 .taken)))
 
 add-zone : tie.Need-add-zone Inv-loop μ-loop
@@ -47,13 +56,15 @@ loop-less c = search needs
 loop-again : tie.Need-loop-again Inv-loop μ-loop
 unfolding inZone
 loop-again c =
-    let f = c .before .before .before .before .before .before .args .f in
+    let start = c .before .before .before .before .before .before in
+    let f = start .args .t1 in
     let l = c .before .before .before .before .loop in
-    let same = c .before .zone-fits .ensures ∙ ap (λ (q : Zone). every (fitsZone (f .legs) (l .zone)) (queueOf q)) (c .before .before .zone-of .ensures) in
+    let thirteen = unmapped _ (f .zones) (start .good .0 .1 .1 .0 .1 .0 .1) in
+    let same = c .before .zone-fits .ensures ∙ ap (λ (q : Zone). every (fitsZone (f .legs) (l .zone)) (queueOf q)) (zone-read f (l .zone) _ thirteen (omega arith) (omega arith)) in
     passed-more (fit f) 1 13 (l .zone) (l .inv) (omega arith) (holds same (c .if1 .left))
 
 returns-2 : tie.Need-returns-2 Inv-loop μ-loop
-returns-2 c = sym (passed-all (fit (c .before .before .before .args .f)) 1 13 (c .before .loop .zone) (c .before .loop .inv) (omega arith))
+returns-2 c = sym (passed-all (fit (c .before .before .before .args .t1)) 1 13 (c .before .loop .zone) (c .before .loop .inv) (omega arith))
 
 pub zones-fit-spec : {M : Type 1} → statement M
 zones-fit-spec =
@@ -62,7 +73,9 @@ zones-fit-spec =
     Inv-loop
     μ-loop
     loop-holds
-    zone-of-requires
+    sub-q
+    mul-q
+    element-copy-out-q
     zone-fits-requires
     returns
     add-zone

@@ -5,6 +5,7 @@ use Prim.Native.Nat.{ℕ, _-_}
 use Rattle.field.specs.declared.Field.{Field}
 use Rattle.field.specs.Boxes.{zoneOf}
 use Rattle.field.specs.Bounds.{zoneKept}
+use Rattle.field.proofs.Shapes.{unmapped, zone-read}
 use Rattle.field.proofs.Parts.{holds, fails, Passed, passed-none, passed-more, passed-not, passed-all}
 use borrow.Author.Needs.{needs}
 use native.Mathlib.Omega.{arith}
@@ -23,17 +24,25 @@ abbrev μ-loop : tie.MeasureT-loop
 loop-holds : tie.Need-loop-holds Inv-loop μ-loop
 loop-holds c = passed-none _ 1 13 (omega arith)
 
-zone-of-requires : tie.Need-zone-of-requires Inv-loop μ-loop
-zone-of-requires c κs = search needs
+sub-q : tie.Need-sub-q Inv-loop μ-loop
+sub-q c = search needs
+
+mul-q : tie.Need-mul-q Inv-loop μ-loop
+mul-q c = search needs
+
+element-copy-out-q : tie.Need-element-copy-out-q Inv-loop μ-loop
+element-copy-out-q c = search needs
 
 zone-kept-requires : tie.Need-zone-kept-requires Inv-loop μ-loop
 zone-kept-requires c κs = search needs
 
 returns : tie.Need-returns Inv-loop μ-loop
 returns c =
-    let f = c .before .before .before .before .before .args .f in
+    let start = c .before .before .before .before .before in
+    let f = start .args .t1 in
     let l = c .before .before .before .before .loop in
-    let same = c .before .zone-kept .ensures ∙ ap zoneKept (c .before .before .zone-of .ensures) in
+    let thirteen = unmapped _ (f .zones) (start .good .0 .1 .1 .0 .1 .0 .1) in
+    let same = c .before .zone-kept .ensures ∙ ap zoneKept (zone-read f (l .zone) _ thirteen (omega arith) (omega arith)) in
     sym (passed-not (kept f) 1 13 (l .zone) (l .inv) (omega arith) (fails same (c .if1 .taken)))
 
 add-zone : tie.Need-add-zone Inv-loop μ-loop
@@ -44,13 +53,15 @@ loop-less c = search needs
 
 loop-again : tie.Need-loop-again Inv-loop μ-loop
 loop-again c =
-    let f = c .before .before .before .before .before .args .f in
+    let start = c .before .before .before .before .before in
+    let f = start .args .t1 in
     let l = c .before .before .before .before .loop in
-    let same = c .before .zone-kept .ensures ∙ ap zoneKept (c .before .before .zone-of .ensures) in
+    let thirteen = unmapped _ (f .zones) (start .good .0 .1 .1 .0 .1 .0 .1) in
+    let same = c .before .zone-kept .ensures ∙ ap zoneKept (zone-read f (l .zone) _ thirteen (omega arith) (omega arith)) in
     passed-more (kept f) 1 13 (l .zone) (l .inv) (omega arith) (holds same (c .if1 .left))
 
 returns-2 : tie.Need-returns-2 Inv-loop μ-loop
-returns-2 c = sym (passed-all (kept (c .before .before .args .f)) 1 13 (c .before .loop .zone) (c .before .loop .inv) (omega arith))
+returns-2 c = sym (passed-all (kept (c .before .before .args .t1)) 1 13 (c .before .loop .zone) (c .before .loop .inv) (omega arith))
 
 pub zones-kept-spec : {M : Type 1} → statement M
 zones-kept-spec =
@@ -59,7 +70,9 @@ zones-kept-spec =
     Inv-loop
     μ-loop
     loop-holds
-    zone-of-requires
+    sub-q
+    mul-q
+    element-copy-out-q
     zone-kept-requires
     returns
     add-zone

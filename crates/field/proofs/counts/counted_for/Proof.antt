@@ -1,35 +1,24 @@
--- `field::counts::counted_for` meets its contract: each arm returns what the definition gives where the test is as the arm found it. Assumes nothing.
-use mathlib.Core.Path.{_≡_, sym, ap, _∙_}
-use mathlib.Core.Bool.{Bool, cond}
-use Prim.Native.Nat.{ℕ}
+-- `field::counts::counted_for` meets its contract, by that of `counted_in` at the zone. Assumes nothing.
+use mathlib.Core.Path.{ap, _∙_}
+use mathlib.Core.Bool.{cond}
 use borrow.Author.Needs.{needs}
-use Rattle.field.specs.declared.Field.{Field}
-use Rattle.field.specs.Counts.{isIn, howMany, howManyWithFix, countedFor}
-use Rattle.field.specs.Boxes.{area}
+use Rattle.field.specs.declared.Zone.{Zone}
+use Rattle.field.specs.Boxes.{queueOf, queueLength, inZone, area}
+use Rattle.field.specs.Counts.{isIn, haveFix, howMany, howManyWithFix, countedFor}
 use Rattle.field.proofs.counts.counted_for.Statement.{statement}
 use Rattle.field.proofs.counts.counted_for.Tie as tie
 
--- the number by what the test of the zone gave
-chosen : (f : Field) (side z : ℕ) {t : Bool} → isIn z (area side) ≡ t → countedFor f side z ≡ cond t (howMany f z) (howManyWithFix f side z)
-unfolding countedFor
-chosen f side z e = ap (λ (t : Bool). cond t (howMany f z) (howManyWithFix f side z)) e
+zone-of-requires : tie.Need-zone-of-requires
+zone-of-requires c κs = search needs
 
-is-in-area-requires : tie.Need-is-in-area-requires
-is-in-area-requires c κs = search needs
-
-how-many-requires : tie.Need-how-many-requires
-how-many-requires c κs = search needs
-
-how-many-with-fix-requires : tie.Need-how-many-with-fix-requires
-how-many-with-fix-requires c κs = search needs
+counted-in-requires : tie.Need-counted-in-requires
+counted-in-requires c κs = search needs
 
 returns : tie.Need-returns
-returns c = c .how-many .ensures ∙ sym (chosen _ _ _ (sym (c .before .before .is-in-area .ensures) ∙ c .before .if1 .taken))
-
-returns-2 : tie.Need-returns-2
-returns-2 c = c .how-many-with-fix .ensures ∙ sym (chosen _ _ _ (sym (c .before .before .is-in-area .ensures) ∙ c .before .if1 .left))
+unfolding countedFor howMany howManyWithFix inZone queueLength
+returns c =
+    let a = c .before .before .args in
+    c .counted-in .ensures ∙ ap (λ (q : Zone). cond (isIn (a .zone) (area (a .side))) (queueLength q) (haveFix (a .side) (queueOf q))) (c .before .zone-of .ensures)
 
 pub counted-for-spec : {M : Type 1} → statement M
-counted-for-spec =
-    tie.close
-    (tie.spec is-in-area-requires how-many-requires how-many-with-fix-requires returns returns-2)
+counted-for-spec = tie.close (tie.spec zone-of-requires counted-in-requires returns)

@@ -1,8 +1,10 @@
 -- `field::counts::present_on` meets its contract. The loop's invariant: what is added up before a zone. Assumes nothing.
+use mathlib.Core.Path.{_≡_, _∙_}
 use Prim.Native.Nat.{_-_, _≤_}
 use native.Mathlib.Omega.{arith}
 use borrow.Author.Needs.{needs}
 use Rattle.field.specs.Counts.{howMany, presentOn}
+use Rattle.field.proofs.Shapes.{unmapped, length-read}
 use Rattle.field.proofs.Totals.{Added, added-none, added-more, added-all, how-many-fits}
 use Rattle.field.proofs.counts.present_on.Statement.{statement}
 use Rattle.field.proofs.counts.present_on.Tie as tie
@@ -13,18 +15,35 @@ Inv-loop f n₀ zone₀ n zone = Added (howMany f) 1 13 n zone
 abbrev μ-loop : tie.MeasureT-loop
 μ-loop f n₀ zone₀ n zone = 14 - zone
 
+-- what a turn adds, read from the zone where it stands
+same : (c : tie.After-queue-length Inv-loop μ-loop) → c .queue-length .result ≡ howMany (c .before .before .before .before .args .t1) (c .before .before .before .loop .zone)
+same c =
+    let start = c .before .before .before .before in
+    let f = start .args .t1 in
+    let thirteen = unmapped _ (f .zones) (start .good .0 .1 .1 .0 .1 .0 .1) in
+    c .queue-length .ensures ∙ length-read f (c .before .before .before .loop .zone) _ thirteen (omega arith) (omega arith)
+
 -- no more than four are added in a turn
-few : (c : tie.After-how-many Inv-loop μ-loop) → howMany (c .before .before .before .args .f) (c .before .before .loop .zone) ≤ 4
-few c = how-many-fits (c .before .before .before .args .f) _ (c .before .before .before .good .0 .1 .1 .0 .1 .1) _
+few : (c : tie.After-queue-length Inv-loop μ-loop) → howMany (c .before .before .before .before .args .t1) (c .before .before .before .loop .zone) ≤ 4
+few c = how-many-fits (c .before .before .before .before .args .t1) _ (c .before .before .before .before .good .0 .1 .1 .0 .1 .1) _
 
 loop-holds : tie.Need-loop-holds Inv-loop μ-loop
 loop-holds c = added-none _ 1 13 (omega arith)
 
-how-many-requires : tie.Need-how-many-requires Inv-loop μ-loop
-how-many-requires c κs = search needs
+sub-q : tie.Need-sub-q Inv-loop μ-loop
+sub-q c = search needs
+
+mul-q : tie.Need-mul-q Inv-loop μ-loop
+mul-q c = search needs
+
+element-copy-out-q : tie.Need-element-copy-out-q Inv-loop μ-loop
+element-copy-out-q c = search needs
+
+queue-length-requires : tie.Need-queue-length-requires Inv-loop μ-loop
+queue-length-requires c κs = search needs
 
 add-n : tie.Need-add-n Inv-loop μ-loop
-add-n c = record { fits = omega (arith, c .how-many .ensures, few c) }
+add-n c = record { fits = omega (arith, same c, few c) }
 
 add-zone : tie.Need-add-zone Inv-loop μ-loop
 add-zone c = search needs
@@ -33,7 +52,7 @@ loop-less : tie.Need-loop-less Inv-loop μ-loop
 loop-less c = search needs
 
 loop-again : tie.Need-loop-again Inv-loop μ-loop
-loop-again c = added-more _ 1 13 _ _ _ (c .before .before .loop .inv) (omega arith) (c .how-many .ensures) (few c)
+loop-again c = added-more _ 1 13 _ _ _ (c .before .before .before .loop .inv) (omega arith) (same c) (few c)
 
 returns : tie.Need-returns Inv-loop μ-loop
 unfolding presentOn
@@ -46,7 +65,10 @@ present-on-spec =
     Inv-loop
     μ-loop
     loop-holds
-    how-many-requires
+    sub-q
+    mul-q
+    element-copy-out-q
+    queue-length-requires
     add-n
     add-zone
     loop-less
