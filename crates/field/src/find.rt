@@ -20,7 +20,7 @@ pub fn place_of(f: Field, number: u16) -> Place
 {
     let mut found = Place { zone: 0, place: 0 };
     'zones: for zone in 1..=13 {
-        let q = zone_of(f, zone);
+        let q = f.zones[zone - 1];
         let end = queue_length(q);
         for i in 0..end {
             let a = q.aircraft[i];

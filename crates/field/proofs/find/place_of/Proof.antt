@@ -15,8 +15,10 @@ use Rattle.field.specs.declared.Zone.{Zone}
 use Rattle.field.specs.declared.Field.{Field}
 use Rattle.field.specs.declared.Place.{Place}
 use Rattle.field.specs.Boxes.{zonesFrom, zoneOf, queueOf, queueLength, inZone}
+use Rattle.field.specs.Counts.{howMany}
 use Rattle.field.specs.Find.{nowhere, placeFrom, findIn, placeOf}
-use Rattle.field.proofs.Shapes.{queue-next, queue-fits, zone-places}
+use Rattle.field.proofs.Shapes.{queue-next, zone-read, length-read, unmapped}
+use Rattle.field.proofs.Totals.{how-many-fits}
 use Rattle.field.proofs.find.place_of.Statement.{statement}
 use Rattle.field.proofs.find.place_of.Tie as tie
 
@@ -54,24 +56,71 @@ stands : (number : ℕ) (q : Zone) (i : ℕ) (d : Aircraft) → i < length (queu
     ≡ cond (eqb (getD (q .aircraft) i d .number) number) (i + 1) (placeFrom (i + 1 + 1) number (drop (i + 1) (queueOf q)))
 stands number q i d h = rw (add-one (i + 1)) (ap (placeFrom (i + 1) number) (queue-next q i d h))
 
+-- one place more, where another number stands
+more : {f : Field} {number : ℕ} {found : Place} {z : ℕ} {q : Zone} {end i : ℕ} (d : Aircraft) → Looking f number found z q end i → i < end
+    → (getD (q .aircraft) i d .number ≡ number → ⊥) → Looking f number found z q end (i + 1)
+more {number = number} {q = q} {i = i} d at h other =
+    record {
+      passed = at .passed;
+      zone = at .zone;
+      within = omega arith;
+      few = at .few;
+      whole = at .whole;
+      this = at .this;
+      rest =
+          at .rest
+          ∙ stands number q i d (omega arith)
+          ∙ ap (λ (t : Bool). cond t (i + 1) (placeFrom (i + 1 + 1) number (drop (i + 1) (queueOf q)))) (ne-eqb _ _ other);
+    }
+
+-- one zone more, where all its places were passed
+passed-on : {f : Field} {number : ℕ} {found : Place} {z : ℕ} {q : Zone} {end i : ℕ} → Looking f number found z q end i → end ≤ i → Passed f number found (z + 1)
+passed-on {f} {number = number} {z = z} {q = q} {i = i} at h =
+    let none : drop i (queueOf q) ≡ [] = drop-of-length-le (queueOf q) {i = i} (omega arith) in
+    let absent = ap (λ (p : Zone). placeFrom 1 number (queueOf p)) (sym (at .this)) ∙ at .rest ∙ ap (placeFrom (i + 1) number) none in
+    let before = at .passed in
+    let last = at .zone in
+    record { low = omega arith; high = omega arith; none = before .none; rest = before .rest ∙ first f number z 0 last absent }
+
+-- the number stands there
+found-here : {f : Field} {number : ℕ} {found : Place} {z : ℕ} {q : Zone} {end i : ℕ} (d : Aircraft) → Looking f number found z q end i → i < end
+    → getD (q .aircraft) i d .number ≡ number → placeOf f number ≡ record { zone = z; place = i + 1 }
+found-here {f} {number = number} {z = z} {q = q} {i = i} d at h same =
+    let on : ℕ = placeFrom (i + 1 + 1) number (drop (i + 1) (queueOf q)) in
+    let here =
+    ap (λ (p : Zone). placeFrom 1 number (queueOf p)) (sym (at .this))
+    ∙ at .rest
+    ∙ stands number q i d (omega arith)
+    ∙ ap (λ (t : Bool). cond t (i + 1) on) (eq-eqb _ _ same) in
+    let left : Place = findIn f number (zonesFrom (z + 1) (14 - (z + 1))) in
+    at .passed .rest
+    ∙ first f number z (i + 1) (at .zone) here
+    ∙ ap (λ (t : Bool). cond t left (record { zone = z; place = i + 1 })) (ne-eqb (i + 1) 0 (λ e. omega arith))
+
 abbrev Inv-loop : tie.InvT-loop
-Inv-loop f number found₀ zone q end i₀ found i = Looking f number found zone q end i
+Inv-loop number f found₀ zone q end i₀ found i = Looking f number found zone q end i
 
 abbrev μ-loop : tie.MeasureT-loop
-μ-loop f number found₀ zone q end i₀ found i = end - i
+μ-loop number f found₀ zone q end i₀ found i = end - i
 
 abbrev Inv-zones : tie.InvT-zones
-Inv-zones f number found₀ zone₀ found zone = Passed f number found zone
+Inv-zones number f found₀ zone₀ found zone = Passed f number found zone
 
 abbrev μ-zones : tie.MeasureT-zones
-μ-zones f number found₀ zone₀ found zone = 14 - zone
+μ-zones number f found₀ zone₀ found zone = 14 - zone
 
 zones-holds : tie.Need-zones-holds Inv-loop μ-loop Inv-zones μ-zones
 unfolding placeOf
 zones-holds c = record { low = omega arith; high = omega arith; none = refl; rest = refl }
 
-zone-of-requires : tie.Need-zone-of-requires Inv-loop μ-loop Inv-zones μ-zones
-zone-of-requires c κs = search needs
+sub-q : tie.Need-sub-q Inv-loop μ-loop Inv-zones μ-zones
+sub-q c = search needs
+
+mul-q : tie.Need-mul-q Inv-loop μ-loop Inv-zones μ-zones
+mul-q c = search needs
+
+element-copy-out-q : tie.Need-element-copy-out-q Inv-loop μ-loop Inv-zones μ-zones
+element-copy-out-q c = search needs
 
 queue-length-requires : tie.Need-queue-length-requires Inv-loop μ-loop Inv-zones μ-zones
 queue-length-requires c κs = search needs
@@ -79,17 +128,19 @@ queue-length-requires c κs = search needs
 loop-holds : tie.Need-loop-holds Inv-loop μ-loop Inv-zones μ-zones
 unfolding queueLength
 loop-holds c =
-    let a = c .before .before .before .before .args in
+    let start = c .before .before .before .before in
+    let f = start .args .t1 in
     let z = c .before .before .before .zones .zone in
-    let fits = queue-fits (zoneOf (a .f) z) (zone-places (a .f) _ z (c .before .before .before .before .good .0 .1 .1 .0 .1 .1)) in
-    let few : c .queue-length .result ≤ 4 = omega (arith, c .queue-length .ensures, ap (λ (q : Zone). length (queueOf q)) (c .before .zone-of .ensures)) in
+    let thirteen = unmapped _ (f .zones) (start .good .0 .1 .1 .0 .1 .0 .1) in
+    let many : c .queue-length .result ≡ howMany f z = c .queue-length .ensures ∙ length-read f z _ thirteen (omega arith) (omega arith) in
+    let four = how-many-fits f _ (start .good .0 .1 .1 .0 .1 .1) z in
     record {
       passed = c .before .before .before .zones .inv;
       zone = omega arith;
       within = omega arith;
-      few = few;
+      few = omega arith;
       whole = c .queue-length .ensures;
-      this = c .before .zone-of .ensures;
+      this = zone-read f z _ thirteen (omega arith) (omega arith);
       rest = refl;
     }
 
@@ -99,8 +150,8 @@ mul-a c = record { fits = omega arith }
 element-copy-out-a : tie.Need-element-copy-out-a Inv-loop μ-loop Inv-zones μ-zones
 element-copy-out-a c = omega arith
 
-add-t16 : tie.Need-add-t16 Inv-loop μ-loop Inv-zones μ-zones
-add-t16 c = record { fits = omega arith }
+add-t21 : tie.Need-add-t21 Inv-loop μ-loop Inv-zones μ-zones
+add-t21 c = record { fits = omega arith }
 
 add-i : tie.Need-add-i Inv-loop μ-loop Inv-zones μ-zones
 add-i c = record { fits = omega arith }
@@ -109,22 +160,7 @@ loop-less : tie.Need-loop-less Inv-loop μ-loop Inv-zones μ-zones
 loop-less c = omega arith
 
 loop-again : tie.Need-loop-again Inv-loop μ-loop Inv-zones μ-zones
-loop-again c =
-    let a = c .before .before .before .before .before .before .before .before .before .args in
-    let z = c .before .before .before .before .before .before .before .before .zones .zone in
-    let q = c .before .before .before .before .before .before .zone-of .result in
-    let i = c .before .before .before .before .loop .i in
-    let at = c .before .before .before .before .loop .inv in
-    let on : ℕ = placeFrom (i + 1 + 1) (a .number) (drop (i + 1) (queueOf q)) in
-    record {
-      passed = at .passed;
-      zone = at .zone;
-      within = omega arith;
-      few = at .few;
-      whole = at .whole;
-      this = at .this;
-      rest = at .rest ∙ stands (a .number) q i _ (omega arith) ∙ ap (λ (t : Bool). cond t (i + 1) on) (ne-eqb _ _ (c .if1 .left));
-    }
+loop-again c = more _ (c .before .before .before .before .loop .inv) (omega arith) (c .if1 .left)
 
 add-zone : tie.Need-add-zone Inv-loop μ-loop Inv-zones μ-zones
 add-zone c = record { fits = omega arith }
@@ -133,20 +169,7 @@ zones-less : tie.Need-zones-less Inv-loop μ-loop Inv-zones μ-zones
 zones-less c = omega arith
 
 zones-again : tie.Need-zones-again Inv-loop μ-loop Inv-zones μ-zones
-zones-again c =
-    let a = c .before .before .before .before .before .before .args in
-    let z = c .before .before .before .before .before .zones .zone in
-    let q = c .before .before .before .zone-of .result in
-    let i = c .before .loop .i in
-    let at = c .before .loop .inv in
-    let none : drop i (queueOf q) ≡ [] = drop-of-length-le (queueOf q) {i = i} (omega arith) in
-    let absent = ap (λ (p : Zone). placeFrom 1 (a .number) (queueOf p)) (sym (at .this)) ∙ at .rest ∙ ap (placeFrom (i + 1) (a .number)) none in
-    record {
-      low = omega arith;
-      high = omega arith;
-      none = at .passed .none;
-      rest = at .passed .rest ∙ first (a .f) (a .number) z 0 (at .zone) absent;
-    }
+zones-again c = passed-on (c .before .loop .inv) (omega arith)
 
 returns : tie.Need-returns Inv-loop μ-loop Inv-zones μ-zones
 unfolding findIn
@@ -155,26 +178,10 @@ returns c =
     let z = c .before .zones .zone in
     let at = c .before .zones .inv in
     let none : 14 - z ≡ 0 = omega arith in
-    at .none ∙ sym (at .rest ∙ ap (λ (n : ℕ). findIn (a .f) (a .number) (zonesFrom z n)) none)
+    at .none ∙ sym (at .rest ∙ ap (λ (n : ℕ). findIn (a .t1) (a .number) (zonesFrom z n)) none)
 
 returns-2 : tie.Need-returns-2 Inv-loop μ-loop Inv-zones μ-zones
-returns-2 c =
-    let a = c .before .before .before .before .before .before .before .before .before .args in
-    let z = c .before .before .before .before .before .before .before .before .zones .zone in
-    let q = c .before .before .before .before .before .before .zone-of .result in
-    let i = c .before .before .before .before .loop .i in
-    let at = c .before .before .before .before .loop .inv in
-    let on : ℕ = placeFrom (i + 1 + 1) (a .number) (drop (i + 1) (queueOf q)) in
-    let here =
-    ap (λ (p : Zone). placeFrom 1 (a .number) (queueOf p)) (sym (at .this))
-    ∙ at .rest
-    ∙ stands (a .number) q i _ (omega arith)
-    ∙ ap (λ (t : Bool). cond t (i + 1) on) (eq-eqb _ _ (c .if1 .taken)) in
-    let left : Place = findIn (a .f) (a .number) (zonesFrom (z + 1) (14 - (z + 1))) in
-    sym
-    (at .passed .rest
-    ∙ first (a .f) (a .number) z (i + 1) (at .zone) here
-    ∙ ap (λ (t : Bool). cond t left (record { zone = z; place = i + 1 })) (ne-eqb (i + 1) 0 (λ e. omega arith)))
+returns-2 c = sym (found-here _ (c .before .before .before .before .loop .inv) (omega arith) (c .if1 .taken))
 
 pub place-of-spec : {M : Type 1} → statement M
 place-of-spec =
@@ -185,12 +192,14 @@ place-of-spec =
     Inv-zones
     μ-zones
     zones-holds
-    zone-of-requires
+    sub-q
+    mul-q
+    element-copy-out-q
     queue-length-requires
     loop-holds
     mul-a
     element-copy-out-a
-    add-t16
+    add-t21
     add-i
     loop-less
     loop-again
