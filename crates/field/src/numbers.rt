@@ -3,7 +3,6 @@ use crate::Field;
 use crate::Zone;
 use crate::boxes::order_length;
 use crate::boxes::queue_length;
-use crate::boxes::zone_of;
 ghost use mathlib.Core.Path.{_≡_};
 ghost use mathlib.Core.Bool.{not};
 ghost use mathlib.Core.List.{_++_, map};
@@ -98,8 +97,9 @@ fn numbers_to(f: Field, last: usize) -> Numbers
     };
     let mut zone = 0;
     while zone < last {
+        let q = f.zones[zone];
         zone += 1;
-        n = followed_by(n, zone_of(f, zone));
+        n = followed_by(n, q);
     }
     n
 }
