@@ -227,9 +227,11 @@ pub fn bound_f(f: Field) -> bool
 {
     let s = f.sequence;
     let end = order_length(s);
+    let mut fix = fix_at(f, 0);
     for i in 0..end {
-        let other = opposite(fix_at(f, i));
-        if fix_at(f, i + 1) != other {
+        let other = opposite(fix);
+        fix = fix_at(f, i + 1);
+        if fix != other {
             return false;
         }
     }

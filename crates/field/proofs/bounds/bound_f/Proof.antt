@@ -59,25 +59,32 @@ module _ (f : Field) (i : ℕ) (within : i + 1 < length (fixes f)) (w : Walked a
       let this = next-of (fixes f) i (f .next) (omega arith) in
       walked-stop alternate (fixes f) 0 i w this (two ∙ and-cut _ (is-not (behind h) (λ same. k (same ∙ sym (g ∙ here e)))))
 
+-- what holds before index i: those passed are followed by their opposites, and `fix` is the fix at i
+record Passed (f : Field) (end fix i : ℕ) : Type 0 where
+  pub within : i ≤ end
+  pub long : length (fixes f) ≡ end + 1
+  pub walked : Walked alternate (fixes f) 0 i
+  pub this : fix ≡ getD (named f) i (f .next)
+
 abbrev Inv-loop : tie.InvT-loop
-Inv-loop f end i₀ i = (i ≤ end) × ((length (fixes f) ≡ end + 1) × Walked alternate (fixes f) 0 i)
+Inv-loop f end fix₀ i₀ fix i = Passed f end fix i
 
 abbrev μ-loop : tie.MeasureT-loop
-μ-loop f end i₀ i = end - i
+μ-loop f end fix₀ i₀ fix i = end - i
 
 order-length-requires : tie.Need-order-length-requires Inv-loop μ-loop
 order-length-requires c κs = search needs
 
+fix-at-requires : tie.Need-fix-at-requires Inv-loop μ-loop
+fix-at-requires c κs = search needs
+
 loop-holds : tie.Need-loop-holds Inv-loop μ-loop
 unfolding orderLength
 loop-holds c =
-    let f = c .before .before .args .f in
-    let long : length (fixes f) ≡ c .order-length .result + 1 =
-    omega (arith, length-append (named f) (f .next ∷ []), length-map (orderOf (f .sequence)) (fixOf f), c .order-length .ensures) in
-    (omega arith, (long, walked-none _ _ 0 (omega arith)))
-
-fix-at-requires : tie.Need-fix-at-requires Inv-loop μ-loop
-fix-at-requires c κs = search needs
+    let f = c .before .before .before .args .f in
+    let long : length (fixes f) ≡ c .before .order-length .result + 1 =
+    omega (arith, length-append (named f) (f .next ∷ []), length-map (orderOf (f .sequence)) (fixOf f), c .before .order-length .ensures) in
+    record { within = omega arith; long = long; walked = walked-none _ _ 0 (omega arith); this = c .fix-at .ensures }
 
 opposite-requires : tie.Need-opposite-requires Inv-loop μ-loop
 opposite-requires c κs = search needs
@@ -91,10 +98,9 @@ fix-at-requires-2 c κs = search needs
 returns : tie.Need-returns Inv-loop μ-loop
 unfolding boundF
 returns c =
-    let l = c .before .before .before .before .before .loop in
-    let o = c .before .before in
+    let l = c .before .before .before .before .loop in
     let f = c .before .before .before .before .before .before .before .before .args .f in
-    sym (stops f (l .i) (omega arith) (l .inv .1 .1) (o .before .fix-at .ensures) (o .opposite .ensures) (c .before .fix-at2 .ensures) (c .if1 .taken))
+    sym (stops f (l .i) (omega arith) (l .inv .walked) (l .inv .this) (c .before .before .opposite .ensures) (c .before .fix-at2 .ensures) (c .if1 .taken))
 
 add-i : tie.Need-add-i Inv-loop μ-loop
 add-i c = search needs
@@ -104,21 +110,24 @@ loop-less c = search needs
 
 loop-again : tie.Need-loop-again Inv-loop μ-loop
 loop-again c =
-    let l = c .before .before .before .before .before .loop in
-    let o = c .before .before in
+    let l = c .before .before .before .before .loop in
     let f = c .before .before .before .before .before .before .before .before .args .f in
-    let more = goes f (l .i) (omega arith) (l .inv .1 .1) (o .before .fix-at .ensures) (o .opposite .ensures) (c .before .fix-at2 .ensures) (c .if1 .left) in
-    (omega arith, (l .inv .1 .0, more))
+    record {
+      within = omega arith;
+      long = l .inv .long;
+      walked = goes f (l .i) (omega arith) (l .inv .walked) (l .inv .this) (c .before .before .opposite .ensures) (c .before .fix-at2 .ensures) (c .if1 .left);
+      this = c .before .fix-at2 .ensures;
+    }
 
 returns-2 : tie.Need-returns-2 Inv-loop μ-loop
 unfolding boundF
 returns-2 c =
-    let f = c .before .before .before .before .args .f in
+    let f = c .before .before .before .before .before .args .f in
     let l = c .before .loop in
     let x = getD (fixes f) (l .i) (f .next) in
     let none = drop-of-length-le (fixes f) {i = l .i + 1} (omega arith) in
     let this = next-of (fixes f) (l .i) (f .next) (omega arith) in
-    sym (walked-stop alternate (fixes f) 0 (l .i) (l .inv .1 .1) this (ap (λ (r : List ℕ). alternate (x ∷ r)) none))
+    sym (walked-stop alternate (fixes f) 0 (l .i) (l .inv .walked) this (ap (λ (r : List ℕ). alternate (x ∷ r)) none))
 
 pub bound-f-spec : {M : Type 1} → statement M
 bound-f-spec =
@@ -127,8 +136,8 @@ bound-f-spec =
     Inv-loop
     μ-loop
     order-length-requires
-    loop-holds
     fix-at-requires
+    loop-holds
     opposite-requires
     add-fix-at
     fix-at-requires-2
