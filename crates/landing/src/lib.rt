@@ -8,7 +8,7 @@ use crate::effects::held_along;
 use crate::needs::check_number;
 use field::Field;
 use field::bounds::within_bounds;
-use field::find::fix_of;
+use field::find::aircraft_at;
 use field::find::leader_of;
 use field::find::place_of;
 use request::Request;
@@ -40,12 +40,13 @@ fn acceptance(f: Field, number: u16, along: u16) -> Answer
     ensures { λ a. ⌜ a ≡ acceptance f number along ⌝ }
 {
     let at = place_of(f, number);
+    let a = aircraft_at(f, at.zone, at.place);
     let s = f.sequence;
     Answer {
         number: 0,
         aircraft: number,
         zone: at.zone,
-        fix: fix_of(f, number),
+        fix: a.fix,
         leader: leader_of(s, number),
         along: along,
     }
