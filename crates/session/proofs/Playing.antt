@@ -1,11 +1,11 @@
 -- A session between two requests: what is written, what is counted, and what is left to play. Assumes nothing.
-use mathlib.Core.Path.{_≡_, refl, sym, ap, _∙_, subst}
+use mathlib.Core.Path.{_≡_, refl, sym, ap, _∙_, subst, subst⁻¹}
 use mathlib.Core.List.{List, [], _∷_, _++_}
-use Prim.Native.Nat.{ℕ, zero, suc, _+_, _*_, _^_, _≤_, _<_}
+use Prim.Native.Nat.{ℕ, zero, suc, _+_, _*_, _%_, _^_, _≤_, _<_}
 use native.Mathlib.Numerals.{add-one}
 use native.Mathlib.Omega.{arith}
-use lib.ListN.{length, drop, length-append}
-use lib.Seq.{drop-nil}
+use lib.ListN.{length, drop, getD, set, length-append}
+use lib.Seq.{drop-nil, getD-set-same}
 use Rattle.request.specs.declared.Request.{Request}
 use Rattle.practice.specs.declared.Reading.the-variants.{One, End}
 use Rattle.practice.specs.Requests.{readingAt}
@@ -115,6 +115,11 @@ module _ (rs : List Request) {f₀ : Field} {out₀ out : List ℕ} {f : Field} 
         fields = ap (λ (x : Stepped). fieldAfter (x .field) (drop (i + 1) rs)) q ∙ sym (ap (fieldAfter f) d) ∙ p .fields;
         counts = adds-more (subst (λ (l : List (Request × Answer)). Adds t l (played f₀ rs)) ps (p .counts)) k;
       }
+
+  -- where the field reached is put into one of two, at i % 2, it is read there
+  pub playing-turn : (fields : List Field) → length fields ≡ 2 → (d : Field) → Playing rs f₀ out₀ out (getD (set fields (i % 2) f) (i % 2) d) t at i
+  playing-turn fields e d =
+      subst⁻¹ (λ (g : Field). Playing rs f₀ out₀ out g t at i) (getD-set-same fields (i % 2) f d (let h : i % 2 < 2 = omega arith in omega arith)) p
 
   -- none is left: all lines are put
   pub playing-put : readingAt rs i ≡ End → Put out₀ 0 (answerLines 1 (played f₀ rs)) out at

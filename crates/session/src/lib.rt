@@ -42,11 +42,13 @@ fn legs_in_miles(legs: FileLegs) -> Legs
 }
 
 // Plays the requests of a body from the empty field, and puts the whole report: their lines and the last line.
+// Two fields take turns, the one before a request and the one after it.
 fn play_all(body: &[u8], legs: Legs, out: &mut Buffer) -> usize
     requires { ⌜ length (requestsOf (now body)) ≤ 4096 ⌝ }
     ensures { λ r. ⌜ Written (sessionReport legs (requestsOf (now (body .entry)))) (now (out .entry)) r (now (out .exit)) ⌝ }
 {
-    let mut f = empty_field(legs);
+    let empty = empty_field(legs);
+    let mut fields = [empty; 2];
     let mut t = none();
     let mut at = 0;
     let mut i = 0;
@@ -54,15 +56,17 @@ fn play_all(body: &[u8], legs: Legs, out: &mut Buffer) -> usize
         let Reading::One(r) = request_at(body, i) else {
             break;
         };
+        let f = fields[i % 2];
         let s = step(f, r);
         let a = s.answer;
         at = put_answer(out, at, i + 1, a);
         t = counted(t, r, a);
         let g = s.field;
-        f = g;
         i += 1;
+        fields[i % 2] = g;
     }
-    put_end(out, at, t, present_on(f))
+    let last = fields[i % 2];
+    put_end(out, at, t, present_on(last))
 }
 
 // Writes the report of a practice file into the buffer, and yields its length.
