@@ -1,12 +1,12 @@
 -- Laws of look-up: what it finds and where, and what it depends on. Assumes nothing.
-use mathlib.Core.Path.{_≡_, refl, sym, ap, _∙_, subst}
+use mathlib.Core.Path.{_≡_, refl, sym, ap, _∙_, subst, subst⁻¹}
 use mathlib.Core.Logic.{_≢_, _⊎_, inl, inr}
 use mathlib.Core.Bool.{Bool, true, false, cond, not, _||_, true≢false, or-true}
 use mathlib.Core.List.{List, [], _∷_, _++_, map, map-append, append-assoc}
 use Prim.Native.Nat.{ℕ, zero, suc, _+_, _≤_, _<_}
 use native.Mathlib.Omega.{arith}
 use borrow.Author.Tests.{eq-eqb, ne-eqb, eqb-true, eqb-false}
-use lib.Dec.{T, eqb}
+use lib.Dec.{T, leb, eqb, leb→le}
 use lib.ListN.{length, getD, take, drop}
 use lib.Seq.{split-at, length-take-le}
 use Rattle.leg.specs.Ticks.{Between}
@@ -22,7 +22,7 @@ use Rattle.field.specs.Edits.{withZone}
 use Rattle.field.proofs.Listed.{numberOf, numbersAt}
 use Rattle.field.proofs.EditLaws.{each-zone-with, queue-replaced, queue-kept}
 use Rattle.field.proofs.Tests.{decided, if-true, if-false, either-way, same}
-use Rattle.field.proofs.Lists.{or-false-left, or-false-right, absent-left, absent-right, in-append, in-left, in-right, alone, different-right, different-apart, zone-listed}
+use Rattle.field.proofs.Lists.{or-false-left, or-false-right, absent-left, absent-right, in-append, in-left, in-right, alone, different-right, different-apart, every-listed, zone-listed}
 
 abbrev pub numbers : List Aircraft → List ℕ
 numbers xs = map numberOf xs
@@ -190,6 +190,20 @@ absent-nowhere f n = find-none f n everywhere
 pub found-there : (f : Field) (n : ℕ) → isIn n (numbersIn f everywhere) ≡ true → Found f n everywhere (placeOf f n)
 unfolding placeOf
 found-there f n = find-there f n everywhere
+
+-- No place is past zone 13, ..
+pub place-within : (f : Field) (n : ℕ) → placeOf f n .zone ≤ 13
+place-within f n =
+    elim (decided (isIn n (numbersIn f everywhere))) [
+      | inl e ↦ leb→le (placeOf f n .zone) 13 (every-listed (λ (z : ℕ). leb z 13) everywhere (placeOf f n .zone) tt (found-there f n e .listed))
+      | inr e ↦ subst⁻¹ (λ (p : Place). p .zone ≤ 13) (absent-nowhere f n e) (omega arith)
+    ]
+
+-- .. and nobody stands in zone 0.
+pub nobody-nowhere : (f : Field) (place : ℕ) → aircraftAt f 0 place ≡ nobody
+unfolding aircraftAt inZone zoneOf queueOf
+nobody-nowhere f zero = refl
+nobody-nowhere f (suc place) = refl
 
 -- Where the numbers are all different, every aircraft present is found at its own place.
 pub own-place : (f : Field) (z place : ℕ) → T (allDifferent (numbersIn f everywhere)) → Between 1 13 z → 1 ≤ place → place ≤ howMany f z

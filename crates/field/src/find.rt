@@ -62,7 +62,12 @@ pub fn fix_of(f: Field, number: u16) -> u8
     ensures { λ r. ⌜ r ≡ fixOf f number ⌝ }
 {
     let at = place_of(f, number);
-    let a = aircraft_at(f, at.zone, at.place);
+    let zone = at.zone;
+    if zone == 0 {
+        return 0;
+    }
+    let q = f.zones[zone - 1];
+    let a = aircraft_in(q, at.place);
     a.fix
 }
 

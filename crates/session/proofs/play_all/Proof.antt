@@ -50,7 +50,7 @@ requests c = requestsOf (now (start c .args .body))
 abbrev request : tie.After-r Inv-loop μ-loop → Request
 request c = c .r .given .0 .0
 
--- what holds at the loop's head
+-- the empty field
 abbrev empty : tie.At-loop Inv-loop μ-loop → Field
 empty c = c .before .before .empty-field .result
 
