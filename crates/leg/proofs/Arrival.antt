@@ -16,7 +16,7 @@ use lib.Ieee.Positive.{num, den, den-pos, positive}
 use Rattle.leg.specs.declared.Progress.{Progress}
 use Rattle.leg.specs.declared.Progress.the-variants.{Flying}
 use Rattle.leg.specs.Progress.{whole, upTo, advanced, withinLeg, legalLeg, flownOut}
-use Rattle.leg.specs.Ticks.{Between, TickAmounts, total, afterTicks}
+use Rattle.leg.specs.Ticks.{Between, TickAmounts, addedUp, afterTicks}
 use Rattle.leg.proofs.Floats.{Worth, lt-false, eq-self, le-up, worth-of-le}
 use Rattle.leg.proofs.Grid.{parts, parts-value, upTo-yes, upTo-no, advanced-is}
 use Rattle.leg.proofs.Bounds.{leg-positive, legal-high, miles-worth, flying-within, end-kept}
@@ -75,23 +75,23 @@ joined n s a t = add-assoc n (s * a) (s * t) ∙ ap (λ (z : ℕ). n + z) (sym (
 
 module _ (leg : Float) (l : T (legalLeg leg)) {speed : ℕ} (s : Between 1 512 speed) where
   along-ticks : (n : ℕ) (x : Float) (amounts : List ℕ) → TickAmounts amounts → T (withinLeg (Flying x) leg) → Along leg n x
-      → (y : Float) × (afterTicks (Flying x) speed amounts leg ≡ Flying y) × Along leg (n + speed * total amounts) y
+      → (y : Float) × (afterTicks (Flying x) speed amounts leg ≡ Flying y) × Along leg (n + speed * addedUp amounts) y
   along-ticks n x [] r w h = (x, refl, subst (λ (z : ℕ). Along leg z x) (none n speed) h)
   along-ticks n x (amount ∷ amounts) r w h =
       let rest = along-ticks (n + speed * amount) (advanced x speed amount leg) amounts (r .1) (flying-within x leg l s (r .0) w) (along-tick leg n x l s (r .0) w h) in
-      (rest .0, rest .1, subst (λ (z : ℕ). Along leg z (rest .0)) (joined n speed amount (total amounts)) (rest .2))
+      (rest .0, rest .1, subst (λ (z : ℕ). Along leg z (rest .0)) (joined n speed amount (addedUp amounts)) (rest .2))
 
   -- 64 miles of ticks end the leg
-  pub arrives : (miles : Float) (amounts : List ℕ) → TickAmounts amounts → T (withinLeg (Flying miles) leg) → 262144 ≤ speed * total amounts → T (flownOut (afterTicks (Flying miles) speed amounts leg) leg)
+  pub arrives : (miles : Float) (amounts : List ℕ) → TickAmounts amounts → T (withinLeg (Flying miles) leg) → 262144 ≤ speed * addedUp amounts → T (flownOut (afterTicks (Flying miles) speed amounts leg) leg)
   unfolding ofInt
   arrives miles amounts r w h =
       let ends = along-ticks 0 miles amounts r w (inr (lit< tt, and-l (le (whole 0) miles) (le miles leg) w)) in
-      subst (λ (q : Progress). T (flownOut q leg)) (sym (ends .1)) (elim (ends .2) [ inl e ↦ e | inr k ↦ absurd (not-le-of-lt (k .0) (le-trans h (le-of-eq (sym (zero-add (speed * total amounts)))))) ])
+      subst (λ (q : Progress). T (flownOut q leg)) (sym (ends .1)) (elim (ends .2) [ inl e ↦ e | inr k ↦ absurd (not-le-of-lt (k .0) (le-trans h (le-of-eq (sym (zero-add (speed * addedUp amounts)))))) ])
 
 -- ---- equal ticks
-pub total-same : (n a : ℕ) → total (replicate n a) ≡ n * a
-total-same zero a = sym (zero-mul a)
-total-same (suc n) a = ap (λ (z : ℕ). a + z) (total-same n a) ∙ add-comm a (n * a) ∙ sym (suc-mul n a)
+pub added-same : (n a : ℕ) → addedUp (replicate n a) ≡ n * a
+added-same zero a = sym (zero-mul a)
+added-same (suc n) a = ap (λ (z : ℕ). a + z) (added-same n a) ∙ add-comm a (n * a) ∙ sym (suc-mul n a)
 
 pub all-same : (n : ℕ) {amount : ℕ} → Between 1 64 amount → TickAmounts (replicate n amount)
 all-same zero r = tt

@@ -13,7 +13,7 @@ use lib.Ieee.Back.{round-whole}
 use lib.Ieee.Order.{round-mono}
 use lib.Ieee.Scale.{round-same}
 use lib.Ieee.Positive.{positive-of-value, mul-at}
-use Rattle.leg.specs.Progress.{whole, sixtyFourths, stepOf, upTo, advanced}
+use Rattle.leg.specs.Progress.{whole, sixtyFourths, milesFlown, upTo, advanced}
 use Rattle.leg.specs.Ticks.{Between}
 use Rattle.leg.proofs.Floats.{Worth, value→worth, add-worth, div-at, dyadic, lt-of-values, lt-false}
 
@@ -66,7 +66,7 @@ upTo-grid k n k0 kh = go (decLe k n)
 
 -- ---- one tick
 module _ {speed amount : ℕ} (s : Between 1 512 speed) (a : Between 1 64 amount) where
-  step-is : stepOf speed amount ≡ parts (speed * amount)
+  step-is : milesFlown speed amount ≡ parts (speed * amount)
   step-is =
       let sv = sixtyFourths-value speed (omega arith) in
       let av = sixtyFourths-value amount (omega arith) in

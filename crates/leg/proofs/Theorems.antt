@@ -16,11 +16,11 @@ use lib.Ieee.Positive.{num, den}
 use Rattle.leg.specs.declared.Progress.{Progress}
 use Rattle.leg.specs.declared.Progress.the-variants.{Waiting, Flying}
 use Rattle.leg.specs.Progress.{whole, sixtyFourths, progressAfter, flownOut, withinLeg, legalLeg}
-use Rattle.leg.specs.Ticks.{Between, TickAmounts, total, afterTicks, FlownExactly, finiteMiles, flying}
+use Rattle.leg.specs.Ticks.{Between, TickAmounts, addedUp, afterTicks, FlownExactly, finiteMiles, flying}
 use Rattle.leg.proofs.Floats.{eq-self, worth→finite}
 use Rattle.leg.proofs.Grid.{parts-value, whole-value, sixtyFourths-value, grid-tick}
 use Rattle.leg.proofs.Bounds.{leg-positive, zero-under, miles-worth, flying-within, end-kept}
-use Rattle.leg.proofs.Arrival.{arrives, total-same, all-same}
+use Rattle.leg.proofs.Arrival.{arrives, added-same, all-same}
 
 -- ---- The beginning of a leg, and the legs of whole 64ths
 
@@ -55,22 +55,22 @@ one-tick-exact (Flying miles) k m {speed} {amount} r s a h =
 
 -- Ticks one after the other, from m / 4096 miles: exactly min (64 k) (m + speed * their amounts added up) / 4096.
 pub ticks-exact : (p : Progress) (k m : ℕ) {speed : ℕ} (amounts : List ℕ) → Between 1 4096 k → Between 1 512 speed → TickAmounts amounts → m ≤ 64 * k → FlownExactly p m
-    → FlownExactly (afterTicks p speed amounts (sixtyFourths k)) (min (64 * k) (m + speed * total amounts))
+    → FlownExactly (afterTicks p speed amounts (sixtyFourths k)) (min (64 * k) (m + speed * addedUp amounts))
 ticks-exact p k m {speed} [] r s a small h =
     let same : m ≡ min (64 * k) (m + speed * 0) = omega arith in
     subst (FlownExactly p) same h
 ticks-exact p k m {speed} (amount ∷ amounts) r s a small h =
     let n = min (64 * k) (m + speed * amount) in
-    let same : min (64 * k) (n + speed * total amounts) ≡ min (64 * k) (m + speed * (amount + total amounts)) = omega (arith, mul-add speed amount (total amounts)) in
+    let same : min (64 * k) (n + speed * addedUp amounts) ≡ min (64 * k) (m + speed * (amount + addedUp amounts)) = omega (arith, mul-add speed amount (addedUp amounts)) in
     let q = progressAfter p speed amount (sixtyFourths k) in
     subst (FlownExactly (afterTicks q speed amounts (sixtyFourths k))) same (ticks-exact q k n amounts r s (a .1) (omega arith) (one-tick-exact p k m r s (a .0) h))
 
 -- From the beginning of the leg: exactly min (64 k) (speed * the amounts added up) / 4096.
 pub leg-exact : (k : ℕ) {speed : ℕ} (amounts : List ℕ) → Between 1 4096 k → Between 1 512 speed → TickAmounts amounts
-    → FlownExactly (afterTicks (Flying (whole 0)) speed amounts (sixtyFourths k)) (min (64 * k) (speed * total amounts))
+    → FlownExactly (afterTicks (Flying (whole 0)) speed amounts (sixtyFourths k)) (min (64 * k) (speed * addedUp amounts))
 leg-exact k {speed} amounts r s a =
     let p = afterTicks (Flying (whole 0)) speed amounts (sixtyFourths k) in
-    subst (λ (n : ℕ). FlownExactly p (min (64 * k) n)) (zero-add (speed * total amounts)) (ticks-exact (Flying (whole 0)) k 0 amounts r s a (omega arith) zero-exact)
+    subst (λ (n : ℕ). FlownExactly p (min (64 * k) n)) (zero-add (speed * addedUp amounts)) (ticks-exact (Flying (whole 0)) k 0 amounts r s a (omega arith) zero-exact)
 
 -- ---- 2. On every legal leg, on the grid or off it
 
@@ -101,7 +101,7 @@ flying-kept (Flying miles) speed amount leg = refl
 -- ---- 3. Arrival
 
 -- From any miles within a legal leg, ticks that fly 64 miles (262144 of the 4096ths) or more between them leave it flown out.
-pub arrival : (miles leg : Float) {speed : ℕ} (amounts : List ℕ) → T (legalLeg leg) → Between 1 512 speed → TickAmounts amounts → T (withinLeg (Flying miles) leg) → 262144 ≤ speed * total amounts
+pub arrival : (miles leg : Float) {speed : ℕ} (amounts : List ℕ) → T (legalLeg leg) → Between 1 512 speed → TickAmounts amounts → T (withinLeg (Flying miles) leg) → 262144 ≤ speed * addedUp amounts
     → T (flownOut (afterTicks (Flying miles) speed amounts leg) leg)
 arrival miles leg amounts l s a w h = arrives leg l s miles amounts a w h
 
@@ -110,4 +110,4 @@ pub arrival-in-4096 : (miles leg : Float) {speed : ℕ} (n : ℕ) → T (legalLe
     → T (flownOut (afterTicks (Flying miles) speed (replicate n 64) leg) leg)
 arrival-in-4096 miles leg {speed} n l s w h =
     arrival miles leg (replicate n 64) l s (all-same n (record { least = lit≤ tt; most = lit≤ tt })) w
-    (subst (λ (z : ℕ). 262144 ≤ speed * z) (sym (total-same n 64)) (mul-le-mul (s .least) (mul-le-mul-right 64 h)))
+    (subst (λ (z : ℕ). 262144 ≤ speed * z) (sym (added-same n 64)) (mul-le-mul (s .least) (mul-le-mul-right 64 h)))

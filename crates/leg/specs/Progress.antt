@@ -16,8 +16,8 @@ abbrev pub sixtyFourths : ℕ → Float
 sixtyFourths n = div binary64 (whole n) (whole 64)
 
 -- "(speed / 64) × (amount / 64) miles, the product rounded once"
-abbrev pub stepOf : ℕ → ℕ → Float
-stepOf speed amount = mul binary64 (sixtyFourths speed) (sixtyFourths amount)
+abbrev pub milesFlown : ℕ → ℕ → Float
+milesFlown speed amount = mul binary64 (sixtyFourths speed) (sixtyFourths amount)
 
 -- "stops at the leg's length": x, where it is below the leg
 abbrev pub upTo : Float → Float → Float
@@ -25,7 +25,7 @@ upTo leg x = cond (lt x leg) x leg
 
 -- "12 tick": the miles after it, "the sum rounded once"
 unfoldable pub advanced : Float → ℕ → ℕ → Float → Float
-advanced miles speed amount leg = upTo leg (add binary64 miles (stepOf speed amount))
+advanced miles speed amount leg = upTo leg (add binary64 miles (milesFlown speed amount))
 
 -- "12 tick: everyone flying advances"
 abbrev pub progressAfter : Progress → ℕ → ℕ → Float → Progress

@@ -20,9 +20,9 @@ TickAmounts [] = Unit
 TickAmounts (amount ∷ amounts) = Between 1 64 amount × TickAmounts amounts
 
 -- "the tick amounts added up"
-abbrev pub total : List ℕ → ℕ
-total [] = 0
-total (amount ∷ amounts) = amount + total amounts
+abbrev pub addedUp : List ℕ → ℕ
+addedUp [] = 0
+addedUp (amount ∷ amounts) = amount + addedUp amounts
 
 -- the progress after ticks of these amounts, one after the other
 abbrev pub afterTicks : Progress → ℕ → List ℕ → Float → Progress

@@ -7,10 +7,11 @@ use Prim.Native.Nat.{ℕ, _+_, _≤_, _<_}
 use lib.Dec.{T, leb, ltb, eqb, leb→le, ltb→lt, eqb-refl}
 use lib.ListN.{length}
 use lib.Ieee.Fits.{and-i}
+use Rattle.request.specs.Input.{within}
 use Rattle.field.specs.Boxes.{opposite, sideOf, at3000, at2000, lateral, missed, area, operation, zonesFrom}
 use Rattle.field.specs.Counts.{total}
 use Rattle.field.specs.Bounds.{every}
-use Rattle.order.specs.Model.{Side, right, left, opp, num, between, count, countFix, free, isNil, Kind, descend, approaching, merge, final, hold, needs, target, mayEnter, mayEnterLateral, firstFix, all, okay, weight, weights}
+use Rattle.order.specs.Model.{Side, right, left, opp, num, count, countFix, free, isNil, Kind, descend, approaching, merge, final, hold, needs, target, mayEnter, mayEnterLateral, firstFix, all, okay, weight, weights}
 use Rattle.order.proofs.Claims.{Each, Claim, One, Two, ofSequences, of-sequence, ofOnes, of-one, ofTwos, of-two}
 
 -- ---- the sequence as a whole
@@ -25,7 +26,7 @@ abbrev fitting : Claim (List ℕ)
 fitting =
     record {
       given = λ f zs. true;
-      shown = λ f zs. leb (length zs) 4 ∷ all (between 1 12) zs ∷ leb (weights zs) 28 ∷ every (λ z. leb (count zs z) 1) (zonesFrom 1 6) ∷ [];
+      shown = λ f zs. leb (length zs) 4 ∷ all (within 1 12) zs ∷ leb (weights zs) 28 ∷ every (λ z. leb (count zs z) 1) (zonesFrom 1 6) ∷ [];
     }
 
 fitting-holds : T (ofSequences fitting)
@@ -36,7 +37,7 @@ pub okay-length : (f : Side) (zs : List ℕ) → T (okay f zs) → length zs ≤
 okay-length f zs o = leb→le (length zs) 4 (of-sequence fitting fitting-holds f zs o tt 0)
 
 -- all of them in zones 1 to 12
-pub okay-zones : (f : Side) (zs : List ℕ) → T (okay f zs) → T (all (between 1 12) zs)
+pub okay-zones : (f : Side) (zs : List ℕ) → T (okay f zs) → T (all (within 1 12) zs)
 okay-zones f zs o = of-sequence fitting fitting-holds f zs o tt 1
 
 -- their weights add up to at most 28
@@ -140,7 +141,7 @@ pub record Moved (f : Side) (zs₁ : List ℕ) (z w : ℕ) (zs₂ : List ℕ) : 
   -- nobody behind is in the zone that is entered
   pub none-behind : T (free zs₂ w)
   pub other : T (not (eqb w z))
-  pub inside : T (between 1 12 w)
+  pub inside : T (within 1 12 w)
   pub lighter : weight w < weight z
 
 -- a move of one by the kind
@@ -151,7 +152,7 @@ moved k =
       shown =
           λ f (zs₁, z, zs₂).
           let w = target k zs₁ z zs₂ in
-          okay f (zs₁ ++ w ∷ zs₂) ∷ free zs₂ w ∷ not (eqb w z) ∷ between 1 12 w ∷ ltb (weight w) (weight z) ∷ [];
+          okay f (zs₁ ++ w ∷ zs₂) ∷ free zs₂ w ∷ not (eqb w z) ∷ within 1 12 w ∷ ltb (weight w) (weight z) ∷ [];
     }
 
 descend-holds : T (ofOnes (moved descend))
@@ -199,7 +200,7 @@ moves k f zs₁ z zs₂ o h n =
 
 -- one at 3000 leads those in the missed zone of the side
 abbrev holdingLeads : Claim One
-holdingLeads = record { given = λ f (zs₁, z, zs₂). between 7 8 z; shown = λ f (zs₁, z, zs₂). free zs₂ (at3000 (sideOf z)) ∷ [] }
+holdingLeads = record { given = λ f (zs₁, z, zs₂). within 7 8 z; shown = λ f (zs₁, z, zs₂). free zs₂ (at3000 (sideOf z)) ∷ [] }
 
 holding-leads-holds : T (ofOnes holdingLeads)
 unfolding sideOf
@@ -207,7 +208,7 @@ holding-leads-holds = tt
 
 -- nobody at 3000 is behind one in the missed zone of the side
 pub hold-ahead : (f : Side) (zs₁ : List ℕ) (z : ℕ) (zs₂ : List ℕ)
-    → T (between 7 8 z) → T (okay f (zs₁ ++ z ∷ zs₂)) → T (free zs₂ (at3000 (sideOf z)))
+    → T (within 7 8 z) → T (okay f (zs₁ ++ z ∷ zs₂)) → T (free zs₂ (at3000 (sideOf z)))
 hold-ahead f zs₁ z zs₂ u o = of-one holdingLeads holding-leads-holds f zs₁ z zs₂ o u 0
 
 -- the one at 3000, zone y, has gone to 2000, zone w, and the one in the missed zone z to 3000
@@ -220,17 +221,17 @@ pub record BothMoved (f : Side) (zs₁ : List ℕ) (y w : ℕ) (zs₂ : List ℕ
   -- nobody behind the missed one is at 3000
   pub none-behind : T (free zs₃ y)
   -- the sequence between the two moves
-  pub okay-between : T (okay f (zs₁ ++ w ∷ (zs₂ ++ z ∷ zs₃)))
+  pub okay-within : T (okay f (zs₁ ++ w ∷ (zs₂ ++ z ∷ zs₃)))
   pub apart : T (not (eqb w y)) × T (not (eqb y z)) × T (not (eqb w z))
-  pub inside-y : T (between 1 12 y)
-  pub inside-w : T (between 1 12 w)
+  pub inside-y : T (within 1 12 y)
+  pub inside-w : T (within 1 12 w)
   pub lighter : weight w + weight y < weight y + weight z
 
 -- a move of two by a hold
 abbrev bothMoved : Claim Two
 bothMoved =
     record {
-      given = λ f (zs₁, y, zs₂, z, zs₃). between 7 8 z && eqb y (at3000 (sideOf z)) && free (zs₁ ++ y ∷ zs₂) z;
+      given = λ f (zs₁, y, zs₂, z, zs₃). within 7 8 z && eqb y (at3000 (sideOf z)) && free (zs₁ ++ y ∷ zs₂) z;
       shown =
           λ f (zs₁, y, zs₂, z, zs₃).
           let w = at2000 (sideOf z) in
@@ -242,8 +243,8 @@ bothMoved =
           ∷ not (eqb w y)
           ∷ not (eqb y z)
           ∷ not (eqb w z)
-          ∷ between 1 12 y
-          ∷ between 1 12 w
+          ∷ within 1 12 y
+          ∷ within 1 12 w
           ∷ ltb (weight w + weight y) (weight y + weight z)
           ∷ [];
     }
@@ -254,19 +255,19 @@ both-moved-holds = tt
 
 -- a hold of one at the head of its missed zone, where 3000 is occupied
 pub hold-both : (f : Side) (zs₁ zs₂ : List ℕ) (z : ℕ) (zs₃ : List ℕ)
-    → T (between 7 8 z) → T (okay f (zs₁ ++ at3000 (sideOf z) ∷ (zs₂ ++ z ∷ zs₃))) → T (free (zs₁ ++ at3000 (sideOf z) ∷ zs₂) z)
+    → T (within 7 8 z) → T (okay f (zs₁ ++ at3000 (sideOf z) ∷ (zs₂ ++ z ∷ zs₃))) → T (free (zs₁ ++ at3000 (sideOf z) ∷ zs₂) z)
     → BothMoved f zs₁ (at3000 (sideOf z)) (at2000 (sideOf z)) zs₂ z zs₃
 hold-both f zs₁ zs₂ z zs₃ u o h =
     let y = at3000 (sideOf z) in
     let w = at2000 (sideOf z) in
-    let given = and-i (between 7 8 z && eqb y y) (free (zs₁ ++ y ∷ zs₂) z) (and-i (between 7 8 z) (eqb y y) u (eqb-refl y)) h in
+    let given = and-i (within 7 8 z && eqb y y) (free (zs₁ ++ y ∷ zs₂) z) (and-i (within 7 8 z) (eqb y y) u (eqb-refl y)) h in
     let m = of-two bothMoved both-moved-holds f zs₁ y zs₂ z zs₃ o given in
     record {
       okay-after = m 0;
       head-above = m 1;
       none-below = m 2;
       none-behind = m 3;
-      okay-between = m 4;
+      okay-within = m 4;
       apart = (m 5, m 6, m 7);
       inside-y = m 8;
       inside-w = m 9;
@@ -277,7 +278,7 @@ hold-both f zs₁ zs₂ z zs₃ u o h =
 
 -- the kind of request that moves the one in zone z on
 abbrev pub headKind : ℕ → Kind
-headKind z = cond (between 1 2 z) descend (cond (between 3 6 z) approaching (cond (between 7 8 z) hold (cond (between 9 10 z) merge final)))
+headKind z = cond (within 1 2 z) descend (cond (within 3 6 z) approaching (cond (within 7 8 z) hold (cond (within 9 10 z) merge final)))
 
 -- the first leaves the sequence, and can go on
 abbrev firstGoes : Claim One

@@ -10,7 +10,8 @@ use native.Mathlib.Omega.{arith}
 use lib.Dec.{T, leb, leb→le}
 use lib.ListN.{length}
 use lib.Ieee.Fits.{and-l, and-r}
-use Rattle.order.specs.Model.{Side, right, left, opp, between, all, number, sameArea, mayLead, mayHead, chain, roomToMiss, okay}
+use Rattle.request.specs.Input.{within}
+use Rattle.order.specs.Model.{Side, right, left, opp, all, number, sameArea, mayLead, mayHead, chain, roomToMiss, okay}
 
 -- the test of every number below n
 abbrev below : ℕ → (ℕ → Bool) → Bool
@@ -38,7 +39,7 @@ inFront next f zs z = elim (mayHead (opp f) z zs) [ true ↦ next (opp f) (z ∷
 -- who may head a sequence is in a zone below 13
 head-below : (f : Side) (z : ℕ) (zs : List ℕ) → T (mayHead f z zs) → z < 13
 head-below f z zs t =
-    let a = between 1 12 z in
+    let a = within 1 12 z in
     let b = all (mayLead f z) zs in
     let at-most-12 = leb→le z 12 (and-r (leb 1 z) (leb z 12) (and-l a b (and-l (a && b) (leb (number (sameArea z) zs) 1) t))) in
     omega arith

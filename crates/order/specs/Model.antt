@@ -6,6 +6,7 @@ use mathlib.Core.List.{List, [], _∷_, _++_}
 use Prim.Native.Nat.{ℕ, suc, _+_, _*_, _/_, _%_}
 use lib.Dec.{leb, ltb, eqb}
 use lib.ListN.{length, getD}
+use Rattle.request.specs.Input.{within}
 use Rattle.field.specs.Boxes.{opposite, sideOf, at3000, at2000, lateral, missed, base, area, approach, operation}
 use Rattle.field.specs.Counts.{isIn, total}
 
@@ -28,10 +29,6 @@ nextFix f [] = f
 nextFix f (z ∷ zs) = nextFix (opp f) zs
 
 -- ---- who is where
-
--- n is from low to high
-abbrev pub between : ℕ → ℕ → ℕ → Bool
-between low high n = leb low n && leb n high
 
 -- how many are in zone w
 abbrev pub count : List ℕ → ℕ → ℕ
@@ -69,15 +66,15 @@ pub data Kind : Type 0 where
 -- "first in sequence or leader on the approach; then at most one aircraft on the opposite base"
 abbrev pub mayApproach : List ℕ → ℕ → List ℕ → Bool
 mayApproach zs₁ z zs₂ =
-    (isNil zs₁ || between 9 12 (lastOr 0 zs₁)) && leb (count (zs₁ ++ z ∷ zs₂) (base (opposite (sideOf z)))) 1
+    (isNil zs₁ || within 9 12 (lastOr 0 zs₁)) && leb (count (zs₁ ++ z ∷ zs₂) (base (opposite (sideOf z)))) 1
 
 -- what the kind needs
 abbrev pub needs : Kind → List ℕ → ℕ → List ℕ → Bool
-needs descend zs₁ z zs₂ = between 1 2 z && free (zs₁ ++ z ∷ zs₂) (at2000 z)
-needs approaching zs₁ z zs₂ = between 3 6 z && (between 5 6 z || mayApproach zs₁ z zs₂)
-needs merge zs₁ z zs₂ = between 9 10 z && (isNil zs₁ || between 11 12 (lastOr 0 zs₁))
+needs descend zs₁ z zs₂ = within 1 2 z && free (zs₁ ++ z ∷ zs₂) (at2000 z)
+needs approaching zs₁ z zs₂ = within 3 6 z && (within 5 6 z || mayApproach zs₁ z zs₂)
+needs merge zs₁ z zs₂ = within 9 10 z && (isNil zs₁ || within 11 12 (lastOr 0 zs₁))
 needs final zs₁ z zs₂ = eqb z 11
-needs hold zs₁ z zs₂ = between 7 8 z && free (zs₁ ++ z ∷ zs₂) (at3000 (sideOf z))
+needs hold zs₁ z zs₂ = within 7 8 z && free (zs₁ ++ z ∷ zs₂) (at3000 (sideOf z))
 
 -- where the kind leads
 abbrev pub target : Kind → List ℕ → ℕ → List ℕ → ℕ
@@ -114,7 +111,7 @@ abbrev pub ofArea : Side → ℕ → Bool
 ofArea s w = leb w 8 && eqb (w % 2) (num s % 2)
 
 abbrev pub isLateral : ℕ → Bool
-isLateral z = between 5 6 z
+isLateral z = within 5 6 z
 
 -- 1 where the test holds, else 0
 abbrev pub one : Bool → ℕ
@@ -148,7 +145,7 @@ mayLead f z w =
 
 -- one in zone z with fix f at the head of zs: those behind may follow it, and at most one of them is in its area
 abbrev pub mayHead : Side → ℕ → List ℕ → Bool
-mayHead f z zs = between 1 12 z && all (mayLead f z) zs && leb (number (sameArea z) zs) 1
+mayHead f z zs = within 1 12 z && all (mayLead f z) zs && leb (number (sameArea z) zs) 1
 
 -- mayHead holds of each one and those behind it
 abbrev pub chain : Side → List ℕ → Bool

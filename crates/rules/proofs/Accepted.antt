@@ -10,7 +10,7 @@ use lib.Dec.{T, leb, eqb, leb→le, eqb→eq}
 use lib.ListN.{length}
 use lib.Ieee.Fits.{and-r}
 use borrow.Author.Tests.{eqb-true, eq-eqb}
-use Rattle.request.specs.Input.{firstRefused}
+use Rattle.request.specs.Input.{within, firstRefused}
 use Rattle.request.specs.declared.Request.{Request}
 use Rattle.request.proofs.Tests as input
 use Rattle.field.specs.declared.Aircraft.{Aircraft}
@@ -20,7 +20,7 @@ use Rattle.field.specs.Boxes.{sideOf, at3000, at2000}
 use Rattle.field.specs.Counts.{howMany}
 use Rattle.field.specs.Find.{placeOf, isFirst}
 use Rattle.field.specs.Bounds.{isEmpty}
-use Rattle.order.specs.Model.{Side, between, count, free, isNil, okay, one}
+use Rattle.order.specs.Model.{Side, count, free, isNil, okay, one}
 use Rattle.order.proofs.Facts.{final-first, hold-ahead}
 use Rattle.rules.specs.Kinds.{startsFrom, headChecks, moved, held}
 use Rattle.rules.specs.Step.{effectOf}
@@ -39,24 +39,24 @@ use Rattle.rules.proofs.HoldBoth.{after-both}
 use Rattle.rules.proofs.AtEnds.{after-7, after-8, after-9, after-10}
 
 -- ---- zones that kinds start from, where the zone is one of 1 to 13
-land-from : (z : ℕ) → T (between 1 13 z) → T (startsFrom 7 z) → T (eqb z 12)
+land-from : (z : ℕ) → T (within 1 13 z) → T (startsFrom 7 z) → T (eqb z 12)
 unfolding startsFrom
 land-from = zones-imply (startsFrom 7) (λ z. eqb z 12) tt
 
-miss-from : (z : ℕ) → T (between 1 13 z) → T (startsFrom 10 z) → T (eqb z 12)
+miss-from : (z : ℕ) → T (within 1 13 z) → T (startsFrom 10 z) → T (eqb z 12)
 unfolding startsFrom
 miss-from = zones-imply (startsFrom 10) (λ z. eqb z 12) tt
 
-exit-from : (z : ℕ) → T (between 1 13 z) → T (startsFrom 9 z) → T (eqb z 11)
+exit-from : (z : ℕ) → T (within 1 13 z) → T (startsFrom 9 z) → T (eqb z 11)
 unfolding startsFrom
 exit-from = zones-imply (startsFrom 9) (λ z. eqb z 11) tt
 
-taxi-from : (z : ℕ) → T (between 1 13 z) → T (startsFrom 8 z) → T (eqb z 13)
+taxi-from : (z : ℕ) → T (within 1 13 z) → T (startsFrom 8 z) → T (eqb z 13)
 unfolding startsFrom
 taxi-from = zones-imply (startsFrom 8) (λ z. eqb z 13) tt
 
 -- nobody else starts from the runway
-runway-only : (k : ℕ) → T (between 1 13 k) → T (startsFrom k 13) → k ≡ 8
+runway-only : (k : ℕ) → T (within 1 13 k) → T (startsFrom k 13) → k ≡ 8
 unfolding startsFrom
 runway-only k t u = eqb-true k 8 (passed (zones-imply (λ k. startsFrom k 13) (λ k. eqb k 8) tt k t u))
 
@@ -74,9 +74,9 @@ no-runway [] e = refl
 no-runway (x ∷ xs) e = absurd (omega arith)
 
 -- a missed zone is no holding at 3000
-missed-apart : (z : ℕ) → T (between 1 13 z) → T (between 7 8 z) → eqb z (at3000 (sideOf z)) ≡ false
+missed-apart : (z : ℕ) → T (within 1 13 z) → T (within 7 8 z) → eqb z (at3000 (sideOf z)) ≡ false
 unfolding sideOf
-missed-apart z t u = failed {b = eqb z (at3000 (sideOf z))} (zones-imply (between 7 8) (λ z. not (eqb z (at3000 (sideOf z)))) tt z t u)
+missed-apart z t u = failed {b = eqb z (at3000 (sideOf z))} (zones-imply (within 7 8) (λ z. not (eqb z (at3000 (sideOf z)))) tt z t u)
 
 -- ---- kind 11 where 3000 is occupied
 module _ (f : Side) (a : List Placed) (e : Placed) (b : List Placed) (runway : List Aircraft) (legs : Legs) (o : Orderly f (a ++ e ∷ b) runway legs) (r : Request)
@@ -127,7 +127,7 @@ module _ (f : Side) (line : List Placed) (runway : List Aircraft) (legs : Legs) 
   G = fieldOf f line runway legs
 
   -- the aircraft of a request whose kind starts from a zone of the line
-  moving : (k : ℕ) → r .kind ≡ k → T (between 1 13 k) → (k ≡ 8 → ⊥) → firstRefused (headChecks G r ++ besides G r k) ≡ 0
+  moving : (k : ℕ) → r .kind ≡ k → T (within 1 13 k) → (k ≡ 8 → ⊥) → firstRefused (headChecks G r ++ besides G r k) ≡ 0
       → ((h : Heading f line runway legs r) → Orderly f (h .ahead ++ h .here ∷ h .behind) runway legs → firstRefused (besides (fieldOf f (h .ahead ++ h .here ∷ h .behind) runway legs) r k) ≡ 0 → After f (h .ahead ++ h .here ∷ h .behind) runway legs r)
       → After f line runway legs r
   moving k h t n c go =
@@ -149,7 +149,7 @@ module _ (f : Side) (line : List Placed) (runway : List Aircraft) (legs : Legs) 
       no-line (h .ahead)
       (final-first f (zonesIn (h .ahead)) (zonesIn (h .behind)) (subst (λ (v : ℕ). T (okay f (zonesIn (h .ahead) ++ v ∷ zonesIn (h .behind)))) z (okay-split f (h .ahead) (h .here) (h .behind) (q .okay-line))) (subst (λ (v : ℕ). T (free (zonesIn (h .ahead)) v)) z (h .heads)))
 
-  zone-13 : (h : Heading f line runway legs r) → Orderly f (h .ahead ++ h .here ∷ h .behind) runway legs → T (between 1 13 (h .here .zone))
+  zone-13 : (h : Heading f line runway legs r) → Orderly f (h .ahead ++ h .here ∷ h .behind) runway legs → T (within 1 13 (h .here .zone))
   zone-13 h q = lower (h .here .zone) (zone-in f (h .ahead) (h .here) (h .behind) runway legs q)
 
   -- kind 7

@@ -16,7 +16,7 @@ use Rattle.field.specs.declared.Legs.{Legs}
 use Rattle.field.specs.Boxes.{isFlyingZone, progressInto, withProgress}
 use Rattle.field.specs.Counts.{isIn}
 use Rattle.field.specs.Bounds.{every, allDifferent}
-use Rattle.order.specs.Model.{Side, between, free, Kind, needs, target, okay, weight, weights, one}
+use Rattle.order.specs.Model.{Side, free, Kind, needs, target, okay, weight, weights, one}
 use Rattle.order.proofs.Facts.{okay-length, okay-zones, moves}
 use Rattle.rules.specs.Kinds.{moved}
 use Rattle.rules.specs.Step.{effectOf}
@@ -136,8 +136,8 @@ okay-joined f a e b t = subst (λ (l : List ℕ). T (okay f l)) (sym (zones-spli
 
 -- ---- one of the line, at the head of its zone, moves to another zone
 module _ (f : Side) (a : List Placed) (e : Placed) (b : List Placed) (runway : List Aircraft) (legs : Legs) (o : Orderly f (a ++ e ∷ b) runway legs) where
-  pub zone-in : T (between 1 12 (e .zone))
-  zone-in = all-at (between 1 12) (λ (p : Placed). p .zone) a e b (okay-zones f (zonesIn (a ++ e ∷ b)) (o .okay-line))
+  pub zone-in : T (within 1 12 (e .zone))
+  zone-in = all-at (within 1 12) (λ (p : Placed). p .zone) a e b (okay-zones f (zonesIn (a ++ e ∷ b)) (o .okay-line))
 
   pub room-for : length (a ++ e ∷ b) ≤ 4
   room-for = let p = okay-length f (zonesIn (a ++ e ∷ b)) (o .okay-line) in let q = length-zones (a ++ e ∷ b) in omega arith
@@ -146,7 +146,7 @@ module _ (f : Side) (a : List Placed) (e : Placed) (b : List Placed) (runway : L
   fit-here = and-l (placedFits legs e) (every (placedFits legs) b) (Rattle.rules.proofs.Lists.every-right (placedFits legs) a (e ∷ b) (o .fit-line))
 
   -- a move that the model allows, to zone w
-  module _ (w : ℕ) (heads : T (free (zonesIn a) (e .zone))) (behind : T (free (zonesIn b) w)) (other : T (not (eqb w (e .zone)))) (in-zone : T (between 1 12 w)) (after : T (okay f (zonesIn a ++ w ∷ zonesIn b))) where
+  module _ (w : ℕ) (heads : T (free (zonesIn a) (e .zone))) (behind : T (free (zonesIn b) w)) (other : T (not (eqb w (e .zone)))) (in-zone : T (within 1 12 w)) (after : T (okay f (zonesIn a ++ w ∷ zonesIn b))) where
     may-move : MayMove a e b w
     may-move =
         record {

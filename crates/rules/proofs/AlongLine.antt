@@ -19,7 +19,7 @@ use Rattle.field.specs.Counts.{isIn}
 use Rattle.field.specs.Find.{placeOf, fixOf}
 use Rattle.field.specs.Bounds.{every, allDifferent}
 use Rattle.request.specs.Input.{within}
-use Rattle.order.specs.Model.{Side, right, left, opp, num, between, sameArea, ofArea, isLateral, one, rank, height, number, all, mayLead, mayHead, chain, okay}
+use Rattle.order.specs.Model.{Side, right, left, opp, num, sameArea, ofArea, isLateral, one, rank, height, number, all, mayLead, mayHead, chain, okay}
 use Rattle.order.specs.Model as model
 use Rattle.order.proofs.Facts.{okay-zones}
 use Rattle.rules.specs.Reason.{Listed, listed, along, those, isInZone, isInArea, hasFix, neverFalls, eachAmong, fromLanding, approachOrder, heightIn, areaOrder, hasRoom, roomToMiss, lateralFree, lateralEntry, Reason}
@@ -45,7 +45,7 @@ module _ (f : Side) (line : List Placed) (runway : List Aircraft) (legs : Legs) 
   seen-from a (x ∷ b) e =
       let n = x .aircraft .number in
       let d = subst (λ (l : List Placed). T (allDifferent (numbersOf l ++ numbers runway))) e (o .different) in
-      let t = all-at (between 1 12) (λ (p : Placed). p .zone) a x b (subst (λ (l : List Placed). T (all (between 1 12) (zonesIn l))) e (okay-zones f (zonesIn line) (o .okay-line))) in
+      let t = all-at (within 1 12) (λ (p : Placed). p .zone) a x b (subst (λ (l : List Placed). T (all (within 1 12) (zonesIn l))) e (okay-zones f (zonesIn line) (o .okay-line))) in
       let z : placeOf F n .zone ≡ x .zone = ap (λ (l : List Placed). placeOf (fieldOf f l runway legs) n .zone) e ∙ ap (λ (p : Place). p .zone) (located f a x b runway legs d t) in
       let s : fixOf F n ≡ x .aircraft .fix = ap (λ (l : List Placed). fixOf (fieldOf f l runway legs) n) e ∙ fix-there f a x b runway legs d t in
       let h : listed F n ≡ seen x = λ i. record { number = n; zone = z i; fix = s i } in
@@ -74,24 +74,24 @@ module _ (f : Side) (line : List Placed) (runway : List Aircraft) (legs : Legs) 
 -- ---- zones of the model and of the field
 
 -- what holds of each zone of the operation area
-pub each-operation : (P : ℕ → Type 0) → P 1 × P 2 × P 3 × P 4 × P 5 × P 6 × P 7 × P 8 × P 9 × P 10 × P 11 × P 12 → (z : ℕ) → T (between 1 12 z) → P z
+pub each-operation : (P : ℕ → Type 0) → P 1 × P 2 × P 3 × P 4 × P 5 × P 6 × P 7 × P 8 × P 9 × P 10 × P 11 × P 12 → (z : ℕ) → T (within 1 12 z) → P z
 each-operation P (p1, p2, p3, p4, p5, p6, p7, p8, p9, p10, p11, p12) z t =
-    each-zone (λ (y : ℕ). T (between 1 12 y) → P y)
+    each-zone (λ (y : ℕ). T (within 1 12 y) → P y)
     ((λ u. p1), ((λ u. p2), ((λ u. p3), ((λ u. p4), ((λ u. p5), ((λ u. p6), ((λ u. p7), ((λ u. p8), ((λ u. p9), ((λ u. p10), ((λ u. p11), ((λ u. p12), ((λ u. absurd u), tt)))))))))))))
     z (lower z t) t
 
-pub landing-rank : (z : ℕ) → T (between 1 12 z) → fromLanding z + rank z ≡ 3
+pub landing-rank : (z : ℕ) → T (within 1 12 z) → fromLanding z + rank z ≡ 3
 landing-rank = each-operation (λ z. fromLanding z + rank z ≡ 3) (refl, refl, refl, refl, refl, refl, refl, refl, refl, refl, refl, refl)
 
-pub area-is : (s : Side) (z : ℕ) → T (between 1 12 z) → isIn z (area (num s)) ≡ ofArea s z
+pub area-is : (s : Side) (z : ℕ) → T (within 1 12 z) → isIn z (area (num s)) ≡ ofArea s z
 area-is right = each-operation (λ z. isIn z (area 1) ≡ ofArea right z) (refl, refl, refl, refl, refl, refl, refl, refl, refl, refl, refl, refl)
 area-is left = each-operation (λ z. isIn z (area 2) ≡ ofArea left z) (refl, refl, refl, refl, refl, refl, refl, refl, refl, refl, refl, refl)
 
-pub height-is : (s : Side) (z : ℕ) → T (between 1 12 z) → T (ofArea s z) → heightIn (num s) z ≡ height z
+pub height-is : (s : Side) (z : ℕ) → T (within 1 12 z) → T (ofArea s z) → heightIn (num s) z ≡ height z
 height-is right = each-operation (λ z. T (ofArea right z) → heightIn 1 z ≡ height z) ((λ t. refl), (λ t. absurd t), (λ t. refl), (λ t. absurd t), (λ t. refl), (λ t. absurd t), (λ t. refl), (λ t. absurd t), (λ t. absurd t), (λ t. absurd t), (λ t. absurd t), (λ t. absurd t))
 height-is left = each-operation (λ z. T (ofArea left z) → heightIn 2 z ≡ height z) ((λ t. absurd t), (λ t. refl), (λ t. absurd t), (λ t. refl), (λ t. absurd t), (λ t. refl), (λ t. absurd t), (λ t. refl), (λ t. absurd t), (λ t. absurd t), (λ t. absurd t), (λ t. absurd t))
 
-lateral-side : (s : Side) (z : ℕ) → T (between 1 12 z) → T (isLateral z) → ofArea s z ≡ false → eqb (num s) (sideOf z) ≡ false
+lateral-side : (s : Side) (z : ℕ) → T (within 1 12 z) → T (isLateral z) → ofArea s z ≡ false → eqb (num s) (sideOf z) ≡ false
 unfolding sideOf
 lateral-side right =
     each-operation (λ z. T (isLateral z) → ofArea right z ≡ false → eqb 1 (sideOf z) ≡ false) ((λ t e. absurd t), (λ t e. absurd t), (λ t e. absurd t), (λ t e. absurd t), (λ t e. e), (λ t e. refl), (λ t e. absurd t), (λ t e. absurd t), (λ t e. absurd t), (λ t e. absurd t), (λ t e. absurd t), (λ t e. absurd t))
@@ -135,15 +135,15 @@ leads f z w t =
     beside false b t u = absurd u
 
 -- what holds of each one that z may lead holds of all behind it
-follow : (f : Side) (z : ℕ) (p : Listed → Bool) (l : List Placed) → T (all (mayLead f z) (zonesIn l)) → T (all (between 1 12) (zonesIn l))
-    → ((e : Placed) → T (between 1 12 (e .zone)) → Leads f z (e .zone) → T (p (seen e))) → T (every p (map seen l))
+follow : (f : Side) (z : ℕ) (p : Listed → Bool) (l : List Placed) → T (all (mayLead f z) (zonesIn l)) → T (all (within 1 12) (zonesIn l))
+    → ((e : Placed) → T (within 1 12 (e .zone)) → Leads f z (e .zone) → T (p (seen e))) → T (every p (map seen l))
 follow f z p [] m t h = tt
 follow f z p (e ∷ l) m t h =
     let mays = all (mayLead f z) (zonesIn l) in
-    let ins = all (between 1 12) (zonesIn l) in
+    let ins = all (within 1 12) (zonesIn l) in
     and-i (p (seen e)) (every p (map seen l))
-    (h e (and-l (between 1 12 (e .zone)) ins t) (leads f z (e .zone) (and-l (mayLead f z (e .zone)) mays m)))
-    (follow f z p l (and-r (mayLead f z (e .zone)) mays m) (and-r (between 1 12 (e .zone)) ins t) h)
+    (h e (and-l (within 1 12 (e .zone)) ins t) (leads f z (e .zone) (and-l (mayLead f z (e .zone)) mays m)))
+    (follow f z p l (and-r (mayLead f z (e .zone)) mays m) (and-r (within 1 12 (e .zone)) ins t) h)
 
 every-map : (q : ℕ → Bool) (g : Listed → ℕ) (xs : List Listed) → T (every (λ a. q (g a)) xs) → T (every q (map g xs))
 every-map q g [] t = tt
@@ -160,21 +160,21 @@ every-those p q (x ∷ xs) t =
 
 -- the chain at its first
 record Link (f : Side) (z : ℕ) (zs : List ℕ) : Type 0 where
-  here : T (between 1 12 z)
+  here : T (within 1 12 z)
   leading : T (all (mayLead f z) zs)
   rest : T (chain (opp f) zs)
 
 link : (f : Side) (z : ℕ) (zs : List ℕ) → T (chain f (z ∷ zs)) → Link f z zs
 link f z zs t =
-    let b = between 1 12 z in
+    let b = within 1 12 z in
     let m = all (mayLead f z) zs in
     let n = leb (number (sameArea z) zs) 1 in
     let h = and-l (b && m) n (and-l (mayHead f z zs) (chain (opp f) zs) t) in
     record { here = and-l b m h; leading = and-r b m h; rest = and-r (mayHead f z zs) (chain (opp f) zs) t }
 
-chained : (f : Side) (zs : List ℕ) → T (chain f zs) → T (all (between 1 12) zs)
+chained : (f : Side) (zs : List ℕ) → T (chain f zs) → T (all (within 1 12) zs)
 chained f [] t = tt
-chained f (z ∷ zs) t = let k = link f z zs t in and-i (between 1 12 z) (all (between 1 12) zs) (k .here) (chained (opp f) zs (k .rest))
+chained f (z ∷ zs) t = let k = link f z zs t in and-i (within 1 12 z) (all (within 1 12) zs) (k .here) (chained (opp f) zs (k .rest))
 
 -- ---- 1
 pub approach-line : (f : Side) (l : List Placed) → T (chain f (zonesIn l)) → T (neverFalls (map (λ (a : Listed). fromLanding (a .zone)) (map seen l)))
@@ -208,7 +208,7 @@ area-line s f (e ∷ l) t = go (decided (isIn (e .zone) (area (num s)))) (area-l
         (every-those p (λ a. leb (heightIn (num s) (e .zone)) (g a)) (map seen l)
         (follow f (e .zone) (λ a. not (p a) || leb (heightIn (num s) (e .zone)) (g a)) l (k .leading) (chained (opp f) (zonesIn l) (k .rest)) (λ d u m. either d u m (decided (p (seen d))))))
       where
-        either : (d : Placed) → T (between 1 12 (d .zone)) → Leads f (e .zone) (d .zone) → (p (seen d) ≡ true) ⊎ (p (seen d) ≡ false) → T (not (p (seen d)) || leb (heightIn (num s) (e .zone)) (heightIn (num s) (d .zone)))
+        either : (d : Placed) → T (within 1 12 (d .zone)) → Leads f (e .zone) (d .zone) → (p (seen d) ≡ true) ⊎ (p (seen d) ≡ false) → T (not (p (seen d)) || leb (heightIn (num s) (e .zone)) (heightIn (num s) (d .zone)))
         either d u m (inl b) =
             let w = pass (sym (area-is s (d .zone) u) ∙ b) in
             let c = height-is s (e .zone) (k .here) v in
@@ -224,11 +224,11 @@ area-line s f (e ∷ l) t = go (decided (isIn (e .zone) (area (num s)))) (area-l
     go (inr b) h = subst (λ (c : Bool). T (neverFalls (map g (cond c (seen e ∷ those p (map seen l)) (those p (map seen l)))))) (sym b) h
 
 -- ---- 3
-area-number : (s : Side) (l : List Placed) → T (all (between 1 12) (zonesIn l)) → length (those (isInArea (num s)) (map seen l)) ≡ number (ofArea s) (zonesIn l)
+area-number : (s : Side) (l : List Placed) → T (all (within 1 12) (zonesIn l)) → length (those (isInArea (num s)) (map seen l)) ≡ number (ofArea s) (zonesIn l)
 area-number s [] t = refl
 area-number s (e ∷ l) t =
-    ap (λ (b : Bool). length (cond b (seen e ∷ those (isInArea (num s)) (map seen l)) (those (isInArea (num s)) (map seen l)))) (area-is s (e .zone) (and-l (between 1 12 (e .zone)) (all (between 1 12) (zonesIn l)) t))
-    ∙ go (ofArea s (e .zone)) (area-number s l (and-r (between 1 12 (e .zone)) (all (between 1 12) (zonesIn l)) t))
+    ap (λ (b : Bool). length (cond b (seen e ∷ those (isInArea (num s)) (map seen l)) (those (isInArea (num s)) (map seen l)))) (area-is s (e .zone) (and-l (within 1 12 (e .zone)) (all (within 1 12) (zonesIn l)) t))
+    ∙ go (ofArea s (e .zone)) (area-number s l (and-r (within 1 12 (e .zone)) (all (within 1 12) (zonesIn l)) t))
   where
     go : (b : Bool) → length (those (isInArea (num s)) (map seen l)) ≡ number (ofArea s) (zonesIn l)
         → length (cond b (seen e ∷ those (isInArea (num s)) (map seen l)) (those (isInArea (num s)) (map seen l))) ≡ one b + number (ofArea s) (zonesIn l)
@@ -258,10 +258,10 @@ opp-opp left = refl
 
 -- with k ahead in turn, k / 2 have the fix of the next one: room to miss is that of the model
 pub room-same : (k : ℕ) (f : Side) (ahead : List Listed) (l : List Placed) → length (those (hasFix (num f)) ahead) ≡ k / 2 → length (those (hasFix (num (opp f))) ahead) ≡ suc k / 2
-    → Alternates f l → T (all (between 1 12) (zonesIn l)) → eachAmong hasRoom ahead (map seen l) ≡ model.roomToMiss k f (zonesIn l)
+    → Alternates f l → T (all (within 1 12) (zonesIn l)) → eachAmong hasRoom ahead (map seen l) ≡ model.roomToMiss k f (zonesIn l)
 room-same k f ahead [] p q a t = refl
 room-same k f ahead (e ∷ l) p q a t =
-    let ins = and-r (between 1 12 (e .zone)) (all (between 1 12) (zonesIn l)) t in
+    let ins = and-r (within 1 12 (e .zone)) (all (within 1 12) (zonesIn l)) t in
     let n = number (ofArea f) (zonesIn l) in
     let c = area-number f l ins in
     let both : length (those (isInArea (num f)) (map seen l)) + length (those (hasFix (num f)) ahead) ≡ n + k / 2 = omega arith in
@@ -281,7 +281,7 @@ room-same k f ahead (e ∷ l) p q a t =
 abbrev clear : List Listed → ℕ → Bool
 clear ahead w = not (within 5 6 w) || eqb (length (those (hasFix (sideOf w)) ahead)) 0
 
-clear-more : (f : Side) (e : Placed) (ahead : List Listed) (w : ℕ) → e .aircraft .fix ≡ num f → T (between 1 12 w) → Leads f (e .zone) w → T (clear ahead w) → T (clear (seen e ∷ ahead) w)
+clear-more : (f : Side) (e : Placed) (ahead : List Listed) (w : ℕ) → e .aircraft .fix ≡ num f → T (within 1 12 w) → Leads f (e .zone) w → T (clear ahead w) → T (clear (seen e ∷ ahead) w)
 clear-more f e ahead w h u m t = go (decided (within 5 6 w))
   where
     go : (within 5 6 w ≡ true) ⊎ (within 5 6 w ≡ false) → T (clear (seen e ∷ ahead) w)
@@ -290,12 +290,12 @@ clear-more f e ahead w h u m t = go (decided (within 5 6 w))
         subst (λ (c : Bool). T (not (within 5 6 w) || eqb (length (cond c (seen e ∷ those (hasFix (sideOf w)) ahead) (those (hasFix (sideOf w)) ahead))) 0)) (sym other) t
     go (inr b) = or-left (not (within 5 6 w)) (eqb (length (those (hasFix (sideOf w)) (seen e ∷ ahead))) 0) (fail b)
 
-clear-behind : (f : Side) (e : Placed) (ahead : List Listed) (zs : List ℕ) → e .aircraft .fix ≡ num f → T (all (between 1 12) zs) → T (all (mayLead f (e .zone)) zs) → T (all (clear ahead) zs) → T (all (clear (seen e ∷ ahead)) zs)
+clear-behind : (f : Side) (e : Placed) (ahead : List Listed) (zs : List ℕ) → e .aircraft .fix ≡ num f → T (all (within 1 12) zs) → T (all (mayLead f (e .zone)) zs) → T (all (clear ahead) zs) → T (all (clear (seen e ∷ ahead)) zs)
 clear-behind f e ahead [] h u m t = tt
 clear-behind f e ahead (w ∷ zs) h u m t =
     and-i (clear (seen e ∷ ahead) w) (all (clear (seen e ∷ ahead)) zs)
-    (clear-more f e ahead w h (and-l (between 1 12 w) (all (between 1 12) zs) u) (leads f (e .zone) w (and-l (mayLead f (e .zone) w) (all (mayLead f (e .zone)) zs) m)) (and-l (clear ahead w) (all (clear ahead) zs) t))
-    (clear-behind f e ahead zs h (and-r (between 1 12 w) (all (between 1 12) zs) u) (and-r (mayLead f (e .zone) w) (all (mayLead f (e .zone)) zs) m) (and-r (clear ahead w) (all (clear ahead) zs) t))
+    (clear-more f e ahead w h (and-l (within 1 12 w) (all (within 1 12) zs) u) (leads f (e .zone) w (and-l (mayLead f (e .zone) w) (all (mayLead f (e .zone)) zs) m)) (and-l (clear ahead w) (all (clear ahead) zs) t))
+    (clear-behind f e ahead zs h (and-r (within 1 12 w) (all (within 1 12) zs) u) (and-r (mayLead f (e .zone) w) (all (mayLead f (e .zone)) zs) m) (and-r (clear ahead w) (all (clear ahead) zs) t))
 
 pub lateral-line : (f : Side) (ahead : List Listed) (l : List Placed) → Alternates f l → T (chain f (zonesIn l)) → T (all (clear ahead) (zonesIn l)) → T (eachAmong lateralFree ahead (map seen l))
 lateral-line f ahead [] a t c = tt

@@ -15,7 +15,7 @@ use Rattle.field.specs.declared.Field.{Field}
 use Rattle.field.specs.Boxes.{isFlyingZone, missed, progressInto, entering, withProgress, withFix}
 use Rattle.field.specs.Counts.{isIn}
 use Rattle.field.specs.Bounds.{every}
-use Rattle.order.specs.Model.{Side, right, left, opp, num, between, okay, firstFix, weight, weights, one}
+use Rattle.order.specs.Model.{Side, right, left, opp, num, okay, firstFix, weight, weights, one}
 use Rattle.order.proofs.Facts.{okay-length, first-leaves, misses}
 use Rattle.rules.specs.Step.{effectOf}
 use Rattle.rules.specs.Kinds.{entered}
@@ -90,7 +90,7 @@ module _ (f : Side) (e : Placed) (b : List Placed) (runway : List Aircraft) (leg
         ticked-on = λ u. absurd (let n : 12 ≡ 10 = sym u ∙ h in omega arith);
       }
     where
-      missed-in : (s : Side) → T (between 1 12 (missed (num s)))
+      missed-in : (s : Side) → T (within 1 12 (missed (num s)))
       missed-in right = tt
       missed-in left = tt
 
@@ -134,7 +134,7 @@ after-8 f line x legs o r named h =
     not-in-line = Rattle.field.proofs.Lists.alone (numbersOf line) (x .number) [] (o .different) .ahead
 
 -- kinds 1 and 2, into zone w
-pub after-entry : (s f : Side) (line : List Placed) (runway : List Aircraft) (legs : Legs) (o : Orderly f line runway legs) (r : Request) (w : ℕ) → T (between 1 12 w) → T (not (isFlyingZone w)) → r .side ≡ num s
+pub after-entry : (s f : Side) (line : List Placed) (runway : List Aircraft) (legs : Legs) (o : Orderly f line runway legs) (r : Request) (w : ℕ) → T (within 1 12 w) → T (not (isFlyingZone w)) → r .side ≡ num s
     → T (isEntry (r .kind)) → effectOf (fieldOf f line runway legs) r ≡ entered (fieldOf f line runway legs) r w
     → T (okay (firstFix s f (zonesIn line)) (zonesIn line ++ (w ∷ []))) → 1 ≤ r .number → isIn (r .number) (numbersOf line ++ numbers runway) ≡ false → 1 ≤ r .amount → r .amount ≤ 512
     → (r .kind ≡ 12 → ⊥) → T (not (leaves (r .kind))) → After f line runway legs r

@@ -8,12 +8,13 @@ use lib.Dec.{T, leb, eqb, leb→le, le→leb, eqb→eq}
 use lib.ListN.{length}
 use lib.Ieee.Fits.{and-i, and-l, and-r}
 use borrow.Author.Tests.{ne-eqb}
+use Rattle.request.specs.Input.{within}
 use Rattle.field.specs.declared.Aircraft.{Aircraft}
 use Rattle.field.specs.declared.Legs.{Legs}
 use Rattle.field.specs.declared.Field.{Field}
 use Rattle.field.specs.Boxes.{zoneOf, queueOf, inZone, area, approach, operation, runway}
 use Rattle.field.specs.Counts.{isIn, total, haveFix, howMany, howManyWithFix, inOperation, inArea, perFix, approachHolds, countedFor, potentialOf}
-use Rattle.order.specs.Model.{Side, right, left, opp, num, nextFix, between, count, countFix, free, potential, all}
+use Rattle.order.specs.Model.{Side, right, left, opp, num, nextFix, count, countFix, free, potential, all}
 use Rattle.field.proofs.Tests.{if-false, each-zone}
 use Rattle.rules.proofs.Line.{zoneFor, queue-for, zone-by, Placed, zonesIn, numbersOf, inside, zonesOf, sequenceFor, fieldOf}
 
@@ -70,17 +71,17 @@ fixes-inside f s z (e ∷ line) a = go (eqb (e .zone) z) (fixes-inside (opp f) s
     go false h = let n = neither (eqb (num f) s) in omega arith
 
 -- ---- zones of the field
-pub lower : (z : ℕ) → T (between 1 12 z) → T (between 1 13 z)
+pub lower : (z : ℕ) → T (within 1 12 z) → T (within 1 13 z)
 lower z t =
     let a = leb→le 1 z (and-l (leb 1 z) (leb z 12) t) in
     let b = leb→le z 12 (and-r (leb 1 z) (leb z 12) t) in
     and-i (leb 1 z) (leb z 13) (le→leb 1 z a) (le→leb z 13 (omega arith))
 
-pub not-13 : (z : ℕ) → T (between 1 12 z) → eqb z 13 ≡ false
+pub not-13 : (z : ℕ) → T (within 1 12 z) → eqb z 13 ≡ false
 not-13 z t = ne-eqb z 13 (λ e. let b = leb→le z 12 (and-r (leb 1 z) (leb z 12) t) in omega arith)
 
 module _ (f : Side) (line : List Placed) (runway : List Aircraft) (legs : Legs) where
-  pub zone-of-line : (z : ℕ) → T (between 1 12 z) → zoneOf (fieldOf f line runway legs) z ≡ zoneFor (inside z line)
+  pub zone-of-line : (z : ℕ) → T (within 1 12 z) → zoneOf (fieldOf f line runway legs) z ≡ zoneFor (inside z line)
   unfolding fieldOf
   zone-of-line z t =
       zone-by (zonesOf line runway) (sequenceFor (numbersOf line)) (num (nextFix f (zonesIn line))) legs z (lower z t)
@@ -90,7 +91,7 @@ module _ (f : Side) (line : List Placed) (runway : List Aircraft) (legs : Legs) 
   unfolding fieldOf
   zone-of-runway = zone-by (zonesOf line runway) (sequenceFor (numbersOf line)) (num (nextFix f (zonesIn line))) legs 13 tt
 
-  pub in-line : (z : ℕ) → T (between 1 12 z) → inZone (fieldOf f line runway legs) z ≡ inside z line
+  pub in-line : (z : ℕ) → T (within 1 12 z) → inZone (fieldOf f line runway legs) z ≡ inside z line
   unfolding inZone
   in-line z t = ap queueOf (zone-of-line z t) ∙ queue-for (inside z line)
 
@@ -98,7 +99,7 @@ module _ (f : Side) (line : List Placed) (runway : List Aircraft) (legs : Legs) 
   unfolding inZone
   on-runway = ap queueOf zone-of-runway ∙ queue-for runway
 
-  pub how-many : (z : ℕ) → T (between 1 12 z) → howMany (fieldOf f line runway legs) z ≡ count (zonesIn line) z
+  pub how-many : (z : ℕ) → T (within 1 12 z) → howMany (fieldOf f line runway legs) z ≡ count (zonesIn line) z
   unfolding howMany
   how-many z t = ap length (in-line z t) ∙ length-inside z line
 
@@ -106,18 +107,18 @@ module _ (f : Side) (line : List Placed) (runway : List Aircraft) (legs : Legs) 
   unfolding howMany
   how-many-runway = ap length on-runway
 
-  pub how-many-with-fix : Alternates f line → (s z : ℕ) → T (between 1 12 z) → howManyWithFix (fieldOf f line runway legs) s z ≡ countFix f (zonesIn line) s z
+  pub how-many-with-fix : Alternates f line → (s z : ℕ) → T (within 1 12 z) → howManyWithFix (fieldOf f line runway legs) s z ≡ countFix f (zonesIn line) s z
   unfolding howManyWithFix
   how-many-with-fix a s z t = ap (haveFix s) (in-line z t) ∙ fixes-inside f s z line a
 
 -- ---- sums over zones
-pub total-same : (g h : ℕ → ℕ) (zs : List ℕ) → T (all (between 1 12) zs) → ((z : ℕ) → T (between 1 12 z) → g z ≡ h z) → total g zs ≡ total h zs
+pub total-same : (g h : ℕ → ℕ) (zs : List ℕ) → T (all (within 1 12) zs) → ((z : ℕ) → T (within 1 12 z) → g z ≡ h z) → total g zs ≡ total h zs
 total-same g h [] t e = refl
 total-same g h (z ∷ zs) t e =
-    ap (λ (n : ℕ). n + total g zs) (e z (and-l (between 1 12 z) (all (between 1 12) zs) t))
-    ∙ ap (λ (n : ℕ). h z + n) (total-same g h zs (and-r (between 1 12 z) (all (between 1 12) zs) t) e)
+    ap (λ (n : ℕ). n + total g zs) (e z (and-l (within 1 12 z) (all (within 1 12) zs) t))
+    ∙ ap (λ (n : ℕ). h z + n) (total-same g h zs (and-r (within 1 12 z) (all (within 1 12) zs) t) e)
 
-side-area : (s : Side) → T (all (between 1 12) (area (num s)))
+side-area : (s : Side) → T (all (within 1 12) (area (num s)))
 side-area right = tt
 side-area left = tt
 
@@ -149,9 +150,9 @@ module _ (f : Side) (line : List Placed) (runway : List Aircraft) (legs : Legs) 
         (λ z t. ap (λ (n : ℕ). cond (isIn z (area s)) n (howManyWithFix F s z)) (how-many f line runway legs z t) ∙ ap (λ (n : ℕ). cond (isIn z (area s)) (count (zonesIn line) z) n) (how-many-with-fix f line runway legs a s z t))
 
 -- ---- the counts of the model over all zones add up to the list's length
-one-each : (z : ℕ) → T (between 1 12 z) → total (λ w. cond (eqb z w) 1 0) operation ≡ 1
+one-each : (z : ℕ) → T (within 1 12 z) → total (λ w. cond (eqb z w) 1 0) operation ≡ 1
 one-each z t =
-    each-zone (λ (z : ℕ). T (between 1 12 z) → total (λ w. cond (eqb z w) 1 0) operation ≡ 1)
+    each-zone (λ (z : ℕ). T (within 1 12 z) → total (λ w. cond (eqb z w) 1 0) operation ≡ 1)
     ((λ u. refl), ((λ u. refl), ((λ u. refl), ((λ u. refl), ((λ u. refl), ((λ u. refl), ((λ u. refl), ((λ u. refl), ((λ u. refl), ((λ u. refl), ((λ u. refl), ((λ u. refl), ((λ u. absurd u), tt)))))))))))))
     z (lower z t) t
 
@@ -163,10 +164,10 @@ total-none : (zs : List ℕ) → total (λ z. 0) zs ≡ 0
 total-none [] = refl
 total-none (z ∷ zs) = let e = total-none zs in omega arith
 
-pub all-counted : (zs : List ℕ) → T (all (between 1 12) zs) → total (count zs) operation ≡ length zs
+pub all-counted : (zs : List ℕ) → T (all (within 1 12) zs) → total (count zs) operation ≡ length zs
 all-counted [] t = refl
 all-counted (z ∷ zs) t =
-    let a = one-each z (and-l (between 1 12 z) (all (between 1 12) zs) t) in
-    let b = all-counted zs (and-r (between 1 12 z) (all (between 1 12) zs) t) in
+    let a = one-each z (and-l (within 1 12 z) (all (within 1 12) zs) t) in
+    let b = all-counted zs (and-r (within 1 12 z) (all (within 1 12) zs) t) in
     let c = total-add (λ w. cond (eqb z w) 1 0) (count zs) operation in
     omega arith

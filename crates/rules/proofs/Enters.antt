@@ -6,6 +6,7 @@ use Prim.Native.Nat.{ℕ, suc, _<_}
 use native.Mathlib.Omega.{arith}
 use lib.Dec.{T, eqb}
 use lib.ListN.{length}
+use Rattle.request.specs.Input.{within}
 use Rattle.field.specs.declared.Aircraft.{Aircraft}
 use Rattle.field.specs.declared.Zone.{Zone}
 use Rattle.field.specs.declared.Sequence.{Sequence}
@@ -16,7 +17,7 @@ use Rattle.field.specs.Find.{aircraftAt}
 use Rattle.field.specs.Bounds.{allDifferent}
 use Rattle.field.specs.Edits.{withTail, withZone, withSequence, appended, removed}
 use Rattle.request.specs.declared.Request.{Request}
-use Rattle.order.specs.Model.{Side, right, left, opp, num, nextFix, between, firstFix}
+use Rattle.order.specs.Model.{Side, right, left, opp, num, nextFix, firstFix}
 use Rattle.rules.specs.Kinds.{headGone, fixTaken, entered, fixAfterMiss, missedApproach}
 use Rattle.field.proofs.Tests.{if-false, flip-eqb}
 use Rattle.rules.proofs.Lists.{map-append}
@@ -52,7 +53,7 @@ alternates-after s f [] e a h = (h, tt)
 alternates-after s f (x ∷ line) e a h = (a .0, alternates-snoc (opp f) line e (a .1) h)
 
 -- ---- one more at the tail of its zone
-module _ (line : List Placed) (e : Placed) (runway : List Aircraft) (S : Sequence) (N : ℕ) (legs : Legs) (t : T (between 1 12 (e .zone))) (room : length line < 4) where
+module _ (line : List Placed) (e : Placed) (runway : List Aircraft) (S : Sequence) (N : ℕ) (legs : Legs) (t : T (within 1 12 (e .zone))) (room : length line < 4) where
   abbrev w : ℕ
   w = e .zone
 
@@ -80,7 +81,7 @@ ended s f line e runway legs room =
     ∙ ap (λ (n : ℕ). fieldBy (zonesOf (line ++ (e ∷ [])) runway) (sequenceFor (numbersOf (line ++ (e ∷ [])))) n legs) (opposite-num (entryFix s f (zonesIn line)) ∙ ap num (sym (next-after s f line e)))
 
 -- ---- kinds 1 and 2
-module _ (s f : Side) (line : List Placed) (runway : List Aircraft) (legs : Legs) (r : Request) (w : ℕ) (t : T (between 1 12 w)) (room : length line < 4) (side : r .side ≡ num s) where
+module _ (s f : Side) (line : List Placed) (runway : List Aircraft) (legs : Legs) (r : Request) (w : ℕ) (t : T (within 1 12 w)) (room : length line < 4) (side : r .side ≡ num s) where
   abbrev F : Field
   F = fieldOf f line runway legs
 
@@ -111,14 +112,14 @@ module _ (f : Side) (e : Placed) (b : List Placed) (runway : List Aircraft) (leg
   abbrev F₁₀ : Field
   F₁₀ = fieldOf f (e ∷ b) runway legs
 
-  t : T (between 1 12 (e .zone))
-  t = subst (λ (z : ℕ). T (between 1 12 z)) (sym h) tt
+  t : T (within 1 12 (e .zone))
+  t = subst (λ (z : ℕ). T (within 1 12 z)) (sym h) tt
 
   -- the one that has missed its approach
   abbrev pub misser : Placed
   misser = record { aircraft = withFix (withProgress (e .aircraft) (progressInto (missed (num f)))) (num (entryFix f (opp f) (zonesIn b))); zone = missed (num f) }
 
-  missed-in : (s : Side) → T (between 1 12 (missed (num s)))
+  missed-in : (s : Side) → T (within 1 12 (missed (num s)))
   missed-in right = tt
   missed-in left = tt
 

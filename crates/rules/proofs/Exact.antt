@@ -14,7 +14,7 @@ use Rattle.leg.specs.Ticks.{Between, FlownExactly}
 use Rattle.leg.specs.declared.Progress.{Progress}
 use Rattle.leg.specs.declared.Progress.the-variants.{Waiting, Flying}
 use Rattle.leg.proofs.Theorems.{zero-exact, sixty-fourths-legal, one-tick-exact}
-use Rattle.request.specs.Input.{isTick, inputNumber}
+use Rattle.request.specs.Input.{within, isTick, inputNumber}
 use Rattle.request.specs.declared.Request.{Request}
 use Rattle.request.proofs.ByKind.{tick-known}
 use Rattle.field.specs.declared.Aircraft.{Aircraft}
@@ -22,7 +22,7 @@ use Rattle.field.specs.declared.Field.{Field}
 use Rattle.field.specs.Boxes.{isFlyingZone, legOf, progressInto, withProgress, inZone, emptyField}
 use Rattle.field.specs.Bounds.{every, fitsZone, legalLegs}
 use Rattle.field.specs.Edits.{tickedAircraft}
-use Rattle.order.specs.Model.{Side, right, between}
+use Rattle.order.specs.Model.{Side, right}
 use Rattle.rules.specs.Step.{numberOf, stepOf}
 use Rattle.rules.specs.Play.{fieldAfter, played}
 use Rattle.rules.specs.Exact.{WholeLegs, inMiles, in64ths, ticksWith, ticksAfter, EachAircraft, Exact}
@@ -38,11 +38,11 @@ use Rattle.rules.proofs.Runs.{refusable-range}
 use Rattle.rules.proofs.Demand.{empty-orderly}
 
 -- ---- legs
-miles-are : (w : WholeLegs) (z : ℕ) → T (between 1 13 z) → T (isFlyingZone z) → legOf (inMiles w) z ≡ sixtyFourths (in64ths w z)
+miles-are : (w : WholeLegs) (z : ℕ) → T (within 1 13 z) → T (isFlyingZone z) → legOf (inMiles w) z ≡ sixtyFourths (in64ths w z)
 unfolding isFlyingZone legOf
 miles-are w = each-zone (λ (z : ℕ). T (isFlyingZone z) → legOf (inMiles w) z ≡ sixtyFourths (in64ths w z)) ((λ u. absurd u), ((λ u. absurd u), ((λ u. absurd u), ((λ u. absurd u), ((λ u. absurd u), ((λ u. absurd u), ((λ u. refl), ((λ u. refl), ((λ u. refl), ((λ u. refl), ((λ u. refl), ((λ u. refl), ((λ u. absurd u), tt)))))))))))))
 
-leg-fits : (w : WholeLegs) (z : ℕ) → T (between 1 13 z) → Between 1 4096 (in64ths w z)
+leg-fits : (w : WholeLegs) (z : ℕ) → T (within 1 13 z) → Between 1 4096 (in64ths w z)
 leg-fits w = each-zone (λ (z : ℕ). Between 1 4096 (in64ths w z)) (w .final-fits, (w .final-fits, (w .final-fits, (w .final-fits, (w .final-fits, (w .final-fits, (w .missed-fits, (w .missed-fits, (w .base-fits, (w .base-fits, (w .intermediate-fits, (w .final-fits, (w .final-fits, tt)))))))))))))
 
 legs-legal : (w : WholeLegs) → T (legalLegs (inMiles w))
@@ -59,7 +59,7 @@ abbrev Flown : WholeLegs → (ℕ → ℕ) → Placed → Type 0
 Flown w ticks e = T (isFlyingZone (e .zone)) → FlownExactly (e .aircraft .progress) (min (64 * in64ths w (e .zone)) (e .aircraft .speed * ticks (e .aircraft .number)))
 
 -- a flying zone is one of 7 to 12
-zone-13 : (z : ℕ) → T (isFlyingZone z) → T (between 1 13 z)
+zone-13 : (z : ℕ) → T (isFlyingZone z) → T (within 1 13 z)
 unfolding isFlyingZone
 zone-13 z t =
     let l = leb→le 7 z (and-l (leb 7 z) (leb z 12) t) in
@@ -196,7 +196,7 @@ unfolding isFlyingZone
 exactness w rs z t =
     let g = emptyField (inMiles w) in
     let k : Kept w g (λ n. 0) rs = subst (λ (h : Field). Kept w h (λ n. 0) rs) (sym (empty-is (inMiles w))) (exact-runs w rs right [] [] (empty-orderly (inMiles w) (legs-legal w)) (λ n. 0) tt) in
-    let u : T (between 1 12 z) = let l = leb→le 7 z (and-l (leb 7 z) (leb z 12) t) in let h = leb→le z 12 (and-r (leb 7 z) (leb z 12) t) in and-i (leb 1 z) (leb z 12) (le→leb 1 z (omega arith)) (le→leb z 12 h) in
+    let u : T (within 1 12 z) = let l = leb→le 7 z (and-l (leb 7 z) (leb z 12) t) in let h = leb→le z 12 (and-r (leb 7 z) (leb z 12) t) in and-i (leb 1 z) (leb z 12) (le→leb 1 z (omega arith)) (le→leb z 12 h) in
     subst (EachAircraft (λ a. FlownExactly (a .progress) (min (64 * in64ths w z) (a .speed * ticksAfter (a .number) 0 (played g rs)))))
     (sym (ap (λ (h : Field). inZone h z) (k .stands) ∙ in-line (k .first-then) (k .line-then) (k .runway-then) (inMiles w) z u))
     (inside-each w (λ n. ticksAfter n 0 (played g rs)) z t (k .line-then) (k .flown))

@@ -13,7 +13,7 @@ use Rattle.request.specs.Input.{within}
 use Rattle.field.specs.Boxes.{sideOf, area, lateral}
 use Rattle.field.specs.Counts.{isIn}
 use Rattle.field.specs.Bounds.{every}
-use Rattle.order.specs.Model.{Side, right, left, opp, num, between, count, sameArea, ofArea, isLateral, one, rank, height, number, all, mayLead, mayHead, chain}
+use Rattle.order.specs.Model.{Side, right, left, opp, num, count, sameArea, ofArea, isLateral, one, rank, height, number, all, mayLead, mayHead, chain}
 use Rattle.rules.specs.Reason.{Listed, those, isInArea, hasFix, neverFalls, eachAmong, fromLanding, heightIn, lateralFree}
 use Rattle.field.proofs.Tests.{passed, pass, fail, decided, if-true, same}
 use Rattle.rules.proofs.Line.{Placed, zonesIn}
@@ -83,14 +83,14 @@ unfiltered p q (x ∷ xs) t = go (p x) t (unfiltered p q xs)
     go false t later = later t
 
 -- ---- sides of zones
-area-side : (z : ℕ) → T (between 1 12 z) → T (leb z 8) → (s : Side) × T (ofArea s z)
+area-side : (z : ℕ) → T (within 1 12 z) → T (leb z 8) → (s : Side) × T (ofArea s z)
 area-side = each-operation (λ z. T (leb z 8) → (s : Side) × T (ofArea s z)) ((λ t. (right, tt)), (λ t. (left, tt)), (λ t. (right, tt)), (λ t. (left, tt)), (λ t. (right, tt)), (λ t. (left, tt)), (λ t. (right, tt)), (λ t. (left, tt)), (λ t. absurd t), (λ t. absurd t), (λ t. absurd t), (λ t. absurd t))
 
-lateral-is : (s : Side) (z : ℕ) → T (between 1 12 z) → T (isLateral z) → T (ofArea s z) → z ≡ lateral (num s)
+lateral-is : (s : Side) (z : ℕ) → T (within 1 12 z) → T (isLateral z) → T (ofArea s z) → z ≡ lateral (num s)
 lateral-is right = each-operation (λ z. T (isLateral z) → T (ofArea right z) → z ≡ 5) ((λ t u. absurd t), (λ t u. absurd t), (λ t u. absurd t), (λ t u. absurd t), (λ t u. refl), (λ t u. absurd u), (λ t u. absurd t), (λ t u. absurd t), (λ t u. absurd t), (λ t u. absurd t), (λ t u. absurd t), (λ t u. absurd t))
 lateral-is left = each-operation (λ z. T (isLateral z) → T (ofArea left z) → z ≡ 6) ((λ t u. absurd t), (λ t u. absurd t), (λ t u. absurd t), (λ t u. absurd t), (λ t u. absurd u), (λ t u. refl), (λ t u. absurd t), (λ t u. absurd t), (λ t u. absurd t), (λ t u. absurd t), (λ t u. absurd t), (λ t u. absurd t))
 
-lateral-other : (s : Side) (z : ℕ) → T (between 1 12 z) → T (isLateral z) → eqb (num s) (sideOf z) ≡ false → ofArea s z ≡ false
+lateral-other : (s : Side) (z : ℕ) → T (within 1 12 z) → T (isLateral z) → eqb (num s) (sideOf z) ≡ false → ofArea s z ≡ false
 unfolding sideOf
 lateral-other right = each-operation (λ z. T (isLateral z) → eqb 1 (sideOf z) ≡ false → ofArea right z ≡ false) ((λ t e. absurd t), (λ t e. absurd t), (λ t e. absurd t), (λ t e. absurd t), (λ t e. e), (λ t e. refl), (λ t e. absurd t), (λ t e. absurd t), (λ t e. absurd t), (λ t e. absurd t), (λ t e. absurd t), (λ t e. absurd t))
 lateral-other left = each-operation (λ z. T (isLateral z) → eqb 2 (sideOf z) ≡ false → ofArea left z ≡ false) ((λ t e. absurd t), (λ t e. absurd t), (λ t e. absurd t), (λ t e. absurd t), (λ t e. refl), (λ t e. e), (λ t e. absurd t), (λ t e. absurd t), (λ t e. absurd t), (λ t e. absurd t), (λ t e. absurd t), (λ t e. absurd t))
@@ -108,8 +108,8 @@ pub record Facts (f : Side) (ahead : List Listed) (l : List Placed) : Type 0 whe
   pub areas : (s : Side) → T (neverFalls (map (λ (a : Listed). heightIn (num s) (a .zone)) (those (isInArea (num s)) (map seen l))))
   pub laterals : T (eachAmong lateralFree ahead (map seen l))
   pub alternates : Alternates f l
-  pub ins : T (all (between 1 12) (zonesIn l))
-  pub singles : (z : ℕ) → T (between 1 6 z) → count (zonesIn l) z ≤ 1
+  pub ins : T (all (within 1 12) (zonesIn l))
+  pub singles : (z : ℕ) → T (within 1 6 z) → count (zonesIn l) z ≤ 1
   pub crowd : (s : Side) → number (ofArea s) (zonesIn l) ≤ 2
   pub lateral-alone : (s : Side) → 1 ≤ count (zonesIn l) (lateral (num s)) → number (ofArea s) (zonesIn l) ≤ 1
 
@@ -147,11 +147,11 @@ module _ (f : Side) (ahead : List Listed) (e : Placed) (l : List Placed) (k : Fa
   abbrev zs : List ℕ
   zs = zonesIn l
 
-  z-in : T (between 1 12 z)
-  z-in = and-l (between 1 12 z) (all (between 1 12) zs) (k .ins)
+  z-in : T (within 1 12 z)
+  z-in = and-l (within 1 12 z) (all (within 1 12) zs) (k .ins)
 
-  zs-in : T (all (between 1 12) zs)
-  zs-in = and-r (between 1 12 z) (all (between 1 12) zs) (k .ins)
+  zs-in : T (all (within 1 12) zs)
+  zs-in = and-r (within 1 12 z) (all (within 1 12) zs) (k .ins)
 
   -- the heights in a side's area: of z and those behind it, and of those behind it alone
   heights : (s : Side) → (b : Bool) → isIn z (area (num s)) ≡ b → T (neverFalls (map (λ (a : Listed). heightIn (num s) (a .zone)) (cond b (seen e ∷ those (isInArea (num s)) (map seen l)) (those (isInArea (num s)) (map seen l)))))
@@ -182,8 +182,8 @@ module _ (f : Side) (ahead : List Listed) (e : Placed) (l : List Placed) (k : Fa
       }
 
   module _ (w : ℕ) (i : isIn w zs ≡ true) where
-    w-in : T (between 1 12 w)
-    w-in = in-all (between 1 12) zs zs-in w i
+    w-in : T (within 1 12 w)
+    w-in = in-all (within 1 12) zs zs-in w i
 
     rank-behind : rank w ≤ rank z
     rank-behind =
@@ -226,7 +226,7 @@ module _ (f : Side) (ahead : List Listed) (e : Placed) (l : List Placed) (k : Fa
       two-there : 2 ≤ number (ofArea s) (z ∷ zs)
       two-there = let a = number-in (ofArea s) zs w i v in let o : one (ofArea s z) ≡ 1 = if-true {b = ofArea s z} 1 0 (passed u) in omega arith
 
-      no-lateral : (y : ℕ) → 1 ≤ count (z ∷ zs) y → T (between 1 12 y) → T (ofArea s y) → isLateral y ≡ false
+      no-lateral : (y : ℕ) → 1 ≤ count (z ∷ zs) y → T (within 1 12 y) → T (ofArea s y) → isLateral y ≡ false
       no-lateral y c t a = elim (decided (isLateral y)) [
         | inl b ↦ absurd (let e₁ = lateral-is s y t (pass b) a in let h = k .lateral-alone s (subst (λ (x : ℕ). 1 ≤ count (z ∷ zs) x) e₁ c) in let m = two-there in omega arith)
         | inr b ↦ b
@@ -296,7 +296,7 @@ chain-from f ahead (e ∷ l) k =
     let z = e .zone in
     let zs = zonesIn l in
     and-i (mayHead f z zs) (chain (opp f) zs)
-    (and-i (between 1 12 z && all (mayLead f z) zs) (leb (number (sameArea z) zs) 1)
-    (and-i (between 1 12 z) (all (mayLead f z) zs) (and-l (between 1 12 z) (all (between 1 12) zs) (k .ins)) (all-in (mayLead f z) zs (may-lead f ahead e l k)))
+    (and-i (within 1 12 z && all (mayLead f z) zs) (leb (number (sameArea z) zs) 1)
+    (and-i (within 1 12 z) (all (mayLead f z) zs) (and-l (within 1 12 z) (all (within 1 12) zs) (k .ins)) (all-in (mayLead f z) zs (may-lead f ahead e l k)))
     (le→leb (number (sameArea z) zs) 1 (few-behind f ahead e l k)))
     (chain-from (opp f) (seen e ∷ ahead) l (facts-behind f ahead e l k))

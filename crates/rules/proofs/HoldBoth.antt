@@ -13,7 +13,7 @@ use Rattle.field.specs.declared.Aircraft.{Aircraft}
 use Rattle.field.specs.declared.Legs.{Legs}
 use Rattle.field.specs.declared.Field.{Field}
 use Rattle.field.specs.Boxes.{isFlyingZone, sideOf, at3000, at2000, withProgress}
-use Rattle.order.specs.Model.{Side, between, count, free, okay, weight, one}
+use Rattle.order.specs.Model.{Side, count, free, okay, weight, one}
 use Rattle.order.proofs.Facts.{BothMoved, hold-both}
 use Rattle.rules.specs.Kinds.{moved}
 use Rattle.rules.specs.Step.{effectOf}
@@ -42,13 +42,13 @@ free-changed xs y w ys z t h =
     omega arith))
 
 -- 2000 is not flown in
-waits : (z : ℕ) → T (between 1 13 z) → T (between 7 8 z) → isFlyingZone (at2000 (sideOf z)) ≡ false
+waits : (z : ℕ) → T (within 1 13 z) → T (within 7 8 z) → isFlyingZone (at2000 (sideOf z)) ≡ false
 unfolding isFlyingZone sideOf
-waits z t u = failed {b = isFlyingZone (at2000 (sideOf z))} (zones-imply (between 7 8) (λ z. not (isFlyingZone (at2000 (sideOf z)))) tt z t u)
+waits z t u = failed {b = isFlyingZone (at2000 (sideOf z))} (zones-imply (within 7 8) (λ z. not (isFlyingZone (at2000 (sideOf z)))) tt z t u)
 
 -- ---- the line a, g, b, e, c: g at 3000 and e in the missed zone
 module _ (f : Side) (a : List Placed) (g : Placed) (b : List Placed) (e : Placed) (c : List Placed) (runway : List Aircraft) (legs : Legs) (o : Orderly f (a ++ g ∷ (b ++ e ∷ c)) runway legs) (r : Request)
-    (named : r .number ≡ e .aircraft .number) (missed-zone : T (between 7 8 (e .zone))) (above : g .zone ≡ at3000 (sideOf (e .zone))) (heads : T (free (zonesIn (a ++ g ∷ b)) (e .zone))) where
+    (named : r .number ≡ e .aircraft .number) (missed-zone : T (within 7 8 (e .zone))) (above : g .zone ≡ at3000 (sideOf (e .zone))) (heads : T (free (zonesIn (a ++ g ∷ b)) (e .zone))) where
   abbrev z : ℕ
   z = e .zone
 
@@ -83,14 +83,14 @@ module _ (f : Side) (a : List Placed) (g : Placed) (b : List Placed) (e : Placed
   g-other : T (not (eqb w (g .zone)))
   g-other = subst (λ (v : ℕ). T (not (eqb w v))) (sym above) (both .apart .0)
 
-  between-okay : T (okay f (zonesIn a ++ w ∷ zonesIn (b ++ e ∷ c)))
-  between-okay = subst (λ (l : List ℕ). T (okay f (zonesIn a ++ w ∷ l))) (sym zones-here) (both .okay-between)
+  within-okay : T (okay f (zonesIn a ++ w ∷ zonesIn (b ++ e ∷ c)))
+  within-okay = subst (λ (l : List ℕ). T (okay f (zonesIn a ++ w ∷ l))) (sym zones-here) (both .okay-within)
 
   moved-down : moved F y w ≡ fieldOf f (a ++ into w g ∷ (b ++ e ∷ c)) runway legs
-  moved-down = ap (λ (v : ℕ). moved F v w) (sym above) ∙ moved-is f a g (b ++ e ∷ c) runway legs o w g-heads g-behind g-other (both .inside-w) between-okay
+  moved-down = ap (λ (v : ℕ). moved F v w) (sym above) ∙ moved-is f a g (b ++ e ∷ c) runway legs o w g-heads g-behind g-other (both .inside-w) within-okay
 
   down-orderly : Orderly f (a ++ into w g ∷ (b ++ e ∷ c)) runway legs
-  down-orderly = moved-orderly f a g (b ++ e ∷ c) runway legs o w g-heads g-behind g-other (both .inside-w) between-okay
+  down-orderly = moved-orderly f a g (b ++ e ∷ c) runway legs o w g-heads g-behind g-other (both .inside-w) within-okay
 
   -- the line as seen from e
   abbrev a₂ : List Placed

@@ -9,6 +9,7 @@ use lib.Dec.{T, leb, eqb, leb→le, le→leb, eqb→eq}
 use lib.ListN.{length, drop, length-map}
 use lib.Ieee.Fits.{and-i, and-l, and-r}
 use borrow.Author.Tests.{ne-eqb}
+use Rattle.request.specs.Input.{within}
 use Rattle.field.specs.declared.Aircraft.{Aircraft}
 use Rattle.field.specs.declared.Legs.{Legs}
 use Rattle.field.specs.declared.Field.{Field}
@@ -16,7 +17,7 @@ use Rattle.field.specs.Boxes.{isSide, opposite, at3000, at2000, lateral, missed
 use Rattle.field.specs.Counts.{isIn, total, howMany, inOperation, inArea}
 use Rattle.field.specs.Find.{placeOf, fixOf}
 use Rattle.field.specs.Bounds.{every, isEmpty, boundA, boundB, lateralRule, boundC, boundD, numbersIn, allDifferent, numbersDiffer, sequenceExact, finalFirst, zoneKept, sequenceKept, boundE, alternate, boundF, fitsZone, legalLegs, boundG, withinBounds}
-use Rattle.order.specs.Model.{Side, right, left, opp, num, nextFix, between, count, one, ofArea, number, all, chain, okay}
+use Rattle.order.specs.Model.{Side, right, left, opp, num, nextFix, count, one, ofArea, number, all, chain, okay}
 use Rattle.order.specs.Model as model
 use Rattle.rules.specs.Reason.{Listed, along, those, isInArea, neverFalls, eachAmong, fromLanding, approachOrder, heightIn, areaOrder, hasRoom, roomToMiss, lateralFree, lateralEntry, Reason, hasPlaces}
 use Rattle.field.proofs.Tests.{passed, pass, decided, each-zone}
@@ -40,15 +41,15 @@ side-known n t = elim (decided (eqb n 1)) [
 ]
 
 -- the aircraft of an area, one by one, are those of its four zones
-area-total : (s : Side) (zs : List ℕ) → T (all (between 1 12) zs) → number (ofArea s) zs ≡ total (count zs) (area (num s))
+area-total : (s : Side) (zs : List ℕ) → T (all (within 1 12) zs) → number (ofArea s) zs ≡ total (count zs) (area (num s))
 area-total s [] t = refl
 area-total s (z ∷ zs) t =
-    let a = one-zone s z (and-l (between 1 12 z) (all (between 1 12) zs) t) in
-    let b = area-total s zs (and-r (between 1 12 z) (all (between 1 12) zs) t) in
+    let a = one-zone s z (and-l (within 1 12 z) (all (within 1 12) zs) t) in
+    let b = area-total s zs (and-r (within 1 12 z) (all (within 1 12) zs) t) in
     let c = total-add (λ w. cond (eqb z w) 1 0) (count zs) (area (num s)) in
     omega arith
   where
-    one-zone : (s : Side) (z : ℕ) → T (between 1 12 z) → one (ofArea s z) ≡ total (λ w. cond (eqb z w) 1 0) (area (num s))
+    one-zone : (s : Side) (z : ℕ) → T (within 1 12 z) → one (ofArea s z) ≡ total (λ w. cond (eqb z w) 1 0) (area (num s))
     one-zone right = each-operation (λ z. one (ofArea right z) ≡ total (λ w. cond (eqb z w) 1 0) (area 1)) (refl, refl, refl, refl, refl, refl, refl, refl, refl, refl, refl, refl)
     one-zone left = each-operation (λ z. one (ofArea left z) ≡ total (λ w. cond (eqb z w) 1 0) (area 2)) (refl, refl, refl, refl, refl, refl, refl, refl, refl, refl, refl, refl)
 
@@ -179,17 +180,17 @@ module _ (f : Field) (h : T (hasPlaces f)) (s : Seven f) (p : Parts f) (c : Reas
       let a = every (λ z. eqb (length (zoneOf f z .aircraft)) 4) everywhere in
       eqb→eq (length (f .sequence .numbers)) 4 (and-r (z && a) (eqb (length (f .sequence .numbers)) 4) h)
 
-  in-everywhere : (z : ℕ) → T (between 1 13 z) → isIn z everywhere ≡ true
+  in-everywhere : (z : ℕ) → T (within 1 13 z) → isIn z everywhere ≡ true
   in-everywhere = each-zone (λ y. isIn y everywhere ≡ true) (refl, (refl, (refl, (refl, (refl, (refl, (refl, (refl, (refl, (refl, (refl, (refl, (refl, tt)))))))))))))
 
-  zones-kept : (z : ℕ) → T (between 1 13 z) → zoneOf f z ≡ zoneFor (inZone f z)
+  zones-kept : (z : ℕ) → T (within 1 13 z) → zoneOf f z ≡ zoneFor (inZone f z)
   unfolding inZone
   zones-kept z t = zone-is (zoneOf f z) (four-places z (in-everywhere z t)) (every-listed (λ z. zoneKept (zoneOf f z)) everywhere z (p .kept) (in-everywhere z t))
 
-  queues : (z : ℕ) → T (between 1 12 z) → inZone f z ≡ inside z line
+  queues : (z : ℕ) → T (within 1 12 z) → inZone f z ≡ inside z line
   queues z t = queue-is f (p .different) z t (c .queues-agree z t)
 
-  counts : (z : ℕ) → T (between 1 12 z) → howMany f z ≡ count (zonesIn line) z
+  counts : (z : ℕ) → T (within 1 12 z) → howMany f z ≡ count (zonesIn line) z
   unfolding howMany
   counts z t = ap length (queues z t) ∙ length-inside z line
 
@@ -213,7 +214,7 @@ module _ (f : Field) (h : T (hasPlaces f)) (s : Seven f) (p : Parts f) (c : Reas
       o .has (fitsZone (f .legs) (placeOf f n .zone)) (every-listed (λ z. every (fitsZone (f .legs) z) (inZone f z)) everywhere (placeOf f n .zone) (p .fit) (wider (placeOf f n .zone) (o .zone-in)))
     where
       wider : (z : ℕ) → isIn z operation ≡ true → isIn z everywhere ≡ true
-      wider z i = in-everywhere z (lower z (every-listed (between 1 12) operation z tt i))
+      wider z i = in-everywhere z (lower z (every-listed (within 1 12) operation z tt i))
 
   fix-side : (n : ℕ) → T (isIn n (numbersIn f operation)) → T (isSide (fixOf f n))
   unfolding fitsZone fixOf
@@ -222,13 +223,13 @@ module _ (f : Field) (h : T (hasPlaces f)) (s : Seven f) (p : Parts f) (c : Reas
       first-of : (a b c : Bool) → T (a && b && c) → T a
       first-of a b c t = and-l a b (and-l (a && b) c t)
 
-  zones-in : (ms : List ℕ) → T (every (λ n. isIn n (numbersIn f operation)) ms) → T (all (between 1 12) (zonesIn (map (lookedUp f) ms)))
+  zones-in : (ms : List ℕ) → T (every (λ n. isIn n (numbersIn f operation)) ms) → T (all (within 1 12) (zonesIn (map (lookedUp f) ms)))
   zones-in [] t = tt
   zones-in (n ∷ ms) t =
       let here = isIn n (numbersIn f operation) in
       let later = every (λ n. isIn n (numbersIn f operation)) ms in
-      and-i (between 1 12 (placeOf f n .zone)) (all (between 1 12) (zonesIn (map (lookedUp f) ms)))
-      (every-listed (between 1 12) operation (placeOf f n .zone) tt (found-one f n (and-l here later t) .zone-in)) (zones-in ms (and-r here later t))
+      and-i (within 1 12 (placeOf f n .zone)) (all (within 1 12) (zonesIn (map (lookedUp f) ms)))
+      (every-listed (within 1 12) operation (placeOf f n .zone) tt (found-one f n (and-l here later t) .zone-in)) (zones-in ms (and-r here later t))
 
   -- ---- the first fix
   first-fix : (ms : List ℕ) → T (every (λ n. isIn n (numbersIn f operation)) ms) → T (isSide (headOf (fixesThen f ms)))
@@ -264,28 +265,28 @@ module _ (f : Field) (h : T (hasPlaces f)) (s : Seven f) (p : Parts f) (c : Reas
       ]
 
   -- ---- counts within the bounds
-  singles : (z : ℕ) → T (between 1 6 z) → count (zonesIn line) z ≤ 1
+  singles : (z : ℕ) → T (within 1 6 z) → count (zonesIn line) z ≤ 1
   unfolding boundC
   singles z t =
       let q = every (λ z. leb (howMany f z) 1) (zonesFrom 1 6) in
       let l = leb→le 1 z (and-l (leb 1 z) (leb z 6) t) in
       let u = leb→le z 6 (and-r (leb 1 z) (leb z 6) t) in
-      let v : T (between 1 12 z) = and-i (leb 1 z) (leb z 12) (and-l (leb 1 z) (leb z 6) t) (le→leb z 12 (omega arith)) in
+      let v : T (within 1 12 z) = and-i (leb 1 z) (leb z 12) (and-l (leb 1 z) (leb z 6) t) (le→leb z 12 (omega arith)) in
       let k = leb→le (howMany f z) 1 (every-listed (λ z. leb (howMany f z) 1) (zonesFrom 1 6) z (and-l q (lateralRule f 1) (and-l (q && lateralRule f 1) (lateralRule f 2) (s .c))) (low-six z v (and-r (leb 1 z) (leb z 6) t))) in
       let e = counts z v in
       omega arith
     where
-      low-six : (z : ℕ) → T (between 1 12 z) → T (leb z 6) → isIn z (zonesFrom 1 6) ≡ true
+      low-six : (z : ℕ) → T (within 1 12 z) → T (leb z 6) → isIn z (zonesFrom 1 6) ≡ true
       low-six = each-operation (λ z. T (leb z 6) → isIn z (zonesFrom 1 6) ≡ true) ((λ t. refl), (λ t. refl), (λ t. refl), (λ t. refl), (λ t. refl), (λ t. refl), (λ t. absurd t), (λ t. absurd t), (λ t. absurd t), (λ t. absurd t), (λ t. absurd t), (λ t. absurd t))
 
-  ins : T (all (between 1 12) (zonesIn line))
+  ins : T (all (within 1 12) (zonesIn line))
   ins = zones-in ns (p .named)
 
   area-of : (d : Side) → number (ofArea d) (zonesIn line) ≡ inArea f (num d)
   unfolding inArea
   area-of d = area-total d (zonesIn line) ins ∙ sym (total-same (howMany f) (count (zonesIn line)) (area (num d)) (side-area d) counts)
     where
-      side-area : (d : Side) → T (all (between 1 12) (area (num d)))
+      side-area : (d : Side) → T (all (within 1 12) (area (num d)))
       side-area right = tt
       side-area left = tt
 
@@ -298,7 +299,7 @@ module _ (f : Field) (h : T (hasPlaces f)) (s : Seven f) (p : Parts f) (c : Reas
       two left = leb→le (inArea f 2) 2 (and-r (leb (inArea f 1) 2) (leb (inArea f 2) 2) (s .b))
 
   -- with an occupied lateral zone the area has nobody else
-  alone-of : (d : Side) → T (lateralRule f (num d)) → T (between 1 12 (lateral (num d))) → T (between 1 6 (lateral (num d))) → 1 ≤ count (zonesIn line) (lateral (num d)) → number (ofArea d) (zonesIn line) ≤ 1
+  alone-of : (d : Side) → T (lateralRule f (num d)) → T (within 1 12 (lateral (num d))) → T (within 1 6 (lateral (num d))) → 1 ≤ count (zonesIn line) (lateral (num d)) → number (ofArea d) (zonesIn line) ≤ 1
   unfolding inArea lateralRule
   alone-of d t u v k =
       let m = howMany f (lateral (num d)) in

@@ -8,6 +8,7 @@ use native.Mathlib.Omega.{arith}
 use lib.Dec.{T, leb, leb→le, le→leb}
 use lib.Ieee.Fits.{and-i, and-l, and-r}
 use lib.Ieee.{Float}
+use Rattle.request.specs.Input.{within}
 use Rattle.leg.specs.Progress.{whole, legalLeg, withinLeg, progressAfter}
 use Rattle.leg.specs.Ticks.{Between}
 use Rattle.leg.specs.declared.Progress.{Progress}
@@ -19,7 +20,7 @@ use Rattle.field.specs.Boxes.{isSide, isFlyingZone, progressInto, entering, wit
 use Rattle.field.specs.Counts.{isIn}
 use Rattle.field.specs.Bounds.{every, allDifferent, isWaiting, fitsZone, legalLegs}
 use Rattle.field.specs.Edits.{tickedAircraft}
-use Rattle.order.specs.Model.{Side, right, left, opp, num, between, count, all, okay, firstFix}
+use Rattle.order.specs.Model.{Side, right, left, opp, num, count, all, okay, firstFix}
 use Rattle.order.proofs.Facts.{okay-zones}
 use Rattle.field.proofs.Tests.{pass, failed, decided, if-true, if-false}
 use Rattle.field.proofs.Lists.{absent-both}
@@ -65,7 +66,7 @@ fits-of : (legs : Legs) (z : ℕ) (a : Aircraft) → T (personFits a) → T (pro
 unfolding fitsZone
 fits-of legs z a t u = and-i (personFits a) (progressFits legs z (a .progress)) t u
 
-into-fits : (legs : Legs) → T (legalLegs legs) → (z : ℕ) → T (between 1 12 z) → T (progressFits legs z (progressInto z))
+into-fits : (legs : Legs) → T (legalLegs legs) → (z : ℕ) → T (within 1 12 z) → T (progressFits legs z (progressInto z))
 unfolding progressInto
 into-fits legs l z t = go (isFlyingZone z) (leg-legal legs l z)
   where
@@ -74,7 +75,7 @@ into-fits legs l z t = go (isFlyingZone z) (leg-legal legs l z)
     go true h = zero-within (legOf legs z) (h tt)
     go false h = tt
 
-pub entered-fits : (legs : Legs) → T (legalLegs legs) → (z w : ℕ) → T (between 1 12 w) → (a : Aircraft) → T (fitsZone legs z a) → T (fitsZone legs w (withProgress a (progressInto w)))
+pub entered-fits : (legs : Legs) → T (legalLegs legs) → (z w : ℕ) → T (within 1 12 w) → (a : Aircraft) → T (fitsZone legs z a) → T (fitsZone legs w (withProgress a (progressInto w)))
 unfolding withProgress
 entered-fits legs l z w t a h = fits-of legs w (withProgress a (progressInto w)) (person-of legs z a h) (into-fits legs l w t)
 
@@ -202,7 +203,7 @@ ticked-of : (legs : Legs) (z amount : ℕ) (a : Aircraft) → T (personFits a) �
 unfolding tickedAircraft withProgress
 ticked-of legs z amount a t u = fits-of legs z (tickedAircraft (legOf legs z) amount a) t u
 
-pub ticked-fits : (legs : Legs) → T (legalLegs legs) → (amount : ℕ) → 1 ≤ amount → amount ≤ 64 → (e : Placed) → T (between 1 12 (e .zone)) → T (placedFits legs e) → T (placedFits legs (tickPlaced legs amount e))
+pub ticked-fits : (legs : Legs) → T (legalLegs legs) → (amount : ℕ) → 1 ≤ amount → amount ≤ 64 → (e : Placed) → T (within 1 12 (e .zone)) → T (placedFits legs e) → T (placedFits legs (tickPlaced legs amount e))
 ticked-fits legs l amount al ah e t h = go (decided (isFlyingZone (e .zone)))
   where
     speeds : Between 1 512 (e .aircraft .speed)
@@ -239,12 +240,12 @@ alternates-ticked : (legs : Legs) (amount : ℕ) (f : Side) (line : List Placed)
 alternates-ticked legs amount f [] al = tt
 alternates-ticked legs amount f (e ∷ line) al = (fix-same legs amount e ∙ al .0, alternates-ticked legs amount (opp f) line (al .1))
 
-line-ticked : (legs : Legs) → T (legalLegs legs) → (amount : ℕ) → 1 ≤ amount → amount ≤ 64 → (line : List Placed) → T (all (between 1 12) (zonesIn line)) → T (every (placedFits legs) line) → T (every (placedFits legs) (map (tickPlaced legs amount) line))
+line-ticked : (legs : Legs) → T (legalLegs legs) → (amount : ℕ) → 1 ≤ amount → amount ≤ 64 → (line : List Placed) → T (all (within 1 12) (zonesIn line)) → T (every (placedFits legs) line) → T (every (placedFits legs) (map (tickPlaced legs amount) line))
 line-ticked legs l amount al ah [] t h = tt
 line-ticked legs l amount al ah (e ∷ line) t h =
     and-i (placedFits legs (tickPlaced legs amount e)) (every (placedFits legs) (map (tickPlaced legs amount) line))
-    (ticked-fits legs l amount al ah e (and-l (between 1 12 (e .zone)) (all (between 1 12) (zonesIn line)) t) (and-l (placedFits legs e) (every (placedFits legs) line) h))
-    (line-ticked legs l amount al ah line (and-r (between 1 12 (e .zone)) (all (between 1 12) (zonesIn line)) t) (and-r (placedFits legs e) (every (placedFits legs) line) h))
+    (ticked-fits legs l amount al ah e (and-l (within 1 12 (e .zone)) (all (within 1 12) (zonesIn line)) t) (and-l (placedFits legs e) (every (placedFits legs) line) h))
+    (line-ticked legs l amount al ah line (and-r (within 1 12 (e .zone)) (all (within 1 12) (zonesIn line)) t) (and-r (placedFits legs e) (every (placedFits legs) line) h))
 
 pub ticked-orderly : (f : Side) (line : List Placed) (runway : List Aircraft) (legs : Legs) (amount : ℕ) → 1 ≤ amount → amount ≤ 64 → Orderly f line runway legs → Orderly f (map (tickPlaced legs amount) line) runway legs
 ticked-orderly f line runway legs amount al ah o =

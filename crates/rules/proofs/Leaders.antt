@@ -5,12 +5,13 @@ use mathlib.Core.List.{List, [], _∷_, _++_, map, append-assoc}
 use Prim.Native.Nat.{ℕ}
 use lib.Dec.{T, eqb}
 use lib.Ieee.Fits.{and-l, and-r}
+use Rattle.request.specs.Input.{within}
 use Rattle.field.specs.declared.Aircraft.{Aircraft}
 use Rattle.field.specs.declared.Legs.{Legs}
 use Rattle.field.specs.declared.Place.{Place}
 use Rattle.field.specs.Find.{placeOf, leaderOf, leaderZone}
 use Rattle.field.specs.Bounds.{every, allDifferent}
-use Rattle.order.specs.Model.{Side, between, lastOr, all}
+use Rattle.order.specs.Model.{Side, lastOr, all}
 use Rattle.field.proofs.Tests.{if-false, failed}
 use Rattle.rules.proofs.Lists.{map-append, Ends, nothing, with-last, ends, last-is}
 use Rattle.rules.proofs.Line.{Placed, zonesIn, numbersOf, fieldOf}
@@ -39,21 +40,21 @@ module _ (f : Side) (e : Placed) (b : List Placed) (runway : List Aircraft) (leg
       ∙ if-false 0 (placeOf (fieldOf f (a ++ e ∷ b) runway legs) m .zone) (failed {b = eqb m 0} t)
       ∙ p
 
-  go : {a : List Placed} → Ends a → T (allDifferent (numbersOf (a ++ e ∷ b) ++ numbers runway)) → T (every nonzero (numbersOf (a ++ e ∷ b))) → T (all (between 1 12) (zonesIn (a ++ e ∷ b)))
+  go : {a : List Placed} → Ends a → T (allDifferent (numbersOf (a ++ e ∷ b) ++ numbers runway)) → T (every nonzero (numbersOf (a ++ e ∷ b))) → T (all (within 1 12) (zonesIn (a ++ e ∷ b)))
       → leaderZone (fieldOf f (a ++ e ∷ b) runway legs) (e .aircraft .number) ≡ lastOr 0 (zonesIn a)
   unfolding leaderZone
   go nothing d n t = ap (λ (k : ℕ). cond (eqb k 0) 0 (placeOf (fieldOf f (e ∷ b) runway legs) k .zone)) (leader-there f [] e b runway legs d)
   go (with-last a x) d n t =
       let s : (a ++ (x ∷ [])) ++ e ∷ b ≡ a ++ x ∷ e ∷ b = append-assoc a (x ∷ []) (e ∷ b) in
       let m = x .aircraft .number in
-      let u = subst (λ (l : List Placed). T (all (between 1 12) (zonesIn l))) s t in
+      let u = subst (λ (l : List Placed). T (all (within 1 12) (zonesIn l))) s t in
       by-number (a ++ (x ∷ [])) m (lastOr 0 (zonesIn (a ++ (x ∷ []))))
       (leader-there f (a ++ (x ∷ [])) e b runway legs d ∙ ap (lastOr 0) (map-append (λ (p : Placed). p .aircraft .number) a (x ∷ [])) ∙ last-is 0 (numbersOf a) m)
       (every-at nonzero (λ (p : Placed). p .aircraft .number) a x (e ∷ b) (subst (λ (l : List Placed). T (every nonzero (numbersOf l))) s n))
       (ap (λ (l : List Placed). placeOf (fieldOf f l runway legs) m .zone) s
-      ∙ ap (λ (p : Place). p .zone) (located f a x (e ∷ b) runway legs (subst (λ (l : List Placed). T (allDifferent (numbersOf l ++ numbers runway))) s d) (all-at (between 1 12) (λ (p : Placed). p .zone) a x (e ∷ b) u))
+      ∙ ap (λ (p : Place). p .zone) (located f a x (e ∷ b) runway legs (subst (λ (l : List Placed). T (allDifferent (numbersOf l ++ numbers runway))) s d) (all-at (within 1 12) (λ (p : Placed). p .zone) a x (e ∷ b) u))
       ∙ sym (ap (lastOr 0) (map-append (λ (p : Placed). p .zone) a (x ∷ [])) ∙ last-is 0 (zonesIn a) (x .zone)))
 
-  pub leader-zone : (a : List Placed) → T (allDifferent (numbersOf (a ++ e ∷ b) ++ numbers runway)) → T (every nonzero (numbersOf (a ++ e ∷ b))) → T (all (between 1 12) (zonesIn (a ++ e ∷ b)))
+  pub leader-zone : (a : List Placed) → T (allDifferent (numbersOf (a ++ e ∷ b) ++ numbers runway)) → T (every nonzero (numbersOf (a ++ e ∷ b))) → T (all (within 1 12) (zonesIn (a ++ e ∷ b)))
       → leaderZone (fieldOf f (a ++ e ∷ b) runway legs) (e .aircraft .number) ≡ lastOr 0 (zonesIn a)
   leader-zone a = go (ends a)

@@ -6,6 +6,7 @@ use Prim.Native.Nat.{ℕ, _<_}
 use native.Mathlib.Omega.{arith}
 use lib.Dec.{T, eqb}
 use lib.ListN.{length}
+use Rattle.request.specs.Input.{within}
 use Rattle.field.specs.declared.Aircraft.{Aircraft}
 use Rattle.field.specs.declared.Zone.{Zone}
 use Rattle.field.specs.declared.Sequence.{Sequence}
@@ -16,7 +17,7 @@ use Rattle.field.specs.Find.{aircraftAt}
 use Rattle.field.specs.Bounds.{allDifferent}
 use Rattle.field.specs.Edits.{withoutHead, withTail, withZone, withSequence, removed}
 use Rattle.request.specs.declared.Request.{Request}
-use Rattle.order.specs.Model.{Side, opp, num, nextFix, between}
+use Rattle.order.specs.Model.{Side, opp, num, nextFix}
 use Rattle.rules.specs.Kinds.{moved, headGone, outOfSequence, landed, exited}
 use Rattle.field.proofs.Tests.{if-false, flip-eqb}
 use Rattle.rules.proofs.Line.{zoneFor, tail-for, head-for, sequenceFor, removed-for, fieldBy, Placed, zonesIn, numbersOf, inside, zonesOf, fieldOf}
@@ -34,7 +35,7 @@ taxied f line x legs =
     (λ y t p. ap (λ (b : Bool). cond b (zoneFor (x ∷ [])) (zoneFor (inside y line))) p ∙ sym (ap (λ (b : Bool). cond b (zoneFor []) (zoneFor (inside y line))) p))
 
 -- ---- the first of the sequence leaves it
-module _ (f : Side) (e : Placed) (b : List Placed) (runway : List Aircraft) (legs : Legs) (t : T (between 1 12 (e .zone))) (room : length b < 4) where
+module _ (f : Side) (e : Placed) (b : List Placed) (runway : List Aircraft) (legs : Legs) (t : T (within 1 12 (e .zone))) (room : length b < 4) where
   abbrev F : Field
   F = fieldOf f (e ∷ b) runway legs
 
@@ -81,8 +82,8 @@ module _ (f : Side) (e : Placed) (b : List Placed) (legs : Legs) (h : e .zone �
   abbrev x : Aircraft
   x = withProgress (e .aircraft) (progressInto 13)
 
-  t : T (between 1 12 (e .zone))
-  t = subst (λ (z : ℕ). T (between 1 12 z)) (sym h) tt
+  t : T (within 1 12 (e .zone))
+  t = subst (λ (z : ℕ). T (within 1 12 z)) (sym h) tt
 
   to-runway : moved F₇ 12 13 ≡ fieldBy (zonesOf b (x ∷ [])) (sequenceFor (numbersOf (e ∷ b))) (num (nextFix f (zonesIn (e ∷ b)))) legs
   unfolding moved fieldOf

@@ -9,6 +9,7 @@ use native.Mathlib.Omega.{arith}
 use lib.Dec.{T, eqb}
 use lib.ListN.{length, replicate}
 use lib.Seq.{take-append-seam}
+use Rattle.request.specs.Input.{within}
 use Rattle.field.specs.declared.Aircraft.{Aircraft}
 use Rattle.field.specs.declared.Zone.{Zone}
 use Rattle.field.specs.declared.Sequence.{Sequence}
@@ -16,7 +17,7 @@ use Rattle.field.specs.declared.Legs.{Legs}
 use Rattle.field.specs.declared.Field.{Field}
 use Rattle.field.specs.Boxes.{everywhere, nobody, zoneOf, queueOf, orderOf, emptyField}
 use Rattle.field.specs.Edits.{withoutHead, withTail, appended, removed, withZone}
-use Rattle.order.specs.Model.{Side, right, num, nextFix, between}
+use Rattle.order.specs.Model.{Side, right, num, nextFix}
 use Rattle.field.proofs.Tests.{same, each-zone}
 
 -- ---- queues
@@ -80,13 +81,13 @@ abbrev pub fieldBy : (ℕ → Zone) → Sequence → ℕ → Legs → Field
 fieldBy g s next legs = record { zones = map g everywhere; sequence = s; next = next; legs = legs }
 
 module _ (g : ℕ → Zone) (s : Sequence) (next : ℕ) (legs : Legs) where
-  pub zone-by : (z : ℕ) → T (between 1 13 z) → zoneOf (fieldBy g s next legs) z ≡ g z
+  pub zone-by : (z : ℕ) → T (within 1 13 z) → zoneOf (fieldBy g s next legs) z ≡ g z
   unfolding zoneOf
   zone-by =
       each-zone (λ z. zoneOf (fieldBy g s next legs) z ≡ g z)
       (refl, (refl, (refl, (refl, (refl, (refl, (refl, (refl, (refl, (refl, (refl, (refl, (refl, tt)))))))))))))
 
-  pub with-by : (z : ℕ) (q : Zone) → T (between 1 13 z) → withZone (fieldBy g s next legs) z q ≡ fieldBy (λ y. cond (eqb y z) q (g y)) s next legs
+  pub with-by : (z : ℕ) (q : Zone) → T (within 1 13 z) → withZone (fieldBy g s next legs) z q ≡ fieldBy (λ y. cond (eqb y z) q (g y)) s next legs
   unfolding withZone
   with-by z q t =
       each-zone (λ z. withZone (fieldBy g s next legs) z q ≡ fieldBy (λ y. cond (eqb y z) q (g y)) s next legs)
@@ -94,7 +95,7 @@ module _ (g : ℕ → Zone) (s : Sequence) (next : ℕ) (legs : Legs) where
       z t
 
   -- two fields whose zones agree
-  pub by-zones : (h : ℕ → Zone) → ((z : ℕ) → T (between 1 13 z) → g z ≡ h z) → fieldBy g s next legs ≡ fieldBy h s next legs
+  pub by-zones : (h : ℕ → Zone) → ((z : ℕ) → T (within 1 13 z) → g z ≡ h z) → fieldBy g s next legs ≡ fieldBy h s next legs
   by-zones h e =
       rw (e 1 tt, e 2 tt, e 3 tt, e 4 tt, e 5 tt, e 6 tt, e 7 tt, e 8 tt, e 9 tt, e 10 tt, e 11 tt, e 12 tt, e 13 tt)
 

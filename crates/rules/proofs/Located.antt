@@ -10,6 +10,7 @@ use lib.ListN.{length, getD}
 use lib.Seq.{getD-append-seam}
 use lib.Ieee.Fits.{and-i, and-l, and-r}
 use borrow.Author.Tests.{eq-eqb, ne-eqb, eqb-true, eqb-false}
+use Rattle.request.specs.Input.{within}
 use Rattle.field.specs.declared.Aircraft.{Aircraft}
 use Rattle.field.specs.declared.Legs.{Legs}
 use Rattle.field.specs.declared.Field.{Field}
@@ -18,7 +19,7 @@ use Rattle.field.specs.Boxes.{everywhere, inZone, orderOf, nobody}
 use Rattle.field.specs.Counts.{isIn}
 use Rattle.field.specs.Find.{placeFrom, nowhere, findIn, placeOf, aircraftAt, fixOf, isHead, isFirst, aheadOf, leaderOf}
 use Rattle.field.specs.Bounds.{allDifferent}
-use Rattle.order.specs.Model.{Side, between, lastOr, isNil, all}
+use Rattle.order.specs.Model.{Side, lastOr, isNil, all}
 use Rattle.field.proofs.Tests.{pass, if-true, if-false, decided, same, each-zone}
 use Rattle.field.proofs.Lists.{or-false-left, or-false-right, absent-left, absent-right, Alone, alone}
 use Rattle.rules.proofs.Lists.{map-append, head-is, ahead-is}
@@ -38,21 +39,21 @@ absent-inside n z (p ∷ line) e = go (eqb (p .zone) z) (absent-inside n z line 
 
 -- ---- the search over zones
 module _ (f : Field) (n : ℕ) where
-  pub find-none : (zs : List ℕ) → T (all (between 1 13) zs) → ((z : ℕ) → T (between 1 13 z) → placeFrom 1 n (inZone f z) ≡ 0) → findIn f n zs ≡ nowhere
+  pub find-none : (zs : List ℕ) → T (all (within 1 13) zs) → ((z : ℕ) → T (within 1 13 z) → placeFrom 1 n (inZone f z) ≡ 0) → findIn f n zs ≡ nowhere
   unfolding findIn
   find-none [] t h = refl
   find-none (z ∷ zs) t h =
-      if-true (findIn f n zs) (at z (placeFrom 1 n (inZone f z))) (eq-eqb (placeFrom 1 n (inZone f z)) 0 (h z (and-l (between 1 13 z) (all (between 1 13) zs) t)))
-      ∙ find-none zs (and-r (between 1 13 z) (all (between 1 13) zs) t) h
+      if-true (findIn f n zs) (at z (placeFrom 1 n (inZone f z))) (eq-eqb (placeFrom 1 n (inZone f z)) 0 (h z (and-l (within 1 13 z) (all (within 1 13) zs) t)))
+      ∙ find-none zs (and-r (within 1 13 z) (all (within 1 13) zs) t) h
 
-  pub find-at : (zs : List ℕ) (w k : ℕ) → T (all (between 1 13) zs) → isIn w zs ≡ true → placeFrom 1 n (inZone f w) ≡ suc k
-      → ((z : ℕ) → T (between 1 13 z) → (z ≡ w → ⊥) → placeFrom 1 n (inZone f z) ≡ 0) → findIn f n zs ≡ at w (suc k)
+  pub find-at : (zs : List ℕ) (w k : ℕ) → T (all (within 1 13) zs) → isIn w zs ≡ true → placeFrom 1 n (inZone f w) ≡ suc k
+      → ((z : ℕ) → T (within 1 13 z) → (z ≡ w → ⊥) → placeFrom 1 n (inZone f z) ≡ 0) → findIn f n zs ≡ at w (suc k)
   unfolding findIn
   find-at [] w k t i p h = absurd (true≢false (sym i))
-  find-at (z ∷ zs) w k t i p h = go (decided (eqb z w)) (λ j. find-at zs w k (and-r (between 1 13 z) (all (between 1 13) zs) t) j p h)
+  find-at (z ∷ zs) w k t i p h = go (decided (eqb z w)) (λ j. find-at zs w k (and-r (within 1 13 z) (all (within 1 13) zs) t) j p h)
     where
-      v : T (between 1 13 z)
-      v = and-l (between 1 13 z) (all (between 1 13) zs) t
+      v : T (within 1 13 z)
+      v = and-l (within 1 13 z) (all (within 1 13) zs) t
 
       here : z ≡ w → placeFrom 1 n (inZone f z) ≡ suc k
       here e = ap (λ (y : ℕ). placeFrom 1 n (inZone f y)) e ∙ p
@@ -71,7 +72,7 @@ module _ (f : Field) (n : ℕ) where
 
 -- ---- on a field that an order stands for
 
-zone-below : (z : ℕ) → T (between 1 13 z) → (z ≡ 13 → ⊥) → T (between 1 12 z)
+zone-below : (z : ℕ) → T (within 1 13 z) → (z ≡ 13 → ⊥) → T (within 1 12 z)
 zone-below z t h =
     let l = leb→le 1 z (and-l (leb 1 z) (leb z 13) t) in
     let u = leb→le z 13 (and-r (leb 1 z) (leb z 13) t) in
@@ -81,10 +82,10 @@ zone-below z t h =
     below z l u h = elim (Rattle.field.proofs.Tests.decided (leb z 12)) [ inl e ↦ leb→le z 12 (pass e) | inr e ↦ absurd (h (let k = borrow.Author.Tests.leb-false z 12 e in omega arith)) ]
 
 -- a zone of the field is the runway, or one of the operation area
-pub zone-split : {P : ℕ → Type 0} → P 13 → ((z : ℕ) → T (between 1 12 z) → P z) → (z : ℕ) → T (between 1 13 z) → P z
+pub zone-split : {P : ℕ → Type 0} → P 13 → ((z : ℕ) → T (within 1 12 z) → P z) → (z : ℕ) → T (within 1 13 z) → P z
 zone-split {P} r l z t = elim (decided (eqb z 13)) [ inl e ↦ subst P (sym (eqb-true z 13 e)) r | inr e ↦ l z (zone-below z t (eqb-false z 13 e)) ]
 
-zone-listed : (z : ℕ) → T (between 1 12 z) → isIn z everywhere ≡ true
+zone-listed : (z : ℕ) → T (within 1 12 z) → isIn z everywhere ≡ true
 zone-listed z t =
     each-zone (λ (y : ℕ). isIn y everywhere ≡ true) (refl, (refl, (refl, (refl, (refl, (refl, (refl, (refl, (refl, (refl, (refl, (refl, (refl, tt))))))))))))) z
     (let l = leb→le 1 z (and-l (leb 1 z) (leb z 12) t) in let u = leb→le z 12 (and-r (leb 1 z) (leb z 12) t) in and-i (leb 1 z) (leb z 13) (le→leb 1 z l) (le→leb z 13 (omega arith)))
@@ -137,7 +138,7 @@ module _ (f : Side) (a : List Placed) (e : Placed) (b : List Placed) (runway : L
       ap (λ (l : List Aircraft). isIn n (numbers l)) (inside-other z a e b h ∙ sym (inside-append z a b))
       ∙ absent-inside n z (a ++ b) (ap (isIn n) (map-append (λ (p : Placed). p .aircraft .number) a b) ∙ Rattle.field.proofs.Lists.absent-both n (numbersOf a) (numbersOf b) (apart .ahead) (absent-left n (numbersOf b) (numbers runway) (apart .behind)))
 
-  pub located : T (between 1 12 (e .zone)) → placeOf F n ≡ at (e .zone) (suc (length (inside (e .zone) a)))
+  pub located : T (within 1 12 (e .zone)) → placeOf F n ≡ at (e .zone) (suc (length (inside (e .zone) a)))
   unfolding placeOf
   located t =
       find-at F n everywhere (e .zone) (length (inside (e .zone) a)) tt (zone-listed (e .zone) t)
@@ -148,13 +149,13 @@ module _ (f : Side) (a : List Placed) (e : Placed) (b : List Placed) (runway : L
       (λ h. ap (placeFrom 1 n) (on-runway f (a ++ e ∷ b) runway legs) ∙ no-place 1 n runway (absent-right n (numbersOf b) (numbers runway) (apart .behind)))
       (λ z u h. ap (placeFrom 1 n) (in-line f (a ++ e ∷ b) runway legs z u) ∙ no-place 1 n (inside z (a ++ e ∷ b)) (elsewhere z (ne-eqb (e .zone) z (λ q. h (sym q))))))
 
-  pub aircraft-there : T (between 1 12 (e .zone)) → aircraftAt F (e .zone) (suc (length (inside (e .zone) a))) ≡ e .aircraft
+  pub aircraft-there : T (within 1 12 (e .zone)) → aircraftAt F (e .zone) (suc (length (inside (e .zone) a))) ≡ e .aircraft
   unfolding aircraftAt
   aircraft-there t =
       ap (λ (l : List Aircraft). getD l (length (inside (e .zone) a)) nobody) (in-line f (a ++ e ∷ b) runway legs (e .zone) t ∙ inside-at a e b)
       ∙ getD-append-seam (inside (e .zone) a) (e .aircraft) (inside (e .zone) b) nobody
 
-  pub fix-there : T (between 1 12 (e .zone)) → fixOf F n ≡ e .aircraft .fix
+  pub fix-there : T (within 1 12 (e .zone)) → fixOf F n ≡ e .aircraft .fix
   unfolding fixOf
   fix-there t = ap (λ (p : Place). aircraftAt F (p .zone) (p .place) .fix) (located t) ∙ ap (λ (x : Aircraft). x .fix) (aircraft-there t)
 
@@ -175,5 +176,5 @@ module _ (f : Side) (a : List Placed) (e : Placed) (b : List Placed) (runway : L
   leader-there = ap (aheadOf 0 n) order-there ∙ ahead-is 0 n (numbersOf a) (numbersOf b) (apart .ahead)
 
   -- the zone of the one at a place of zone 1 to 12 at the head of its queue
-  pub head-there : T (between 1 12 (e .zone)) → inside (e .zone) a ≡ [] → aircraftAt F (e .zone) 1 ≡ e .aircraft
+  pub head-there : T (within 1 12 (e .zone)) → inside (e .zone) a ≡ [] → aircraftAt F (e .zone) 1 ≡ e .aircraft
   head-there t h = ap (λ (l : List Aircraft). aircraftAt F (e .zone) (suc (length l))) (sym h) ∙ aircraft-there t

@@ -9,6 +9,7 @@ use native.Mathlib.Omega.{arith}
 use lib.Dec.{T, eqb}
 use lib.ListN.{length, length-append}
 use borrow.Author.Tests.{eqb-true}
+use Rattle.request.specs.Input.{within}
 use Rattle.field.specs.declared.Aircraft.{Aircraft}
 use Rattle.field.specs.declared.Zone.{Zone}
 use Rattle.field.specs.declared.Sequence.{Sequence}
@@ -18,7 +19,7 @@ use Rattle.field.specs.Boxes.{zoneOf, progressInto, withProgress}
 use Rattle.field.specs.Find.{aircraftAt}
 use Rattle.field.specs.Bounds.{allDifferent}
 use Rattle.field.specs.Edits.{withoutHead, withTail, withZone}
-use Rattle.order.specs.Model.{Side, opp, num, nextFix, between}
+use Rattle.order.specs.Model.{Side, opp, num, nextFix}
 use Rattle.rules.specs.Kinds.{moved}
 use Rattle.field.proofs.Tests.{if-true, if-false, decided}
 use Rattle.rules.proofs.Lists.{map-append}
@@ -30,7 +31,7 @@ use Rattle.rules.proofs.Orderly.{inside-le}
 
 -- ---- one zone, or two, written anew
 module _ (g h : ℕ → Zone) (s : Sequence) (next : ℕ) (legs : Legs) where
-  pub one-zone : (z : ℕ) (q : Zone) → T (between 1 13 z) → q ≡ h z → ((y : ℕ) → T (between 1 13 y) → eqb y z ≡ false → g y ≡ h y)
+  pub one-zone : (z : ℕ) (q : Zone) → T (within 1 13 z) → q ≡ h z → ((y : ℕ) → T (within 1 13 y) → eqb y z ≡ false → g y ≡ h y)
       → withZone (fieldBy g s next legs) z q ≡ fieldBy h s next legs
   one-zone z q t e k =
       with-by g s next legs z q t
@@ -40,8 +41,8 @@ module _ (g h : ℕ → Zone) (s : Sequence) (next : ℕ) (legs : Legs) where
         | inr b ↦ if-false q (g y) b ∙ k y u b
       ])
 
-  pub two-zones : (z w : ℕ) (p q : Zone) → T (between 1 13 z) → T (between 1 13 w) → p ≡ h z → q ≡ h w
-      → ((y : ℕ) → T (between 1 13 y) → eqb y z ≡ false → eqb y w ≡ false → g y ≡ h y)
+  pub two-zones : (z w : ℕ) (p q : Zone) → T (within 1 13 z) → T (within 1 13 w) → p ≡ h z → q ≡ h w
+      → ((y : ℕ) → T (within 1 13 y) → eqb y z ≡ false → eqb y w ≡ false → g y ≡ h y)
       → withZone (withZone (fieldBy g s next legs) z p) w q ≡ fieldBy h s next legs
   two-zones z w p q t u e i k =
       ap (λ (f : Field). withZone f w q) (with-by g s next legs z p t)
@@ -55,7 +56,7 @@ module _ (g h : ℕ → Zone) (s : Sequence) (next : ℕ) (legs : Legs) where
         ]
       ])
 
-  pub zone-other : (z w : ℕ) (p : Zone) → T (between 1 13 z) → T (between 1 13 w) → eqb w z ≡ false → zoneOf (withZone (fieldBy g s next legs) z p) w ≡ g w
+  pub zone-other : (z w : ℕ) (p : Zone) → T (within 1 13 z) → T (within 1 13 w) → eqb w z ≡ false → zoneOf (withZone (fieldBy g s next legs) z p) w ≡ g w
   zone-other z w p t u b =
       ap (λ (f : Field). zoneOf f w) (with-by g s next legs z p t) ∙ zone-by (λ y. cond (eqb y z) p (g y)) s next legs w u ∙ if-false p (g w) b
 
@@ -86,8 +87,8 @@ into w e = record { aircraft = withProgress (e .aircraft) (progressInto w); zone
 
 -- what is asked of a move of e to zone w, with those ahead and behind: e heads its zone, and nobody behind it is in zone w
 pub record MayMove (a : List Placed) (e : Placed) (b : List Placed) (w : ℕ) : Type 0 where
-  pub from-zone : T (between 1 12 (e .zone))
-  pub to-zone : T (between 1 12 w)
+  pub from-zone : T (within 1 12 (e .zone))
+  pub to-zone : T (within 1 12 w)
   pub other-zone : eqb w (e .zone) ≡ false
   pub heads : inside (e .zone) a ≡ []
   pub none-behind : inside w b ≡ []
@@ -142,7 +143,7 @@ module _ (f : Side) (a : List Placed) (e : Placed) (b : List Placed) (runway : L
       ∙ sym (if-false (zoneFor runway) (zoneFor (inside w (a ++ into w e ∷ b))) (not-13 w (m .to-zone)) ∙ ap zoneFor (inside-at a (into w e) b ∙ ap (λ (l : List Aircraft). inside w a ++ x ∷ l) (m .none-behind)))
 
   -- any other zone
-  kept-zone : (y : ℕ) → T (between 1 13 y) → eqb y z ≡ false → eqb y w ≡ false → G y ≡ H y
+  kept-zone : (y : ℕ) → T (within 1 13 y) → eqb y z ≡ false → eqb y w ≡ false → G y ≡ H y
   kept-zone y t p q =
       ap (λ (l : List Aircraft). cond (eqb y 13) (zoneFor runway) (zoneFor l))
       (inside-other y a e b (Rattle.field.proofs.Tests.flip-eqb y z p) ∙ sym (inside-other y a (into w e) b (Rattle.field.proofs.Tests.flip-eqb y w q)))

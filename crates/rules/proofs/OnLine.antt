@@ -19,7 +19,7 @@ use Rattle.field.specs.Counts.{howMany}
 use Rattle.field.specs.Find.{placeOf, isFirst, leaderZone}
 use Rattle.field.specs.Bounds.{isEmpty}
 use Rattle.order.specs.Model as model
-use Rattle.order.specs.Model.{Side, between, count, free, isNil, lastOr, descend, approaching, merge, final, hold}
+use Rattle.order.specs.Model.{Side, count, free, isNil, lastOr, descend, approaching, merge, final, hold}
 use Rattle.order.proofs.Facts.{okay-zones}
 use Rattle.rules.specs.Kinds.{startsFrom, zoneBefore, mayApproach, baseFree, moved, approached, held}
 use Rattle.field.proofs.Tests.{passed, pass, if-true, zones-imply}
@@ -34,35 +34,35 @@ use Rattle.rules.proofs.After.{After, zone-in, line-move, staysOn}
 use Rattle.rules.proofs.Checks.{effect-at, besides}
 
 -- ---- the zones that a kind starts from, and those that it leads to, one by one
-three-from : (z : ℕ) → T (between 1 13 z) → T (startsFrom 3 z) → T (between 1 2 z && between 1 12 (at2000 z))
+three-from : (z : ℕ) → T (within 1 13 z) → T (startsFrom 3 z) → T (within 1 2 z && within 1 12 (at2000 z))
 unfolding startsFrom
-three-from = zones-imply (startsFrom 3) (λ z. between 1 2 z && between 1 12 (at2000 z)) tt
+three-from = zones-imply (startsFrom 3) (λ z. within 1 2 z && within 1 12 (at2000 z)) tt
 
-four-from : (z : ℕ) → T (between 1 13 z) → T (startsFrom 4 z) → T (between 3 6 z && between 1 12 (base (opposite (sideOf z))))
+four-from : (z : ℕ) → T (within 1 13 z) → T (startsFrom 4 z) → T (within 3 6 z && within 1 12 (base (opposite (sideOf z))))
 unfolding startsFrom sideOf opposite
-four-from = zones-imply (startsFrom 4) (λ z. between 3 6 z && between 1 12 (base (opposite (sideOf z)))) tt
+four-from = zones-imply (startsFrom 4) (λ z. within 3 6 z && within 1 12 (base (opposite (sideOf z)))) tt
 
-five-from : (z : ℕ) → T (between 1 13 z) → T (startsFrom 5 z) → T (between 9 10 z)
+five-from : (z : ℕ) → T (within 1 13 z) → T (startsFrom 5 z) → T (within 9 10 z)
 unfolding startsFrom
-five-from = zones-imply (startsFrom 5) (between 9 10) tt
+five-from = zones-imply (startsFrom 5) (within 9 10) tt
 
-six-from : (z : ℕ) → T (between 1 13 z) → T (startsFrom 6 z) → T (eqb z 11)
+six-from : (z : ℕ) → T (within 1 13 z) → T (startsFrom 6 z) → T (eqb z 11)
 unfolding startsFrom
 six-from = zones-imply (startsFrom 6) (λ z. eqb z 11) tt
 
 -- a missed zone, with the two holdings of its side
 pub record MissedZone (z : ℕ) : Type 0 where
-  pub is-missed : T (between 7 8 z)
-  pub above : T (between 1 12 (at3000 (sideOf z)))
-  pub below : T (between 1 12 (at2000 (sideOf z)))
+  pub is-missed : T (within 7 8 z)
+  pub above : T (within 1 12 (at3000 (sideOf z)))
+  pub below : T (within 1 12 (at2000 (sideOf z)))
 
-pub eleven-from : (z : ℕ) → T (between 1 13 z) → T (startsFrom 11 z) → MissedZone z
+pub eleven-from : (z : ℕ) → T (within 1 13 z) → T (startsFrom 11 z) → MissedZone z
 unfolding startsFrom sideOf
 eleven-from z t u =
     record {
-      is-missed = zones-imply (startsFrom 11) (between 7 8) tt z t u;
-      above = zones-imply (startsFrom 11) (λ z. between 1 12 (at3000 (sideOf z))) tt z t u;
-      below = zones-imply (startsFrom 11) (λ z. between 1 12 (at2000 (sideOf z))) tt z t u;
+      is-missed = zones-imply (startsFrom 11) (within 7 8) tt z t u;
+      above = zones-imply (startsFrom 11) (λ z. within 1 12 (at3000 (sideOf z))) tt z t u;
+      below = zones-imply (startsFrom 11) (λ z. within 1 12 (at2000 (sideOf z))) tt z t u;
     }
 
 -- a move to one of two zones
@@ -95,17 +95,17 @@ module _ (f : Side) (a : List Placed) (e : Placed) (b : List Placed) (runway : L
   pub zone-before : zoneBefore F r ≡ z
   zone-before = ap (λ (p : Place). p .zone) place-is
 
-  in-13 : T (between 1 13 z)
+  in-13 : T (within 1 13 z)
   in-13 = lower z (zone-in f a e b runway legs o)
 
   pub from-kind : {k : ℕ} → r .kind ≡ k → T (startsFrom k z)
   from-kind h = subst (λ (k : ℕ). T (startsFrom k z)) h starts
 
   -- how many are in a zone, by the model
-  pub many : (w : ℕ) → T (between 1 12 w) → howMany F w ≡ count (zs₁ ++ z ∷ zs₂) w
+  pub many : (w : ℕ) → T (within 1 12 w) → howMany F w ≡ count (zs₁ ++ z ∷ zs₂) w
   many w t = how-many f (a ++ e ∷ b) runway legs w t ∙ ap (λ (l : List ℕ). count l w) (map-append (λ (p : Placed). p .zone) a (e ∷ b))
 
-  pub empty-free : (w : ℕ) → T (between 1 12 w) → isEmpty F w ≡ free (zs₁ ++ z ∷ zs₂) w
+  pub empty-free : (w : ℕ) → T (within 1 12 w) → isEmpty F w ≡ free (zs₁ ++ z ∷ zs₂) w
   empty-free w t = ap (λ (n : ℕ). eqb n 0) (many w t)
 
   first-is : isFirst (F .sequence) (r .number) ≡ isNil zs₁
@@ -117,38 +117,38 @@ module _ (f : Side) (a : List Placed) (e : Placed) (b : List Placed) (runway : L
       ∙ leader-zone f e b runway legs a (o .different) (every-left nonzero (numbersOf (a ++ e ∷ b)) (numbers runway) (o .nonzeros)) (okay-zones f (zonesIn (a ++ e ∷ b)) (o .okay-line))
 
   -- first in sequence, or the leader in zones low to high
-  led : (low high : ℕ) → (isFirst (F .sequence) (r .number) || within low high (leaderZone F (r .number))) ≡ (isNil zs₁ || between low high (lastOr 0 zs₁))
+  led : (low high : ℕ) → (isFirst (F .sequence) (r .number) || within low high (leaderZone F (r .number))) ≡ (isNil zs₁ || within low high (lastOr 0 zs₁))
   led low high = ap (λ (t : Bool). t || within low high (leaderZone F (r .number))) first-is ∙ ap (λ (n : ℕ). isNil zs₁ || within low high n) leads
 
   -- kind 3
   pub after-3 : r .kind ≡ 3 → firstRefused (besides F r 3) ≡ 0 → After f (a ++ e ∷ b) runway legs r
   after-3 h c =
       let q = three-from z in-13 (from-kind h) in
-      let q₁ = and-l (between 1 2 z) (between 1 12 (at2000 z)) q in
-      let q₂ = and-r (between 1 2 z) (between 1 12 (at2000 z)) q in
+      let q₁ = and-l (within 1 2 z) (within 1 12 (at2000 z)) q in
+      let q₂ = and-r (within 1 2 z) (within 1 12 (at2000 z)) q in
       let t = input.passed (besides F r 3) (tt, tt) c .0 in
       line-move f a e b runway legs o descend r heads
-      (and-i (between 1 2 z) (free (zs₁ ++ z ∷ zs₂) (at2000 z)) q₁ (pass (sym (empty-free (at2000 z) q₂) ∙ ap (λ (w : ℕ). isEmpty F (at2000 w)) (sym zone-before) ∙ t)))
+      (and-i (within 1 2 z) (free (zs₁ ++ z ∷ zs₂) (at2000 z)) q₁ (pass (sym (empty-free (at2000 z) q₂) ∙ ap (λ (w : ℕ). isEmpty F (at2000 w)) (sym zone-before) ∙ t)))
       (effect-at F r h ∙ ap (λ (w : ℕ). moved F w (at2000 w)) zone-before)
       (subst (λ (k : ℕ). T (staysOn k)) (sym h) tt) (λ u. let n : 12 ≡ r .kind = sym u in omega arith) named
 
   -- kind 4
-  may-is : T (between 1 12 (base (opposite (sideOf z)))) → (mayApproach F (r .number) && baseFree F (sideOf z)) ≡ model.mayApproach zs₁ z zs₂
+  may-is : T (within 1 12 (base (opposite (sideOf z)))) → (mayApproach F (r .number) && baseFree F (sideOf z)) ≡ model.mayApproach zs₁ z zs₂
   unfolding mayApproach baseFree
-  may-is t = ap (λ (c : Bool). c && baseFree F (sideOf z)) (led 9 12) ∙ ap (λ (n : ℕ). (isNil zs₁ || between 9 12 (lastOr 0 zs₁)) && leb n 1) (many (base (opposite (sideOf z))) t)
+  may-is t = ap (λ (c : Bool). c && baseFree F (sideOf z)) (led 9 12) ∙ ap (λ (n : ℕ). (isNil zs₁ || within 9 12 (lastOr 0 zs₁)) && leb n 1) (many (base (opposite (sideOf z))) t)
 
   pub after-4 : r .kind ≡ 4 → firstRefused (besides F r 4) ≡ 0 → After f (a ++ e ∷ b) runway legs r
   unfolding approached
   after-4 h c =
       let q = four-from z in-13 (from-kind h) in
-      let q₁ = and-l (between 3 6 z) (between 1 12 (base (opposite (sideOf z)))) q in
-      let q₂ = and-r (between 3 6 z) (between 1 12 (base (opposite (sideOf z)))) q in
+      let q₁ = and-l (within 3 6 z) (within 1 12 (base (opposite (sideOf z)))) q in
+      let q₂ = and-r (within 3 6 z) (within 1 12 (base (opposite (sideOf z)))) q in
       let p = input.passed (besides F r 4) (tt, (tt, tt)) c in
-      let t₁ : (between 5 6 z || mayApproach F (r .number)) ≡ true = ap (λ (w : ℕ). within 5 6 w || mayApproach F (r .number)) (sym zone-before) ∙ p .0 in
-      let t₂ : (between 5 6 z || baseFree F (sideOf z)) ≡ true = ap (λ (w : ℕ). within 5 6 w || baseFree F (sideOf w)) (sym zone-before) ∙ p .1 .0 in
+      let t₁ : (within 5 6 z || mayApproach F (r .number)) ≡ true = ap (λ (w : ℕ). within 5 6 w || mayApproach F (r .number)) (sym zone-before) ∙ p .0 in
+      let t₂ : (within 5 6 z || baseFree F (sideOf z)) ≡ true = ap (λ (w : ℕ). within 5 6 w || baseFree F (sideOf w)) (sym zone-before) ∙ p .1 .0 in
       line-move f a e b runway legs o approaching r heads
-      (and-i (between 3 6 z) (between 5 6 z || model.mayApproach zs₁ z zs₂) q₁
-      (pass (ap (λ (t : Bool). between 5 6 z || t) (sym (may-is q₂)) ∙ excused (between 5 6 z) (mayApproach F (r .number)) (baseFree F (sideOf z)) t₁ t₂)))
+      (and-i (within 3 6 z) (within 5 6 z || model.mayApproach zs₁ z zs₂) q₁
+      (pass (ap (λ (t : Bool). within 5 6 z || t) (sym (may-is q₂)) ∙ excused (within 5 6 z) (mayApproach F (r .number)) (baseFree F (sideOf z)) t₁ t₂)))
       (effect-at F r h
       ∙ ap (λ (w : ℕ). cond (mayApproach F (r .number) && baseFree F (sideOf w)) (moved F w (base (sideOf w))) (moved F w (at2000 (sideOf w)))) zone-before
       ∙ ap (λ (t : Bool). cond t (moved F z (base (sideOf z))) (moved F z (at2000 (sideOf z)))) (may-is q₂)
@@ -161,7 +161,7 @@ module _ (f : Side) (a : List Placed) (e : Placed) (b : List Placed) (runway : L
       let q = five-from z in-13 (from-kind h) in
       let p = input.passed (besides F r 5) (tt, (tt, tt)) c in
       line-move f a e b runway legs o merge r heads
-      (and-i (between 9 10 z) (isNil zs₁ || between 11 12 (lastOr 0 zs₁)) q (pass (sym (led 11 12) ∙ p .1 .0)))
+      (and-i (within 9 10 z) (isNil zs₁ || within 11 12 (lastOr 0 zs₁)) q (pass (sym (led 11 12) ∙ p .1 .0)))
       (effect-at F r h ∙ ap (λ (w : ℕ). moved F w 11) zone-before)
       (subst (λ (k : ℕ). T (staysOn k)) (sym h) tt) (λ u. let n : 12 ≡ r .kind = sym u in omega arith) named
 
@@ -179,7 +179,7 @@ module _ (f : Side) (a : List Placed) (e : Placed) (b : List Placed) (runway : L
   after-11 h t =
       let q = eleven-from z in-13 (from-kind h) in
       line-move f a e b runway legs o hold r heads
-      (and-i (between 7 8 z) (free (zs₁ ++ z ∷ zs₂) (at3000 (sideOf z))) (q .is-missed) (pass (sym (empty-free (at3000 (sideOf z)) (q .above)) ∙ t)))
+      (and-i (within 7 8 z) (free (zs₁ ++ z ∷ zs₂) (at3000 (sideOf z))) (q .is-missed) (pass (sym (empty-free (at3000 (sideOf z)) (q .above)) ∙ t)))
       (effect-at F r h
       ∙ ap (λ (w : ℕ). cond (isEmpty F (at3000 (sideOf w))) (cond (isEmpty F (at2000 (sideOf w))) (moved F w (at2000 (sideOf w))) (moved F w (at3000 (sideOf w)))) (moved (moved F (at3000 (sideOf w)) (at2000 (sideOf w))) w (at3000 (sideOf w)))) zone-before
       ∙ if-true (cond (isEmpty F (at2000 (sideOf z))) (moved F z (at2000 (sideOf z))) (moved F z (at3000 (sideOf z)))) (moved (moved F (at3000 (sideOf z)) (at2000 (sideOf z))) z (at3000 (sideOf z))) t

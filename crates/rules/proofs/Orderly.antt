@@ -10,11 +10,12 @@ use lib.Dec.{T, eqb, eqb→eq}
 use lib.ListN.{length}
 use lib.Ieee.Fits.{and-i, and-l, and-r}
 use borrow.Author.Tests.{eq-eqb, eqb-true}
+use Rattle.request.specs.Input.{within}
 use Rattle.field.specs.declared.Aircraft.{Aircraft}
 use Rattle.field.specs.declared.Legs.{Legs}
 use Rattle.field.specs.Boxes.{opposite}
 use Rattle.field.specs.Bounds.{every, allDifferent, isNobody, zoneKept, sequenceKept, alternate, fitsZone, legalLegs}
-use Rattle.order.specs.Model.{Side, right, left, opp, num, nextFix, between, count, free, all, okay}
+use Rattle.order.specs.Model.{Side, right, left, opp, num, nextFix, count, free, all, okay}
 use Rattle.field.proofs.Tests.{pass, decided}
 use Rattle.rules.proofs.Line.{zoneFor, sequenceFor, Placed, zonesIn, numbersOf, inside}
 use Rattle.rules.proofs.Counted.{length-inside, Alternates}
@@ -34,16 +35,16 @@ pub record Orderly (f : Side) (line : List Placed) (runway : List Aircraft) (leg
   pub legal : T (legalLegs legs)
 
 -- ---- tests over zones
-pub every-zone : (p : ℕ → Bool) (zs : List ℕ) → T (all (between 1 13) zs) → ((z : ℕ) → T (between 1 13 z) → T (p z)) → T (every p zs)
+pub every-zone : (p : ℕ → Bool) (zs : List ℕ) → T (all (within 1 13) zs) → ((z : ℕ) → T (within 1 13 z) → T (p z)) → T (every p zs)
 every-zone p [] t h = tt
 every-zone p (z ∷ zs) t h =
-    and-i (p z) (every p zs) (h z (and-l (between 1 13 z) (all (between 1 13) zs) t)) (every-zone p zs (and-r (between 1 13 z) (all (between 1 13) zs) t) h)
+    and-i (p z) (every p zs) (h z (and-l (within 1 13 z) (all (within 1 13) zs) t)) (every-zone p zs (and-r (within 1 13 z) (all (within 1 13) zs) t) h)
 
-pub every-same : (p q : ℕ → Bool) (zs : List ℕ) → T (all (between 1 12) zs) → ((z : ℕ) → T (between 1 12 z) → p z ≡ q z) → every p zs ≡ every q zs
+pub every-same : (p q : ℕ → Bool) (zs : List ℕ) → T (all (within 1 12) zs) → ((z : ℕ) → T (within 1 12 z) → p z ≡ q z) → every p zs ≡ every q zs
 every-same p q [] t e = refl
 every-same p q (z ∷ zs) t e =
-    ap (λ (b : Bool). b && every p zs) (e z (and-l (between 1 12 z) (all (between 1 12) zs) t))
-    ∙ ap (λ (b : Bool). q z && b) (every-same p q zs (and-r (between 1 12 z) (all (between 1 12) zs) t) e)
+    ap (λ (b : Bool). b && every p zs) (e z (and-l (within 1 12 z) (all (within 1 12) zs) t))
+    ∙ ap (λ (b : Bool). q z && b) (every-same p q zs (and-r (within 1 12 z) (all (within 1 12) zs) t) e)
 
 -- ---- a queue and a sequence of at most four are kept as arrays should be
 pub kept-for : (xs : List Aircraft) → length xs ≤ 4 → T (zoneKept (zoneFor xs))

@@ -9,13 +9,13 @@ use native.Mathlib.Omega.{arith}
 use lib.Dec.{T, leb, eqb, leb→le}
 use lib.Ieee.Fits.{and-l}
 use borrow.Author.Tests.{eqb-true, eqb-false, eq-eqb, ne-eqb}
-use Rattle.request.specs.Input.{firstRefused, inputNumber}
+use Rattle.request.specs.Input.{within, firstRefused, inputNumber}
 use Rattle.request.specs.declared.Request.{Request}
 use Rattle.field.specs.declared.Aircraft.{Aircraft}
 use Rattle.field.specs.declared.Legs.{Legs}
 use Rattle.field.specs.declared.Field.{Field}
 use Rattle.field.specs.Bounds.{withinBounds}
-use Rattle.order.specs.Model.{Side, between}
+use Rattle.order.specs.Model.{Side}
 use Rattle.rules.specs.declared.Answer.{Answer}
 use Rattle.rules.specs.declared.Stepped.{Stepped}
 use Rattle.rules.specs.Step.{checksOf, effectOf, numberOf, numberAndZeros, acceptance, answerOf, stepOf}
@@ -60,7 +60,7 @@ input-of f r h = elim (decided (eqb (inputNumber r) 0)) [ inl e ↦ eqb-true (in
 
 -- ---- the number of a refusal on an orderly field: 1 to 4, or 11 to 24
 abbrev pub refusable : ℕ → Bool
-refusable n = between 1 4 n || between 11 24 n
+refusable n = within 1 4 n || within 11 24 n
 
 pub record Accepted (f : Side) (line : List Placed) (runway : List Aircraft) (legs : Legs) (r : Request) : Type 1 where
   pub number-0 : numberOf (fieldOf f line runway legs) r ≡ 0
@@ -103,7 +103,7 @@ module _ (f : Side) (line : List Placed) (runway : List Aircraft) (legs : Legs) 
             let q : numberOf F r ≡ firstRefused (checksOf F r) = number-of i ∙ refused-first (checksOf F r) ((25, withinBounds (effectOf F r)) ∷ []) n in
             elim (refused-in 11 24 (checksOf F r) (checks-numbered F r)) [
               | inl z ↦ absurd (n z)
-              | inr t ↦ inr (subst (λ (m : ℕ). T (refusable m)) (sym q) (or-right (between 1 4 (firstRefused (checksOf F r))) (between 11 24 (firstRefused (checksOf F r))) t))
+              | inr t ↦ inr (subst (λ (m : ℕ). T (refusable m)) (sym q) (or-right (within 1 4 (firstRefused (checksOf F r))) (within 11 24 (firstRefused (checksOf F r))) t))
             ]
       ]
 
@@ -113,5 +113,5 @@ module _ (f : Side) (line : List Placed) (runway : List Aircraft) (legs : Legs) 
         | inl i ↦ by-checks i
         | inr t ↦
             let q = number-input (λ z. let l = leb→le 1 (inputNumber r) (and-l (leb 1 (inputNumber r)) (leb (inputNumber r) 4) t) in omega arith) in
-            inr (subst (λ (m : ℕ). T (refusable m)) (sym q) (or-left (between 1 4 (inputNumber r)) (between 11 24 (inputNumber r)) t))
+            inr (subst (λ (m : ℕ). T (refusable m)) (sym q) (or-left (within 1 4 (inputNumber r)) (within 11 24 (inputNumber r)) t))
       ]

@@ -15,7 +15,7 @@ use Rattle.request.specs.declared.Request.{Request}
 use Rattle.field.specs.declared.Aircraft.{Aircraft}
 use Rattle.field.specs.declared.Legs.{Legs}
 use Rattle.field.specs.declared.Field.{Field}
-use Rattle.order.specs.Model.{Side, between, one}
+use Rattle.order.specs.Model.{Side, one}
 use Rattle.rules.specs.Step.{numberOf, stepOf}
 use Rattle.rules.specs.Play.{fieldAfter, played, isAccepted, accepted, letIn, taxiedOff, exitedFrom, moves}
 use Rattle.rules.specs.Demand.{neverAnswers, addsMoves}
@@ -40,13 +40,13 @@ pub record Run (legs : Legs) (g : Field) (p w : ℕ) (rs : List Request) : Type 
 -- ---- one request more in front
 pub refusable-range : (n : ℕ) → T (refusable n) → (n ≡ 0 → ⊥) × (n ≡ 10 → ⊥) × (n ≡ 25 → ⊥)
 refusable-range n t =
-    elim (decided (between 1 4 n)) [
+    elim (decided (within 1 4 n)) [
       | inl e ↦
           let l = leb→le 1 n (and-l (leb 1 n) (leb n 4) (pass e)) in
           let h = leb→le n 4 (and-r (leb 1 n) (leb n 4) (pass e)) in
           ((λ q. omega arith), (λ q. omega arith), (λ q. omega arith))
       | inr e ↦
-          let u : T (between 11 24 n) = subst (λ (b : Bool). T (b || between 11 24 n)) e t in
+          let u : T (within 11 24 n) = subst (λ (b : Bool). T (b || within 11 24 n)) e t in
           let l = leb→le 11 n (and-l (leb 11 n) (leb n 24) u) in
           let h = leb→le n 24 (and-r (leb 11 n) (leb n 24) u) in
           ((λ q. omega arith), (λ q. omega arith), (λ q. omega arith))

@@ -11,6 +11,7 @@ use lib.ListN.{length, take, drop, replicate, getD, take-append-drop, length-dro
 use lib.Seq.{length-take-le, getD-append-seam}
 use lib.Ieee.Fits.{and-i, and-l, and-r}
 use borrow.Author.Tests.{eqb-true, eqb-false}
+use Rattle.request.specs.Input.{within}
 use Rattle.leg.specs.declared.Progress.{Progress}
 use Rattle.leg.specs.declared.Progress.the-variants.{Waiting, Flying}
 use Rattle.field.specs.declared.Aircraft.{Aircraft}
@@ -22,7 +23,7 @@ use Rattle.field.specs.Boxes.{zonesFrom, operation, everywhere, emptyZone, zone
 use Rattle.field.specs.Counts.{isIn, total}
 use Rattle.field.specs.Find.{placeFrom, findIn, placeOf, aircraftAt, fixOf}
 use Rattle.field.specs.Bounds.{every, numbersIn, allDifferent, isWaiting, isNobody, zoneKept, sequenceKept}
-use Rattle.order.specs.Model.{Side, num, nextFix, between, count, one}
+use Rattle.order.specs.Model.{Side, num, nextFix, count, one}
 use Rattle.rules.specs.Reason.{Listed, listed, along, those, isInZone, QueueAgrees}
 use Rattle.field.proofs.Tests.{passed, decided, if-true, if-false, same, each-zone}
 use Rattle.field.proofs.Lists.{in-append}
@@ -218,10 +219,10 @@ module _ (f : Field) where
     once : (n : ℕ) → total (λ z. count (numbers (inZone f z)) n) everywhere ≤ 1
     once n = let a = numbers-total f n everywhere in let b = count-different (numbersIn f everywhere) d n in omega arith
 
-    listed-zone : (z : ℕ) → T (between 1 13 z) → isIn z everywhere ≡ true
+    listed-zone : (z : ℕ) → T (within 1 13 z) → isIn z everywhere ≡ true
     listed-zone = each-zone (λ y. isIn y everywhere ≡ true) (refl, (refl, (refl, (refl, (refl, (refl, (refl, (refl, (refl, (refl, (refl, (refl, (refl, tt)))))))))))))
 
-    in-queue : (z : ℕ) → T (between 1 13 z) → (pre : List Aircraft) (x : Aircraft) (post : List Aircraft) → inZone f z ≡ pre ++ x ∷ post → placeOf f (x .number) ≡ at z (suc (length pre))
+    in-queue : (z : ℕ) → T (within 1 13 z) → (pre : List Aircraft) (x : Aircraft) (post : List Aircraft) → inZone f z ≡ pre ++ x ∷ post → placeOf f (x .number) ≡ at z (suc (length pre))
     unfolding placeOf
     in-queue z t pre x post e =
         let n = x .number in
@@ -236,7 +237,7 @@ module _ (f : Field) where
         (ap (placeFrom 1 n) e ∙ place-at 1 pre x post before ∙ omega arith)
         (λ y u h. no-place 1 n (inZone f y) (absent-count (numbers (inZone f y)) n (let both = two-in-total g everywhere y z (listed-zone y u) (listed-zone z t) h in omega arith)))
 
-    queue-found : (z : ℕ) → T (between 1 13 z) → (pre post : List Aircraft) → inZone f z ≡ pre ++ post → post ≡ map (λ n. lookedUp f n .aircraft) (numbers post)
+    queue-found : (z : ℕ) → T (within 1 13 z) → (pre post : List Aircraft) → inZone f z ≡ pre ++ post → post ≡ map (λ n. lookedUp f n .aircraft) (numbers post)
     unfolding aircraftAt
     queue-found z t pre [] e = refl
     queue-found z t pre (x ∷ post) e =
@@ -247,7 +248,7 @@ module _ (f : Field) where
         ap (λ (a : Aircraft). a ∷ post) (sym h) ∙ ap (λ (l : List Aircraft). lookedUp f (x .number) .aircraft ∷ l) r
 
     -- a queue that agrees with the sequence is the line inside its zone
-    pub queue-is : (z : ℕ) → T (between 1 12 z) → QueueAgrees f z → inZone f z ≡ inside z (lineOf f)
+    pub queue-is : (z : ℕ) → T (within 1 12 z) → QueueAgrees f z → inZone f z ≡ inside z (lineOf f)
     unfolding along
     queue-is z t a =
         queue-found z (lower z t) [] (inZone f z) refl
@@ -270,7 +271,7 @@ module _ (f : Field) where
             go false h = h
 
 -- ---- the field is that of its line
-pub stands-for : (f : Field) (first : Side) → length (f .zones) ≡ 13 → ((z : ℕ) → T (between 1 13 z) → zoneOf f z ≡ zoneFor (inZone f z)) → ((z : ℕ) → T (between 1 12 z) → inZone f z ≡ inside z (lineOf f))
+pub stands-for : (f : Field) (first : Side) → length (f .zones) ≡ 13 → ((z : ℕ) → T (within 1 13 z) → zoneOf f z ≡ zoneFor (inZone f z)) → ((z : ℕ) → T (within 1 12 z) → inZone f z ≡ inside z (lineOf f))
     → f .sequence ≡ sequenceFor (numbersOf (lineOf f)) → f .next ≡ num (nextFix first (zonesIn (lineOf f))) → f ≡ fieldOf first (lineOf f) (inZone f 13) (f .legs)
 unfolding fieldOf
 stands-for f first e q i s n =

@@ -10,7 +10,7 @@ use lib.Dec.{T, leb, ltb, eqb, leb→le, le→leb}
 use lib.ListN.{length}
 use lib.Ieee.Fits.{and-i, and-l}
 use borrow.Author.Tests.{eqb-true}
-use Rattle.request.specs.Input.{isEntry, firstRefused, inputNumber}
+use Rattle.request.specs.Input.{within, isEntry, firstRefused, inputNumber}
 use Rattle.request.specs.declared.Request.{Request}
 use Rattle.request.proofs.Tests as input
 use Rattle.request.proofs.ByKind.{EntryKnown, kind-known, entry-known, tick-known}
@@ -23,7 +23,7 @@ use Rattle.field.specs.Counts.{isIn, total, approachHolds, potentialOf}
 use Rattle.field.specs.Find.{placeOf}
 use Rattle.field.specs.Bounds.{isEmpty}
 use Rattle.field.proofs.Shapes.{one-of-two}
-use Rattle.order.specs.Model.{Side, right, left, num, between, countFix, free, potential, mayEnter}
+use Rattle.order.specs.Model.{Side, right, left, num, countFix, free, potential, mayEnter}
 use Rattle.order.proofs.Facts.{enter, enter-lateral}
 use Rattle.rules.specs.Kinds.{zoneBefore, verticalChecks, lateralChecks, descendChecks, approachChecks, mergeChecks, flownOutChecks, landChecks, exitChecks}
 use Rattle.rules.specs.Step.{checksOf}
@@ -78,10 +78,10 @@ module _ (f : Side) (line : List Placed) (runway : List Aircraft) (legs : Legs) 
       ]
 
   module _ (s : Side) (side : r .side ≡ num s) where
-    empty-zone : (w : ℕ → ℕ) → T (between 1 12 (w (num s))) → isEmpty F (w (r .side)) ≡ true → T (free zs (w (num s)))
+    empty-zone : (w : ℕ → ℕ) → T (within 1 12 (w (num s))) → isEmpty F (w (r .side)) ≡ true → T (free zs (w (num s)))
     empty-zone w t e = pass (sym (ap (λ (n : ℕ). eqb n 0) (how-many f line runway legs (w (num s)) t)) ∙ ap (λ (n : ℕ). isEmpty F (w n)) (sym side) ∙ e)
 
-    pub entry-1 : r .kind ≡ 1 → EntryKnown r → firstRefused (verticalChecks F r) ≡ 0 → T (between 1 12 (missed (num s))) → T (between 1 12 (lateral (num s))) → T (between 1 12 (at3000 (num s))) → T (not (isFlyingZone (at3000 (num s)))) → After f line runway legs r
+    pub entry-1 : r .kind ≡ 1 → EntryKnown r → firstRefused (verticalChecks F r) ≡ 0 → T (within 1 12 (missed (num s))) → T (within 1 12 (lateral (num s))) → T (within 1 12 (at3000 (num s))) → T (not (isFlyingZone (at3000 (num s)))) → After f line runway legs r
     unfolding verticalChecks
     entry-1 k known c tm tl th tf =
         let p = input.passed (verticalChecks F r) (tt, (tt, (tt, (tt, (tt, (tt, tt)))))) c in
@@ -97,7 +97,7 @@ module _ (f : Side) (line : List Placed) (runway : List Aircraft) (legs : Legs) 
         (effect-at F r k ∙ ap (λ (n : ℕ). Rattle.rules.specs.Kinds.entered F r (at3000 n)) side)
         (enter f s zs (o .okay-line) may) (known .number) (new-number (p .0)) (known .speed-low) (known .speed-high) (λ u. let n : 12 ≡ 1 = sym u ∙ k in omega arith) (subst (λ (j : ℕ). T (not (eqb j 8 || eqb j 9))) (sym k) tt)
 
-    pub entry-2 : r .kind ≡ 2 → EntryKnown r → firstRefused (lateralChecks F r) ≡ 0 → T (between 1 12 (lateral (num s))) → T (not (isFlyingZone (lateral (num s)))) → After f line runway legs r
+    pub entry-2 : r .kind ≡ 2 → EntryKnown r → firstRefused (lateralChecks F r) ≡ 0 → T (within 1 12 (lateral (num s))) → T (not (isFlyingZone (lateral (num s)))) → After f line runway legs r
     unfolding lateralChecks
     entry-2 k known c tl tf =
         let p = input.passed (lateralChecks F r) (tt, (tt, tt)) c in

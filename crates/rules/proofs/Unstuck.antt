@@ -23,7 +23,7 @@ use Rattle.field.specs.Counts.{howMany}
 use Rattle.field.specs.Find.{placeOf, aircraftAt, isFirst, leaderZone}
 use Rattle.field.specs.Bounds.{every, isEmpty}
 use Rattle.order.specs.Model as model
-use Rattle.order.specs.Model.{Side, between, count, free, needs}
+use Rattle.order.specs.Model.{Side, count, free, needs}
 use Rattle.order.proofs.Facts.{headKind, head-moves}
 use Rattle.rules.specs.Kinds.{zoneBefore, startsFrom, headChecks, mayApproach, baseFree, descendChecks, approachChecks, mergeChecks, flownOutChecks, landChecks}
 use Rattle.rules.specs.Step.{checksOf}
@@ -90,7 +90,7 @@ module _ (f : Side) (e : Placed) (b : List Placed) (legs : Legs) (o : Orderly f 
   abbrev m : ℕ
   m = e .aircraft .number
 
-  z-in : T (between 1 12 z)
+  z-in : T (within 1 12 z)
   z-in = zone-in f [] e b [] legs o
 
   named : T (nonzero m)
@@ -124,7 +124,7 @@ module _ (f : Side) (e : Placed) (b : List Placed) (legs : Legs) (o : Orderly f 
       ∙ ap (flownOutIn (G .legs) z) (head-there f [] e b [] legs (o .different) z-in refl)
       ∙ passed (and-l (flownOutIn (G .legs) z (e .aircraft)) (every (flownOutIn (G .legs) z) (inside z b)) q)
 
-  free-empty : (w : ℕ) → T (between 1 12 w) → T (free (z ∷ zonesIn b) w) → isEmpty G w ≡ true
+  free-empty : (w : ℕ) → T (within 1 12 w) → T (free (z ∷ zonesIn b) w) → isEmpty G w ≡ true
   free-empty w t u = ap (λ (c : ℕ). eqb c 0) (how-many f (e ∷ b) [] legs w t) ∙ passed u
 
   -- a kind whose other checks pass
@@ -133,7 +133,7 @@ module _ (f : Side) (e : Placed) (b : List Placed) (legs : Legs) (o : Orderly f 
       accept f (e ∷ b) [] legs o k m l h t named
       (ap firstRefused c ∙ head-checks f (e ∷ b) [] legs o k m z place (not-zero z z-in) s (besides G (move k m) k) d)
     where
-      not-zero : (y : ℕ) → T (between 1 12 y) → T (not (eqb y 0))
+      not-zero : (y : ℕ) → T (within 1 12 y) → T (not (eqb y 0))
       not-zero y t = Rattle.field.proofs.Tests.fail (borrow.Author.Tests.ne-eqb y 0 (λ q. let l = leb→le 1 y (and-l (leb 1 y) (leb y 12) t) in omega arith))
 
   pub first-moves : MovesOn G
@@ -141,7 +141,7 @@ module _ (f : Side) (e : Placed) (b : List Placed) (legs : Legs) (o : Orderly f 
   first-moves =
       let hm = head-moves f z (zonesIn b) (o .okay-line) in
       let holds = each-zone (λ (y : ℕ). z ≡ y → T (eqb y 12 || needs (headKind y) [] y (zonesIn b)) → MovesOn G) in
-      let down : (y : ℕ) → z ≡ y → T (startsFrom 3 y) → T (between 1 12 (at2000 y)) → T (free (y ∷ zonesIn b) (at2000 y)) → MovesOn G =
+      let down : (y : ℕ) → z ≡ y → T (startsFrom 3 y) → T (within 1 12 (at2000 y)) → T (free (y ∷ zonesIn b) (at2000 y)) → MovesOn G =
       λ y q s t u.
       by-kind 3 (omega arith) (omega arith) tt (subst (λ (v : ℕ). T (startsFrom 3 v)) (sym q) s) (checks-at G (move 3 m) {k = 3} refl)
       (ap (λ (v : ℕ). cond (isEmpty G (at2000 v)) 0 21) (before-is 3 ∙ q) ∙ ap (λ (c : Bool). cond c 0 21) (free-empty (at2000 y) t (subst (λ (v : ℕ). T (free (v ∷ zonesIn b) (at2000 y))) (sym q) u))) in
@@ -153,7 +153,7 @@ module _ (f : Side) (e : Placed) (b : List Placed) (legs : Legs) (o : Orderly f 
         (ap (λ (c : Bool). within 5 6 (zoneBefore G (move 4 m)) || c) (led 9 12) ∙ or-true (within 5 6 (zoneBefore G (move 4 m)))),
         ((ap (λ (v : ℕ). within 5 6 v || baseFree G (sideOf v)) (before-is 4 ∙ q) ∙ u), tt),
       )) in
-      let base-of : (y w : ℕ) → z ≡ y → T (between 1 12 w) → T (leb (count (y ∷ zonesIn b) w) 1) → leb (howMany G w) 1 ≡ true =
+      let base-of : (y w : ℕ) → z ≡ y → T (within 1 12 w) → T (leb (count (y ∷ zonesIn b) w) 1) → leb (howMany G w) 1 ≡ true =
       λ y w q t u. ap (λ (c : ℕ). leb c 1) (how-many f (e ∷ b) [] legs w t) ∙ passed (subst (λ (v : ℕ). T (leb (count (v ∷ zonesIn b) w) 1)) (sym q) u) in
       let flies : (k y : ℕ) → z ≡ y → T (isFlyingZone y) → flownOutIn (G .legs) (zoneBefore G (move k m)) (aircraftAt G (zoneBefore G (move k m)) 1) ≡ true = λ k y q u. flown-out k (subst (λ (v : ℕ). T (isFlyingZone v)) (sym q) u) in
       let merges : (y : ℕ) → z ≡ y → T (startsFrom 5 y) → T (isFlyingZone y) → MovesOn G =

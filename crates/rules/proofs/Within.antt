@@ -9,6 +9,7 @@ use native.Mathlib.Omega.{arith}
 use lib.Dec.{T, leb, eqb, le→leb}
 use lib.ListN.{length}
 use lib.Ieee.Fits.{and-i, and-l, and-r}
+use Rattle.request.specs.Input.{within}
 use Rattle.field.specs.declared.Aircraft.{Aircraft}
 use Rattle.field.specs.declared.Zone.{Zone}
 use Rattle.field.specs.declared.Legs.{Legs}
@@ -17,7 +18,7 @@ use Rattle.field.specs.Boxes.{isSide, at3000, at2000, lateral, missed, zonesFro
 use Rattle.field.specs.Counts.{isIn, howMany, inOperation, inArea, perFix}
 use Rattle.field.specs.Find.{aircraftAt, fixOf, isFirst}
 use Rattle.field.specs.Bounds.{every, boundA, boundB, isEmpty, lateralRule, boundC, boundD, numbersIn, allDifferent, numbersDiffer, sequenceExact, finalFirst, zoneKept, sequenceKept, boundE, alternate, boundF, fitsZone, legalLegs, boundG, withinBounds}
-use Rattle.order.specs.Model.{Side, right, left, num, nextFix, between, count, free, isNil, all, okay}
+use Rattle.order.specs.Model.{Side, right, left, num, nextFix, count, free, isNil, all, okay}
 use Rattle.order.proofs.Facts.{okay-length, okay-zones, Bounds, okay-bounds, final-first}
 use Rattle.field.proofs.Tests.{pass, decided, or-left, or-right}
 use Rattle.rules.proofs.Lists.{map-append}
@@ -53,7 +54,7 @@ module _ (f : Side) (line : List Placed) (runway : List Aircraft) (legs : Legs) 
   four : length line ≤ 4
   four = let a = okay-length f zs (o .okay-line) in let b = length-zones line in omega arith
 
-  zones-in : T (all (between 1 12) zs)
+  zones-in : T (all (within 1 12) zs)
   zones-in = okay-zones f zs (o .okay-line)
 
   facts : Bounds f zs
@@ -77,10 +78,10 @@ module _ (f : Side) (line : List Placed) (runway : List Aircraft) (legs : Legs) 
       (at-most 2 (in-area f line runway legs right) (facts .areas right))
       (at-most 2 (in-area f line runway legs left) (facts .areas left))
 
-  empty-is : (z : ℕ) → T (between 1 12 z) → isEmpty F z ≡ free zs z
+  empty-is : (z : ℕ) → T (within 1 12 z) → isEmpty F z ≡ free zs z
   empty-is z t = ap (λ (n : ℕ). eqb n 0) (how-many f line runway legs z t)
 
-  lateral-holds : (s : Side) → T (between 1 12 (lateral (num s))) → T (between 1 12 (at3000 (num s))) → T (between 1 12 (at2000 (num s))) → T (between 1 12 (missed (num s))) → T (lateralRule F (num s))
+  lateral-holds : (s : Side) → T (within 1 12 (lateral (num s))) → T (within 1 12 (at3000 (num s))) → T (within 1 12 (at2000 (num s))) → T (within 1 12 (missed (num s))) → T (lateralRule F (num s))
   unfolding lateralRule
   lateral-holds s t u v w =
       subst T
@@ -150,7 +151,7 @@ module _ (f : Side) (line : List Placed) (runway : List Aircraft) (legs : Legs) 
   fixes-from a [] e = refl
   fixes-from a (x ∷ b) e =
       let d = subst (λ (l : List Placed). T (allDifferent (numbersOf l ++ numbers runway))) e (o .different) in
-      let t = all-at (between 1 12) (λ (p : Placed). p .zone) a x b (subst (λ (l : List Placed). T (all (between 1 12) (zonesIn l))) e zones-in) in
+      let t = all-at (within 1 12) (λ (p : Placed). p .zone) a x b (subst (λ (l : List Placed). T (all (within 1 12) (zonesIn l))) e zones-in) in
       let h : fixOf F (x .aircraft .number) ≡ x .aircraft .fix = ap (λ (l : List Placed). fixOf (fieldOf f l runway legs) (x .aircraft .number)) e ∙ fix-there f a x b runway legs d t in
       let r = fixes-from (a ++ (x ∷ [])) b (e ∙ sym (append-assoc a (x ∷ []) b)) in
       ap (λ (n : ℕ). n ∷ map (fixOf F) (numbersOf b)) h ∙ ap (λ (l : List ℕ). x .aircraft .fix ∷ l) r
@@ -198,7 +199,7 @@ module _ (f : Side) (line : List Placed) (runway : List Aircraft) (legs : Legs) 
       let k = subst (λ (l : List Placed). T (okay f (zonesIn l))) (s .whole) (o .okay-line) in
       let k₂ = subst (λ (l : List ℕ). T (okay f l)) (map-append (λ (p : Placed). p .zone) a (e ∷ b) ∙ ap (λ (z : ℕ). zonesIn a ++ z ∷ zonesIn b) (s .at-zone)) k in
       let d = subst (λ (l : List Placed). T (allDifferent (numbersOf l ++ numbers runway))) (s .whole) (o .different) in
-      let t = subst (λ (z : ℕ). T (between 1 12 z)) (sym (s .at-zone)) tt in
+      let t = subst (λ (z : ℕ). T (within 1 12 z)) (sym (s .at-zone)) tt in
       let h : inside (e .zone) a ≡ [] = free-inside (e .zone) a (subst (λ (z : ℕ). T (free (zonesIn a) z)) (sym (s .at-zone)) (s .none-ahead)) in
       let x : aircraftAt F 12 1 .number ≡ n =
       ap (λ (l : List Placed). aircraftAt (fieldOf f l runway legs) 12 1 .number) (s .whole)
