@@ -3,7 +3,7 @@
 use mathlib.Core.Path.{_≡_, ap}
 use mathlib.Core.Bool.{Bool, true, false, cond}
 use mathlib.Core.List.{List, [], _∷_}
-use Prim.Native.Nat.{ℕ, suc, _+_, _-_, _*_, _≤_, _<_}
+use Prim.Native.Nat.{ℕ, zero, suc, _+_, _-_, _*_, _≤_, _<_}
 use native.Mathlib.Omega.{arith}
 use native.Mathlib.Numerals.{add-one}
 use lib.Dec.{eqb}
@@ -68,3 +68,8 @@ module _ (f : Field) (us : List Val) (known : Known (f .zones) us) where
   pub counted-fits : (side z : ℕ) → countedFor f side z ≤ 4
   unfolding countedFor
   counted-fits side z = either-fits (isIn z (area side)) (how-many-fits z) (with-fix-fits side z)
+
+-- so a sum over n zones is at most four for each
+pub total-fits : (g : ℕ → ℕ) → ((z : ℕ) → g z ≤ 4) → (z n : ℕ) → total g (zonesFrom z n) ≤ 4 * n
+total-fits g h z zero = omega arith
+total-fits g h z (suc n) = let a = h z in let b = total-fits g h (suc z) n in omega arith

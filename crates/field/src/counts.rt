@@ -5,8 +5,9 @@ use crate::boxes::queue_length;
 use crate::boxes::zone_of;
 ghost use mathlib.Core.Path.{_≡_};
 ghost use mathlib.Core.Bool.{cond};
-ghost use Rattle.field.specs.Boxes.{queueOf, queueLength, area};
-ghost use Rattle.field.specs.Counts.{isIn, haveFix, howMany, howManyWithFix, presentOn, inOperation, inArea, perFix, approachHolds, countedFor, potentialOf};
+ghost use Prim.Native.Nat.{_-_, _≤_};
+ghost use Rattle.field.specs.Boxes.{zonesFrom, queueOf, queueLength, area};
+ghost use Rattle.field.specs.Counts.{isIn, total, haveFix, howMany, howManyWithFix, presentOn, inOperation, inArea, perFix, approachHolds, countedFor, potentialOf};
 
 // How many of a queue have a fix.
 fn have_fix(q: Zone, fix: u8) -> usize
@@ -37,18 +38,6 @@ pub fn how_many_with_fix(f: Field, side: u8, zone: usize) -> usize
     have_fix(zone_of(f, zone), side)
 }
 
-// How many are in all thirteen zones.
-pub fn present_on(f: Field) -> usize
-    ensures { λ r. ⌜ r ≡ presentOn f ⌝ }
-{
-    let mut n: usize = 0;
-    for zone in 1..=13 {
-        let q = f.zones[zone - 1];
-        n += queue_length(q);
-    }
-    n
-}
-
 // How many are in the operation area.
 pub fn in_operation(f: Field) -> usize
     ensures { λ r. ⌜ r ≡ inOperation f ⌝ }
@@ -61,6 +50,13 @@ pub fn in_operation(f: Field) -> usize
     n
 }
 
+// How many are in all thirteen zones: those in the operation area, and those on the runway.
+pub fn present_on(f: Field) -> usize
+    ensures { λ r. ⌜ r ≡ presentOn f ⌝ }
+{
+    in_operation(f) + how_many(f, 13)
+}
+
 // How many are in a side's area.
 pub fn in_area(f: Field, side: u8) -> usize
     ensures { λ r. ⌜ r ≡ inArea f side ⌝ }
@@ -69,28 +65,32 @@ pub fn in_area(f: Field, side: u8) -> usize
     how_many(f, s) + how_many(f, 2 + s) + how_many(f, 4 + s) + how_many(f, 6 + s)
 }
 
-// How many in the operation area have a side as fix.
-pub fn per_fix(f: Field, side: u8) -> usize
-    ensures { λ r. ⌜ r ≡ perFix f side ⌝ }
+// How many in zones `first` to 12 have a side as fix.
+fn with_fix_from(f: Field, side: u8, first: usize) -> usize
+    requires { ⌜ 1 ≤ first ⌝ }
+    requires { ⌜ first ≤ 12 ⌝ }
+    ensures { λ r. ⌜ r ≡ total (howManyWithFix f side) (zonesFrom first (13 - first)) ⌝ }
 {
     let mut n: usize = 0;
-    for zone in 1..=12 {
+    for zone in first..=12 {
         let q = f.zones[zone - 1];
         n += have_fix(q, side);
     }
     n
 }
 
+// How many in the operation area have a side as fix.
+pub fn per_fix(f: Field, side: u8) -> usize
+    ensures { λ r. ⌜ r ≡ perFix f side ⌝ }
+{
+    with_fix_from(f, side, 1)
+}
+
 // Whether anybody on the approach has a side as fix.
 pub fn approach_holds(f: Field, side: u8) -> bool
     ensures { λ r. ⌜ r ≡ approachHolds f side ⌝ }
 {
-    let mut n: usize = 0;
-    for zone in 9..=12 {
-        let q = f.zones[zone - 1];
-        n += have_fix(q, side);
-    }
-    n != 0
+    with_fix_from(f, side, 9) != 0
 }
 
 // Whether a zone belongs to a side's area.
