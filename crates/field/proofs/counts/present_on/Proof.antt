@@ -1,6 +1,6 @@
 -- `field::counts::present_on` meets its contract: thirteen zones are the twelve of the operation area and the runway. Assumes nothing.
-use mathlib.Core.Path.{_≡_, _∙_}
-use Prim.Native.Nat.{_+_, _≤_}
+use mathlib.Core.Path.{_≡_, subst⁻¹}
+use Prim.Native.Nat.{ℕ, _+_, _≤_}
 use native.Mathlib.Omega.{arith}
 use borrow.Author.Needs.{needs}
 use Rattle.field.specs.declared.Field.{Field}
@@ -25,7 +25,8 @@ unfolding inOperation
 add-result c =
     let s = c .before .before in
     let few = how-many-fits (s .args .f) _ (s .good .0 .1 .1 .0 .1 .1) in
-    record { fits = omega (arith, c .before .in-operation .ensures, c .how-many .ensures, total-fits (howMany (s .args .f)) few 1 12, few 13) }
+    let runway : c .how-many .result ≤ 4 = subst⁻¹ (λ (n : ℕ). n ≤ 4) (c .how-many .ensures) (few _) in
+    record { fits = omega (arith, c .before .in-operation .ensures, total-fits (howMany (s .args .f)) few 1 12) }
 
 returns : tie.Need-returns
 returns c = let all = runway-beside (c .before .before .args .f) in omega (arith, c .before .in-operation .ensures, c .how-many .ensures)
