@@ -31,9 +31,8 @@ use field::find::aircraft_at;
 use request::Request;
 ghost use mathlib.Core.Path.{_≡_};
 ghost use mathlib.Core.Bool.{cond, _&&_};
-ghost use Rattle.field.specs.Boxes.{at2000, base, zoneOf};
-ghost use Rattle.field.specs.Edits.{withTail, withZone};
-ghost use Rattle.rules.specs.Kinds.{zoneBefore, mayApproach, baseFree, moved, headGone, outOfSequence, fixTaken, entered, approached, landed, exited, fixAfterMiss, missedApproach, held, heldAlong};
+ghost use Rattle.field.specs.Boxes.{at2000, base};
+ghost use Rattle.rules.specs.Kinds.{zoneBefore, mayApproach, baseFree, headGone, tailPut, moved, outOfSequence, fixTaken, entered, approached, landed, exited, fixAfterMiss, missedApproach, held, heldAlong};
 ghost use Rattle.rules.specs.Step.{effectOf};
 
 // The field with the head of a zone taken off it.
@@ -45,7 +44,7 @@ fn head_gone(f: Field, zone: usize) -> Field
 
 // The field with an aircraft put at the tail of a zone.
 fn tail_put(f: Field, zone: usize, a: Aircraft) -> Field
-    ensures { λ r. ⌜ r ≡ withZone f zone (withTail (zoneOf f zone) a) ⌝ }
+    ensures { λ r. ⌜ r ≡ tailPut f zone a ⌝ }
 {
     with_zone(f, zone, with_tail(zone_of(f, zone), a))
 }

@@ -8,7 +8,7 @@ use Rattle.field.specs.Counts.{howMany, howManyWithFix, inOperation, inArea, pe
 use Rattle.field.specs.Find.{findIn, placeOf, aircraftAt, fixOf, isFirst, leaderOf, leaderZone}
 use Rattle.field.specs.Bounds.{every, boundA, boundB, lateralRule, boundC, boundD, numbersDiffer, sequenceExact, finalFirst, isNobody, zoneKept, sequenceKept, boundE, boundF, fitsZone, legalLegs, boundG, withinBounds}
 use Rattle.field.specs.Edits.{withoutHead, withTail, appended, removed, withZone, withSequence, tickedAircraft, tickedZone, ticked}
-use Rattle.rules.specs.Kinds.{startsFrom, mayApproach, baseFree, verticalChecks, lateralChecks, descendChecks, approachChecks, mergeChecks, flownOutChecks, landChecks, exitChecks, moved, headGone, outOfSequence, fixTaken, entered, approached, landed, exited, fixAfterMiss, missedApproach, held, heldAlong}
+use Rattle.rules.specs.Kinds.{startsFrom, mayApproach, baseFree, verticalChecks, lateralChecks, descendChecks, approachChecks, mergeChecks, flownOutChecks, landChecks, exitChecks, headGone, tailPut, moved, outOfSequence, fixTaken, entered, approached, landed, exited, fixAfterMiss, missedApproach, held, heldAlong}
 use Rattle.rules.specs.Step.{checksOf, effectOf, numberOf, numberAndZeros, acceptance, answerOf, stepOf}
 use Rattle.rules.specs.Cases.{marked, caseHolds}
 
@@ -18,7 +18,7 @@ unfolding
     withProgress withFix legOf flownOutIn emptyField howMany howManyWithFix inOperation inArea perFix approachHolds countedFor potentialOf findIn placeOf
     aircraftAt fixOf isFirst leaderOf leaderZone boundA boundB lateralRule boundC boundD numbersDiffer sequenceExact finalFirst isNobody zoneKept sequenceKept
     boundE boundF fitsZone legalLegs boundG withinBounds withoutHead withTail appended removed withZone withSequence tickedAircraft tickedZone ticked sideOf
-    startsFrom mayApproach baseFree verticalChecks lateralChecks descendChecks approachChecks mergeChecks flownOutChecks landChecks exitChecks moved headGone
+    startsFrom mayApproach baseFree verticalChecks lateralChecks descendChecks approachChecks mergeChecks flownOutChecks landChecks exitChecks headGone tailPut moved
     outOfSequence fixTaken entered approached landed exited fixAfterMiss missedApproach held heldAlong checksOf effectOf numberOf numberAndZeros acceptance
     answerOf stepOf
     add mul div ofInt round lt le eq

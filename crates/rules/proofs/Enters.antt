@@ -18,7 +18,7 @@ use Rattle.field.specs.Bounds.{allDifferent}
 use Rattle.field.specs.Edits.{withTail, withZone, withSequence, appended, removed}
 use Rattle.request.specs.declared.Request.{Request}
 use Rattle.order.specs.Model.{Side, right, left, opp, num, nextFix, firstFix}
-use Rattle.rules.specs.Kinds.{headGone, fixTaken, entered, fixAfterMiss, missedApproach}
+use Rattle.rules.specs.Kinds.{headGone, tailPut, fixTaken, entered, fixAfterMiss, missedApproach}
 use Rattle.field.proofs.Tests.{if-false, flip-eqb}
 use Rattle.rules.proofs.Lists.{map-append}
 use Rattle.rules.proofs.Line.{zoneFor, tail-for, sequenceFor, order-for, appended-for, fieldBy, zone-by, Placed, zonesIn, numbersOf, inside, zonesOf, fieldOf}
@@ -101,7 +101,7 @@ module _ (s f : Side) (line : List Placed) (runway : List Aircraft) (legs : Legs
       ∙ by-length line
 
   pub enters : entered F r w ≡ fieldOf (firstFix s f (zonesIn line)) (line ++ (entrant ∷ [])) runway legs
-  unfolding entered withSequence fieldOf entering
+  unfolding entered tailPut withSequence fieldOf entering
   enters =
       ap (λ (n : ℕ). withSequence (withZone F w (withTail (zoneOf F w) (entering (r .number) n (r .amount)))) (appended (F .sequence) (r .number)) (opposite n)) fix-taken
       ∙ ap (λ (g : Field). withSequence g (appended (F .sequence) (r .number)) (opposite (num (entryFix s f (zonesIn line))))) (at-tail line entrant runway (sequenceFor (numbersOf line)) (num (nextFix f (zonesIn line))) legs t room)
@@ -147,7 +147,7 @@ module _ (f : Side) (e : Placed) (b : List Placed) (runway : List Aircraft) (leg
       (appended (removed (F₁₀ .sequence) (r .number)) (r .number)) (opposite n)
 
   pub misses-approach : missedApproach F₁₀ r ≡ fieldOf (firstFix f (opp f) (zonesIn b)) (b ++ (misser ∷ [])) runway legs
-  unfolding missedApproach withSequence fieldOf withFix withProgress
+  unfolding missedApproach tailPut withSequence fieldOf withFix withProgress
   misses-approach =
       ap (λ (x : Aircraft). with-fix x (headGone F₁₀ 12) (fixAfterMiss F₁₀ x)) head-is
       ∙ ap (λ (n : ℕ). with-fix (e .aircraft) (headGone F₁₀ 12) n) fix-after

@@ -9,7 +9,7 @@ use Rattle.field.specs.Counts.{howMany, howManyWithFix, inOperation, inArea, pe
 use Rattle.field.specs.Find.{findIn, placeOf, aircraftAt, fixOf, isFirst, leaderOf, leaderZone}
 use Rattle.field.specs.Bounds.{every, boundA, boundB, lateralRule, boundC, boundD, numbersDiffer, sequenceExact, finalFirst, isNobody, zoneKept, sequenceKept, boundE, boundF, fitsZone, legalLegs, boundG, withinBounds}
 use Rattle.field.specs.Edits.{withoutHead, withTail, appended, removed, withZone, withSequence, tickedAircraft, tickedZone, ticked}
-use Rattle.rules.specs.Kinds.{startsFrom, mayApproach, baseFree, verticalChecks, lateralChecks, descendChecks, approachChecks, mergeChecks, flownOutChecks, landChecks, exitChecks, moved, headGone, outOfSequence, fixTaken, entered, approached, landed, exited, fixAfterMiss, missedApproach, held, heldAlong}
+use Rattle.rules.specs.Kinds.{startsFrom, mayApproach, baseFree, verticalChecks, lateralChecks, descendChecks, approachChecks, mergeChecks, flownOutChecks, landChecks, exitChecks, headGone, tailPut, moved, outOfSequence, fixTaken, entered, approached, landed, exited, fixAfterMiss, missedApproach, held, heldAlong}
 use Rattle.rules.specs.Step.{checksOf, effectOf, numberOf, numberAndZeros, acceptance, answerOf, stepOf}
 use Rattle.rules.specs.Cases.{caseHolds}
 use Rattle.rules.specs.Reason.{along, approachOrder, areaOrder, roomToMiss, lateralEntry, QueueAgrees}
@@ -23,7 +23,7 @@ unfolding
     withProgress withFix legOf flownOutIn emptyField howMany howManyWithFix inOperation inArea perFix approachHolds countedFor potentialOf findIn placeOf
     aircraftAt fixOf isFirst leaderOf leaderZone boundA boundB lateralRule boundC boundD numbersDiffer sequenceExact finalFirst isNobody zoneKept sequenceKept
     boundE boundF fitsZone legalLegs boundG withinBounds withoutHead withTail appended removed withZone withSequence tickedAircraft tickedZone ticked sideOf
-    startsFrom mayApproach baseFree verticalChecks lateralChecks descendChecks approachChecks mergeChecks flownOutChecks landChecks exitChecks moved headGone
+    startsFrom mayApproach baseFree verticalChecks lateralChecks descendChecks approachChecks mergeChecks flownOutChecks landChecks exitChecks headGone tailPut moved
     outOfSequence fixTaken entered approached landed exited fixAfterMiss missedApproach held heldAlong checksOf effectOf numberOf numberAndZeros acceptance
     answerOf stepOf
     add mul div ofInt round lt le eq along roomToMiss
@@ -35,7 +35,7 @@ unfolding
     kindAllowed sideAllowed numberAllowed amountAllowed inputNumber isSide sideOf opposite isFlyingZone zoneOf queueOf inZone orderOf progressInto entering
     withProgress withFix legOf howMany howManyWithFix inOperation inArea perFix findIn placeOf aircraftAt fixOf isFirst boundA boundB lateralRule boundC boundD
     numbersDiffer sequenceExact finalFirst isNobody zoneKept sequenceKept boundE boundF fitsZone legalLegs boundG withinBounds withoutHead withTail appended
-    removed withZone withSequence startsFrom headGone fixAfterMiss missedApproach checksOf effectOf numberOf numberAndZeros stepOf along approachOrder areaOrder
+    removed withZone withSequence startsFrom headGone tailPut fixAfterMiss missedApproach checksOf effectOf numberOf numberAndZeros stepOf along approachOrder areaOrder
     roomToMiss lateralEntry
     add mul div ofInt round lt le eq
 bounds-not-enough =

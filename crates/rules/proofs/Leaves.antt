@@ -18,7 +18,7 @@ use Rattle.field.specs.Bounds.{allDifferent}
 use Rattle.field.specs.Edits.{withoutHead, withTail, withZone, withSequence, removed}
 use Rattle.request.specs.declared.Request.{Request}
 use Rattle.order.specs.Model.{Side, opp, num, nextFix}
-use Rattle.rules.specs.Kinds.{moved, headGone, outOfSequence, landed, exited}
+use Rattle.rules.specs.Kinds.{headGone, tailPut, moved, outOfSequence, landed, exited}
 use Rattle.field.proofs.Tests.{if-false, flip-eqb}
 use Rattle.rules.proofs.Line.{zoneFor, tail-for, head-for, sequenceFor, removed-for, fieldBy, Placed, zonesIn, numbersOf, inside, zonesOf, fieldOf}
 use Rattle.rules.proofs.Counted.{lower, not-13, zone-of-line, zone-of-runway}
@@ -86,7 +86,7 @@ module _ (f : Side) (e : Placed) (b : List Placed) (legs : Legs) (h : e .zone �
   t = subst (λ (z : ℕ). T (within 1 12 z)) (sym h) tt
 
   to-runway : moved F₇ 12 13 ≡ fieldBy (zonesOf b (x ∷ [])) (sequenceFor (numbersOf (e ∷ b))) (num (nextFix f (zonesIn (e ∷ b)))) legs
-  unfolding moved fieldOf
+  unfolding moved headGone tailPut fieldOf
   to-runway =
       let S = sequenceFor (numbersOf (e ∷ b)) in
       let N = num (nextFix f (zonesIn (e ∷ b))) in

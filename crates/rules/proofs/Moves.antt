@@ -20,7 +20,7 @@ use Rattle.field.specs.Find.{aircraftAt}
 use Rattle.field.specs.Bounds.{allDifferent}
 use Rattle.field.specs.Edits.{withoutHead, withTail, withZone}
 use Rattle.order.specs.Model.{Side, opp, num, nextFix}
-use Rattle.rules.specs.Kinds.{moved}
+use Rattle.rules.specs.Kinds.{headGone, tailPut, moved}
 use Rattle.field.proofs.Tests.{if-true, if-false, decided}
 use Rattle.rules.proofs.Lists.{map-append}
 use Rattle.rules.proofs.Line.{zoneFor, tail-for, head-for, sequenceFor, fieldBy, zone-by, with-by, by-zones, Placed, zonesIn, numbersOf, inside, zonesOf, fieldOf}
@@ -158,7 +158,7 @@ module _ (f : Side) (a : List Placed) (e : Placed) (b : List Placed) (runway : L
       ∙ ap (λ (s : Side). fieldBy H (sequenceFor (numbersOf (a ++ into w e ∷ b))) (num s) legs) (next-same f (a ++ e ∷ b) (a ++ into w e ∷ b) (same-length a e (into w e) b))
 
   pub moved-line : moved F z w ≡ fieldOf f (a ++ into w e ∷ b) runway legs
-  unfolding moved fieldOf
+  unfolding moved headGone tailPut fieldOf
   moved-line =
       ap (λ (y : Aircraft). withZone (withZone F z (withoutHead (zoneOf F z))) w (withTail (zoneOf (withZone F z (withoutHead (zoneOf F z))) w) (withProgress y (progressInto w)))) head-is
       ∙ ap (λ (q : Zone). withZone (withZone F z (withoutHead (zoneOf F z))) w (withTail q x)) (zone-other G H S N legs z w (withoutHead (zoneOf F z)) (lower z (m .from-zone)) (lower w (m .to-zone)) (m .other-zone))

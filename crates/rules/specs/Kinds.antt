@@ -108,16 +108,17 @@ exitChecks f r = headChecks f r ++ ((22, isFirst (f .sequence) (r .number)) ∷ 
 
 -- ---- what they do
 
--- the head of zone z to the tail of zone w: "Entering a flying zone sets miles to 0"
-unfoldable pub moved : Field → ℕ → ℕ → Field
-moved f z w =
-    let a = withProgress (aircraftAt f z 1) (progressInto w) in
-    let g = withZone f z (withoutHead (zoneOf f z)) in
-    withZone g w (withTail (zoneOf g w) a)
-
 -- the head of zone z taken off the field
 unfoldable pub headGone : Field → ℕ → Field
 headGone f z = withZone f z (withoutHead (zoneOf f z))
+
+-- an aircraft put at the tail of zone z
+unfoldable pub tailPut : Field → ℕ → Aircraft → Field
+tailPut f z a = withZone f z (withTail (zoneOf f z) a)
+
+-- the head of zone z to the tail of zone w: "Entering a flying zone sets miles to 0"
+unfoldable pub moved : Field → ℕ → ℕ → Field
+moved f z w = tailPut (headGone f z) w (withProgress (aircraftAt f z 1) (progressInto w))
 
 -- a number out of the landing sequence
 unfoldable pub outOfSequence : Field → ℕ → Field
@@ -131,7 +132,7 @@ fixTaken f side = cond (eqb (length (orderOf (f .sequence))) 0) side (f .next)
 unfoldable pub entered : Field → Request → ℕ → Field
 entered f r z =
     let fix = fixTaken f (r .side) in
-    let g = withZone f z (withTail (zoneOf f z) (entering (r .number) fix (r .amount))) in
+    let g = tailPut f z (entering (r .number) fix (r .amount)) in
     withSequence g (appended (f .sequence) (r .number)) (opposite fix)
 
 -- kind 4: to base; "From lateral, an unmet need is no refusal: the aircraft goes to 2000 of its side and is accepted."
@@ -158,9 +159,8 @@ missedApproach f r =
     let a = aircraftAt f finalApproach 1 in
     let w = missed (a .fix) in
     let fix = fixAfterMiss f a in
-    let g = headGone f finalApproach in
-    let h = withZone g w (withTail (zoneOf g w) (withFix (withProgress a (progressInto w)) fix)) in
-    withSequence h (appended (removed (f .sequence) (r .number)) (r .number)) (opposite fix)
+    let g = tailPut (headGone f finalApproach) w (withFix (withProgress a (progressInto w)) fix) in
+    withSequence g (appended (removed (f .sequence) (r .number)) (r .number)) (opposite fix)
 
 -- kind 11: "If 3000 and 2000 of the side are empty, to 2000. Else if 3000 is empty, to 3000. Else the aircraft at 3000 goes to 2000
 -- and this one to 3000, in one step."

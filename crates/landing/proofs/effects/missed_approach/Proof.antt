@@ -6,10 +6,10 @@ use Rattle.leg.specs.declared.Progress.{Progress}
 use Rattle.field.specs.declared.Aircraft.{Aircraft}
 use Rattle.field.specs.declared.Sequence.{Sequence}
 use Rattle.field.specs.declared.Field.{Field}
-use Rattle.field.specs.Boxes.{opposite, zoneOf, progressInto, withProgress, withFix}
-use Rattle.field.specs.Edits.{withTail, appended, removed, withZone, withSequence}
+use Rattle.field.specs.Boxes.{opposite, progressInto, withProgress, withFix}
+use Rattle.field.specs.Edits.{appended, removed, withSequence}
 use Rattle.field.specs.Find.{aircraftAt}
-use Rattle.rules.specs.Kinds.{headGone, fixAfterMiss, missedApproach}
+use Rattle.rules.specs.Kinds.{headGone, tailPut, fixAfterMiss, missedApproach}
 use borrow.Author.Needs.{needs}
 use Rattle.landing.proofs.effects.missed_approach.Statement.{statement}
 use Rattle.landing.proofs.effects.missed_approach.Tie as tie
@@ -17,7 +17,7 @@ use Rattle.landing.proofs.effects.missed_approach.Tie as tie
 -- the field by its parts
 made : (f : Field) (r : Request) {a b d : Aircraft} {p : Progress} {fix next : ℕ} {g h x : Field} {s t : Sequence}
     → a ≡ aircraftAt f 12 1 → fix ≡ fixAfterMiss f a → p ≡ progressInto (6 + a .fix) → b ≡ withProgress a p → d ≡ withFix b fix
-    → g ≡ headGone f 12 → h ≡ withZone g (6 + a .fix) (withTail (zoneOf g (6 + a .fix)) d)
+    → g ≡ headGone f 12 → h ≡ tailPut g (6 + a .fix) d
     → s ≡ removed (f .sequence) (r .number) → t ≡ appended s (r .number) → next ≡ opposite fix → x ≡ withSequence h t next → x ≡ missedApproach f r
 unfolding missedApproach
 made f r ea ef ep eb ed eg eh es et en ex = cc

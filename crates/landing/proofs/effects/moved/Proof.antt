@@ -1,5 +1,5 @@
 -- `landing::effects::moved` meets its contract. Assumes nothing.
-use Rattle.rules.specs.Kinds.{headGone, moved}
+use Rattle.rules.specs.Kinds.{moved}
 use borrow.Author.Needs.{needs}
 use Rattle.landing.proofs.effects.moved.Statement.{statement}
 use Rattle.landing.proofs.effects.moved.Tie as tie
@@ -20,7 +20,7 @@ tail-put-requires : tie.Need-tail-put-requires
 tail-put-requires c κs = search needs
 
 returns : tie.Need-returns
-unfolding headGone moved
+unfolding moved
 returns c = cc
 
 pub moved-spec : {M : Type 1} → statement M

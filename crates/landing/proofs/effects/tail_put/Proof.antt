@@ -1,4 +1,5 @@
 -- `landing::effects::tail_put` meets its contract. Assumes nothing.
+use Rattle.rules.specs.Kinds.{tailPut}
 use borrow.Author.Needs.{needs}
 use Rattle.landing.proofs.effects.tail_put.Statement.{statement}
 use Rattle.landing.proofs.effects.tail_put.Tie as tie
@@ -13,6 +14,7 @@ with-zone-requires : tie.Need-with-zone-requires
 with-zone-requires c κs = search needs
 
 returns : tie.Need-returns
+unfolding tailPut
 returns c = cc
 
 pub tail-put-spec : {M : Type 1} → statement M
