@@ -10,7 +10,6 @@ use crate::boxes::leg_of;
 use crate::boxes::opposite;
 use crate::boxes::order_length;
 use crate::boxes::queue_length;
-use crate::boxes::zone_of;
 use crate::counts::how_many;
 use crate::counts::in_area;
 use crate::counts::in_operation;

@@ -12,11 +12,6 @@ use Rattle.request.proofs.Tests.{Numbered}
 use Rattle.field.specs.declared.Field.{Field}
 use Rattle.rules.specs.Kinds.{headChecks, flownOutChecks}
 
--- what holds of both holds of the one that is chosen
-pub either : {A : Type 0} (P : A → Type 0) (b : Bool) {x y : A} → P x → P y → P (cond b x y)
-either P true p q = p
-either P false p q = q
-
 -- the first of the needs that is not met, and x where all are
 abbrev pub refusedOr : List (ℕ × Bool) → ℕ → ℕ
 refusedOr [] x = x
@@ -39,33 +34,23 @@ module _ (cs : List (ℕ × Bool)) (k : Numbered cs) {n : ℕ} (e : n ≡ firstR
   by-first : (x : ℕ) {b : Bool} → eqb n 0 ≡ b → refusedOr cs x ≡ cond b x n
   by-first x h = refused-or cs x k ∙ ap (λ (m : ℕ). cond (eqb m 0) x m) (sym e) ∙ ap (λ (b : Bool). cond b x n) h
 
-  met : n ≡ 0 → (x : ℕ) → refusedOr cs x ≡ x
-  met h x = by-first x (eq-eqb n 0 h)
-
-  -- the last need decides where those before it are met
-  then : n ≡ 0 → (last : ℕ) {t b : Bool} → t ≡ b → refusedOr cs (cond t 0 last) ≡ cond b 0 last
-  then h last e = met h _ ∙ ap (λ (b : Bool). cond b 0 last) e
-
-  unmet : (n ≡ 0 → ⊥) → (x : ℕ) → refusedOr cs x ≡ n
-  unmet h x = by-first x (ne-eqb n 0 h)
+  -- one need more, behind them
+  with-last : (last : ℕ) {b t : Bool} → b ≡ t → cond (eqb n 0) (cond b 0 last) n ≡ refusedOr cs (cond t 0 last)
+  with-last last {b} {t} h = ap (λ (c : Bool). cond (eqb n 0) (cond c 0 last) n) h ∙ sym (by-first (cond t 0 last) refl)
 
 -- after the needs of an aircraft at the head of its zone, whose number is n
 module _ (f : Field) (r : Request) {n : ℕ} (e : n ≡ firstRefused (headChecks f r)) where
   pub head-met : n ≡ 0 → (x : ℕ) → refusedOr (headChecks f r) x ≡ x
-  head-met = met (headChecks f r) (tt, (tt, (tt, tt))) e
-
-  pub head-then : n ≡ 0 → (last : ℕ) {t b : Bool} → t ≡ b → refusedOr (headChecks f r) (cond t 0 last) ≡ cond b 0 last
-  head-then = then (headChecks f r) (tt, (tt, (tt, tt))) e
+  head-met h x = by-first (headChecks f r) (tt, (tt, (tt, tt))) e x (eq-eqb n 0 h)
 
   pub head-unmet : (n ≡ 0 → ⊥) → (x : ℕ) → refusedOr (headChecks f r) x ≡ n
-  head-unmet = unmet (headChecks f r) (tt, (tt, (tt, tt))) e
+  head-unmet h x = by-first (headChecks f r) (tt, (tt, (tt, tt))) e x (ne-eqb n 0 h)
+
+  pub head-with : (last : ℕ) {b t : Bool} → b ≡ t → cond (eqb n 0) (cond b 0 last) n ≡ refusedOr (headChecks f r) (cond t 0 last)
+  head-with = with-last (headChecks f r) (tt, (tt, (tt, tt))) e
 
 -- .. that has flown its leg out
-module _ (f : Field) (r : Request) {n : ℕ} (e : n ≡ firstRefused (flownOutChecks f r)) where
-  pub leg-then : n ≡ 0 → (last : ℕ) {t b : Bool} → t ≡ b → refusedOr (flownOutChecks f r) (cond t 0 last) ≡ cond b 0 last
-  unfolding flownOutChecks
-  leg-then = then (flownOutChecks f r) (tt, (tt, (tt, (tt, tt)))) e
-
-  pub leg-unmet : (n ≡ 0 → ⊥) → (x : ℕ) → refusedOr (flownOutChecks f r) x ≡ n
-  unfolding flownOutChecks
-  leg-unmet = unmet (flownOutChecks f r) (tt, (tt, (tt, (tt, tt)))) e
+pub leg-with : (f : Field) (r : Request) {n : ℕ} → n ≡ firstRefused (flownOutChecks f r) → (last : ℕ) {b t : Bool} → b ≡ t
+    → cond (eqb n 0) (cond b 0 last) n ≡ refusedOr (flownOutChecks f r) (cond t 0 last)
+unfolding flownOutChecks
+leg-with f r e = with-last (flownOutChecks f r) (tt, (tt, (tt, (tt, tt)))) e

@@ -1,35 +1,13 @@
--- The zones that a kind starts from, and that a look-up finds. Assumes nothing.
-use mathlib.Core.Path.{_≡_, refl, sym, ap, _∙_}
-use mathlib.Core.List.{List, [], _∷_}
-use mathlib.Core.Bool.{Bool, true, false, cond, _&&_, _||_, and-true, and-false, or-false}
-use Prim.Native.Nat.{ℕ, _+_, _≤_, _<_}
+-- The zones that a kind starts from. Assumes nothing.
+use mathlib.Core.Path.{_≡_}
+use mathlib.Core.Bool.{false, and-true, and-false, or-false}
+use Prim.Native.Nat.{ℕ, _≤_, _<_}
 use native.Mathlib.Omega.{arith}
-use lib.Dec.{T, eqb, leb, leb→le}
-use lib.Ieee.Fits.{and-l, and-r}
+use lib.Dec.{eqb}
 use borrow.Author.Tests.{ne-eqb}
-use Rattle.request.specs.Input.{within}
 use Rattle.request.proofs.Tests.{within-yes, within-below, within-above}
-use Rattle.field.specs.declared.Field.{Field}
-use Rattle.field.specs.declared.Place.{Place}
-use Rattle.field.specs.Boxes.{inZone, everywhere}
-use Rattle.field.specs.Find.{placeFrom, findIn, placeOf}
-use Rattle.field.specs.Bounds.{every}
 use Rattle.field.proofs.Shapes.{one-of-two}
 use Rattle.rules.specs.Kinds.{startsFrom}
-use Rattle.landing.proofs.Refused.{either}
-
--- what is found lies in one of the listed zones, or nowhere
-found-below : (f : Field) (n : ℕ) (zs : List ℕ) → T (every (λ z. leb z 13) zs) → findIn f n zs .zone ≤ 13
-unfolding findIn
-found-below f n [] t = omega arith
-found-below f n (z ∷ zs) t =
-    either (λ (p : Place). p .zone ≤ 13) (eqb (placeFrom 1 n (inZone f z)) 0)
-    (found-below f n zs (and-r (leb z 13) _ t))
-    (leb→le z 13 (and-l (leb z 13) _ t))
-
-pub zone-below : (f : Field) (n : ℕ) → placeOf f n .zone ≤ 13
-unfolding placeOf
-zone-below f n = found-below f n everywhere tt
 
 -- the kinds that start from the zones of a range, and that none starts from past the last
 module _ (kind z : ℕ) where

@@ -16,8 +16,9 @@ use field::find::leader_zone;
 use field::find::place_of;
 use request::Request;
 ghost use mathlib.Core.Path.{_≡_};
-ghost use mathlib.Core.Bool.{_||_};
+ghost use mathlib.Core.Bool.{cond, _||_};
 ghost use mathlib.Core.List.{[], _∷_};
+ghost use lib.Dec.{eqb};
 ghost use Rattle.request.specs.Input.{within, firstRefused};
 ghost use Rattle.field.specs.Boxes.{sideOf, at3000, lateral, missed};
 ghost use Rattle.field.specs.Bounds.{isEmpty};
@@ -109,6 +110,16 @@ fn head_number(f: Field, r: Request) -> u16
     0
 }
 
+// The number of some needs with one more behind them: that of the first that is not met; 0 where all are.
+fn with_need(before: u16, number: u16, met: bool) -> u16
+    ensures { λ n. ⌜ n ≡ cond (eqb before 0) (cond met 0 number) before ⌝ }
+{
+    if before != 0 {
+        return before;
+    }
+    if met { 0 } else { number }
+}
+
 // The first zone of a side that a vertical entry needs empty and finds occupied: 18 missed, 19 lateral, 20 at 3000; 0 where none is.
 fn side_number(f: Field, side: u8) -> u16
     ensures { λ n. ⌜ n ≡ firstRefused ((18, isEmpty f (missed side)) ∷ (19, isEmpty f (lateral side)) ∷ (20, isEmpty f (at3000 side)) ∷ []) ⌝ }
@@ -159,14 +170,11 @@ fn lateral_number(f: Field, r: Request) -> u16
 fn descend_number(f: Field, r: Request) -> u16
     ensures { λ n. ⌜ n ≡ firstRefused (descendChecks f r) ⌝ }
 {
-    let n = head_number(f, r);
-    if n != 0 {
-        return n;
-    }
-    if !is_empty(f, AT_2000 + zone_before(f, r)) {
-        return 21;
-    }
-    0
+    with_need(
+        head_number(f, r),
+        21,
+        is_empty(f, AT_2000 + zone_before(f, r)),
+    )
 }
 
 // Whether a zone is a lateral zone.
@@ -227,57 +235,29 @@ fn may_merge(f: Field, number: u16) -> bool
 fn flown_out_number(f: Field, r: Request) -> u16
     ensures { λ n. ⌜ n ≡ firstRefused (flownOutChecks f r) ⌝ }
 {
-    let n = head_number(f, r);
-    if n != 0 {
-        return n;
-    }
-    if !has_flown_out(f, r) {
-        return 15;
-    }
-    0
+    with_need(head_number(f, r), 15, has_flown_out(f, r))
 }
 
 // Kind 5: the first need of a merge that is not met, the leg flown out and then the sequence; 0 where all are.
 fn merge_number(f: Field, r: Request) -> u16
     ensures { λ n. ⌜ n ≡ firstRefused (mergeChecks f r) ⌝ }
 {
-    let n = flown_out_number(f, r);
-    if n != 0 {
-        return n;
-    }
-    if !may_merge(f, r.number) {
-        return 22;
-    }
-    0
+    with_need(flown_out_number(f, r), 22, may_merge(f, r.number))
 }
 
 // Kind 7: the first need of a landing that is not met, the leg flown out and then the runway; 0 where all are.
 fn land_number(f: Field, r: Request) -> u16
     ensures { λ n. ⌜ n ≡ firstRefused (landChecks f r) ⌝ }
 {
-    let n = flown_out_number(f, r);
-    if n != 0 {
-        return n;
-    }
-    if !is_empty(f, RUNWAY) {
-        return 24;
-    }
-    0
+    with_need(flown_out_number(f, r), 24, is_empty(f, RUNWAY))
 }
 
 // Kind 9: the first need of an exit that is not met; 0 where all are.
 fn exit_number(f: Field, r: Request) -> u16
     ensures { λ n. ⌜ n ≡ firstRefused (exitChecks f r) ⌝ }
 {
-    let n = head_number(f, r);
-    if n != 0 {
-        return n;
-    }
     let s = f.sequence;
-    if !is_first(s, r.number) {
-        return 22;
-    }
-    0
+    with_need(head_number(f, r), 22, is_first(s, r.number))
 }
 
 // The first need of a request that its kind has and the field does not meet; 0 where all are met.

@@ -4,11 +4,13 @@ use mathlib.Core.Logic.{_⊎_, inl, inr}
 use mathlib.Core.Bool.{Bool, true, false, cond, not, _&&_, _||_}
 use mathlib.Core.List.{List, [], _∷_, _++_}
 use Prim.Native.Nat.{ℕ, _≤_}
+use native.Mathlib.Nat.{ne-of-gt}
 use native.Mathlib.Omega.{arith}
 use lib.Dec.{T, leb, eqb, leb→le, le→leb}
-use lib.Ieee.Fits.{and-i, and-l, and-r}
+use lib.Ieee.Fits.{and-l, and-r}
 use Rattle.request.specs.Input.{within, firstRefused, kindAllowed, sideAllowed, numberAllowed, amountAllowed, inputNumber}
 use Rattle.request.specs.declared.Request.{Request}
+use Rattle.request.proofs.Tests.{Numbered}
 use Rattle.field.specs.declared.Field.{Field}
 use Rattle.field.specs.Boxes.{at3000, at2000, lateral, intermediate, finalApproach, runway, sideOf}
 use Rattle.field.specs.Find.{placeOf, isFirst, leaderZone}
@@ -43,7 +45,7 @@ pub record HeadPassed (f : Field) (r : Request) (rest : List (ℕ × Bool)) : Ty
   pub others : firstRefused rest ≡ 0
 
 -- the first check passes, and the rest answers 0
-first-passes : (n : ℕ) (t : Bool) (rest : List (ℕ × Bool)) → 1 ≤ n → firstRefused ((n, t) ∷ rest) ≡ 0 → (t ≡ true) × (firstRefused rest ≡ 0)
+pub first-passes : (n : ℕ) (t : Bool) (rest : List (ℕ × Bool)) → 1 ≤ n → firstRefused ((n, t) ∷ rest) ≡ 0 → (t ≡ true) × (firstRefused rest ≡ 0)
 first-passes n true rest h e = (refl, e)
 first-passes n false rest h e = absurd (omega arith)
 
@@ -78,10 +80,10 @@ refused-in low high ((n, true) ∷ cs) t = refused-in low high cs (and-r (leb lo
 refused-in low high ((n, false) ∷ cs) t = inr (and-l (leb low n && leb n high) (numberedIn low high cs) t)
 
 -- one more check after those that all pass, and after one that fails
-pub refused-more : (cs : List (ℕ × Bool)) (more : List (ℕ × Bool)) → firstRefused cs ≡ 0 → T (numberedIn 1 99 cs) → firstRefused (cs ++ more) ≡ firstRefused more
-refused-more [] more e t = refl
-refused-more ((n, true) ∷ cs) more e t = refused-more cs more e (and-r (leb 1 n && leb n 99) (numberedIn 1 99 cs) t)
-refused-more ((n, false) ∷ cs) more e t = absurd (let h = leb→le 1 n (and-l (leb 1 n) (leb n 99) (and-l (leb 1 n && leb n 99) (numberedIn 1 99 cs) t)) in omega arith)
+pub refused-more : (cs : List (ℕ × Bool)) (more : List (ℕ × Bool)) → Numbered cs → firstRefused cs ≡ 0 → firstRefused (cs ++ more) ≡ firstRefused more
+refused-more [] more k e = refl
+refused-more ((n, true) ∷ cs) more k e = refused-more cs more (k .1) e
+refused-more ((n, false) ∷ cs) more k e = absurd (ne-of-gt (leb→le 1 n (k .0)) e)
 
 pub refused-first : (cs : List (ℕ × Bool)) (more : List (ℕ × Bool)) → (firstRefused cs ≡ 0 → ⊥) → firstRefused (cs ++ more) ≡ firstRefused cs
 refused-first [] more e = absurd (e refl)
@@ -100,14 +102,15 @@ checks-numbered f r =
     pick true cs ds t u = t
     pick false cs ds t u = u
 
--- numbers from 11 to 24 are numbers from 1 to 99
-pub wider : (cs : List (ℕ × Bool)) → T (numberedIn 11 24 cs) → T (numberedIn 1 99 cs)
-wider [] t = tt
-wider (c ∷ cs) t =
-    let p = and-l (leb 11 (c .0) && leb (c .0) 24) (numberedIn 11 24 cs) t in
-    let l = leb→le 11 (c .0) (and-l (leb 11 (c .0)) (leb (c .0) 24) p) in
-    let h = leb→le (c .0) 24 (and-r (leb 11 (c .0)) (leb (c .0) 24) p) in
-    and-i (leb 1 (c .0) && leb (c .0) 99) (numberedIn 1 99 cs) (and-i (leb 1 (c .0)) (leb (c .0) 99) (le→leb 1 (c .0) (omega arith)) (le→leb (c .0) 99 (omega arith))) (wider cs (and-r (leb 11 (c .0) && leb (c .0) 24) (numberedIn 11 24 cs) t))
+-- so each of them refuses
+pub checks-refuse : (f : Field) (r : Request) → Numbered (checksOf f r)
+checks-refuse f r = go (checksOf f r) (checks-numbered f r)
+  where
+    go : (cs : List (ℕ × Bool)) → T (numberedIn 11 24 cs) → Numbered cs
+    go [] t = tt
+    go ((n, b) ∷ cs) t =
+        let l = leb→le 11 n (and-l (leb 11 n) (leb n 24) (and-l (leb 11 n && leb n 24) (numberedIn 11 24 cs) t)) in
+        (le→leb 1 n (omega arith), go cs (and-r (leb 11 n && leb n 24) (numberedIn 11 24 cs) t))
 
 pub input-numbered : (r : Request) → (inputNumber r ≡ 0) ⊎ T (leb 1 (inputNumber r) && leb (inputNumber r) 4)
 unfolding inputNumber

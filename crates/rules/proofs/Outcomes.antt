@@ -24,7 +24,7 @@ use Rattle.rules.proofs.Line.{Placed, fieldOf}
 use Rattle.rules.proofs.Orderly.{Orderly}
 use Rattle.rules.proofs.Within.{within-bounds}
 use Rattle.rules.proofs.After.{After}
-use Rattle.rules.proofs.Checks.{refused-in, refused-more, refused-first, checks-numbered, wider, input-numbered}
+use Rattle.rules.proofs.Checks.{refused-in, refused-more, refused-first, checks-numbered, checks-refuse, input-numbered}
 use Rattle.rules.proofs.Steps.{accepted-after}
 
 -- ---- the step by its number, on any field
@@ -89,7 +89,7 @@ module _ (f : Side) (line : List Placed) (runway : List Aircraft) (legs : Legs) 
       record {
         number-0 =
             number-of i
-            ∙ refused-more (checksOf F r) ((25, withinBounds (effectOf F r)) ∷ []) c (wider (checksOf F r) (checks-numbered F r))
+            ∙ refused-more (checksOf F r) ((25, withinBounds (effectOf F r)) ∷ []) (checks-refuse F r) c
             ∙ ap (λ (b : Bool). cond b 0 25) w;
         after = a;
       }

@@ -1,14 +1,14 @@
 -- How large the parts of an answer are: its number, zone and fix. Assumes nothing.
 use mathlib.Core.Path.{_≡_, refl, sym, ap, _∙_, subst}
 use mathlib.Core.Logic.{inl, inr}
-use mathlib.Core.Bool.{Bool, true, false, cond, not, _&&_, _||_, false≢true}
+use mathlib.Core.Bool.{Bool, true, false, cond, not, _&&_, _||_}
 use mathlib.Core.List.{List, [], _∷_, _++_}
 use Prim.Native.Nat.{ℕ, zero, suc, _≤_}
 use native.Mathlib.Omega.{arith}
 use lib.Dec.{T, leb, eqb, leb→le}
 use lib.ListN.{getD}
 use lib.Ieee.Fits.{and-l, and-r}
-use borrow.Author.Tests.{eqb-true, eq-eqb}
+use borrow.Author.Tests.{eqb-true}
 use Rattle.leg.specs.Progress.{withinLeg}
 use Rattle.request.specs.Input.{firstRefused, inputNumber}
 use Rattle.request.specs.declared.Request.{Request}
@@ -23,7 +23,10 @@ use Rattle.rules.specs.declared.Answer.{Answer}
 use Rattle.rules.specs.declared.Stepped.{Stepped}
 use Rattle.rules.specs.Kinds.{heldAlong}
 use Rattle.rules.specs.Step.{checksOf, effectOf, numberOf, numberAndZeros, acceptance, answerOf, stepOf}
-use Rattle.field.proofs.Tests.{pass, passed, decided}
+use Rattle.field.proofs.Tests.{passed, decided}
+use Rattle.field.proofs.FindLaws.{place-within}
+use Rattle.rules.proofs.Outcomes.{number-is, field-accepted}
+use Rattle.rules.proofs.Refusals.{accepted-within}
 use Rattle.rules.proofs.Checks.{numberedIn, checks-numbered, input-numbered}
 
 -- ---- the number
@@ -34,13 +37,6 @@ last-number [] true t = omega arith
 last-number [] false t = omega arith
 last-number ((n, true) ∷ cs) b t = last-number cs b (and-r (leb 11 n && leb n 24) (numberedIn 11 24 cs) t)
 last-number ((n, false) ∷ cs) b t = let h = leb→le n 24 (and-r (leb 11 n) (leb n 24) (and-l (leb 11 n && leb n 24) (numberedIn 11 24 cs) t)) in omega arith
-
--- where none refuses, the last test holds
-last-passes : (cs : List (ℕ × Bool)) (b : Bool) → T (numberedIn 11 24 cs) → firstRefused (cs ++ ((25, b) ∷ [])) ≡ 0 → b ≡ true
-last-passes [] true t e = refl
-last-passes [] false t e = absurd (omega arith)
-last-passes ((n, true) ∷ cs) b t e = last-passes cs b (and-r (leb 11 n && leb n 24) (numberedIn 11 24 cs) t) e
-last-passes ((n, false) ∷ cs) b t e = absurd (let h = leb→le 11 n (and-l (leb 11 n) (leb n 24) (and-l (leb 11 n && leb n 24) (numberedIn 11 24 cs) t)) in omega arith)
 
 module _ (f : Field) (r : Request) where
   abbrev fieldNumber : ℕ
@@ -57,24 +53,7 @@ module _ (f : Field) (r : Request) where
       low true = last-number (checksOf f r) (withinBounds (effectOf f r)) (checks-numbered f r)
       low false = omega arith
 
-  -- an accepted request leads to a field within the bounds
-  accepted-within : numberOf f r ≡ 0 → withinBounds (effectOf f r) ≡ true
-  accepted-within z = elim (decided (eqb (inputNumber r) 0)) [ inl e ↦ go (withinBounds f) (sym (number-by e) ∙ z) | inr e ↦ absurd (false≢true (sym e ∙ eq-eqb (inputNumber r) 0 (sym (number-by e) ∙ z))) ]
-    where
-      go : (b : Bool) → cond b (firstRefused (checksOf f r ++ ((25, withinBounds (effectOf f r)) ∷ []))) 10 ≡ 0 → withinBounds (effectOf f r) ≡ true
-      go true e = last-passes (checksOf f r) (withinBounds (effectOf f r)) (checks-numbered f r) e
-      go false e = absurd (omega arith)
-
 -- ---- the zone and the fix
-
-zone-in : (f : Field) (n : ℕ) (zs : List ℕ) → T (every (λ z. leb z 13) zs) → findIn f n zs .zone ≤ 13
-unfolding findIn
-zone-in f n [] t = omega arith
-zone-in f n (z ∷ zs) t = go (eqb (placeFrom 1 n (inZone f z)) 0) (zone-in f n zs (and-r (leb z 13) (every (λ z. leb z 13) zs) t))
-  where
-    go : (b : Bool) → findIn f n zs .zone ≤ 13 → cond b (findIn f n zs) (record { zone = z; place = placeFrom 1 n (inZone f z) }) .zone ≤ 13
-    go true h = h
-    go false h = leb→le z 13 (and-l (leb z 13) (every (λ z. leb z 13) zs) t)
 
 side-low : (s : ℕ) → T (isSide s) → s ≤ 2
 unfolding isSide
@@ -114,10 +93,6 @@ module _ (f : Field) (n : ℕ) where
       go true h = h
       go false h = fix-of (f .legs) z (inZone f z) (placeFrom 1 n (inZone f z)) (and-l (every (fitsZone (f .legs) z) (inZone f z)) (allFit zs) t)
 
-  zone-low : placeOf f n .zone ≤ 13
-  unfolding placeOf
-  zone-low = zone-in f n everywhere tt
-
   fix-low : T (withinBounds f) → fixOf f n ≤ 2
   unfolding fixOf placeOf withinBounds boundG
   fix-low t =
@@ -136,7 +111,7 @@ short-zeros n h = record { number = h; zone = omega arith; fix = omega arith }
 
 short-acceptance : (f : Field) (n along : ℕ) → T (withinBounds f) → Short (acceptance f n along)
 unfolding acceptance
-short-acceptance f n along t = record { number = omega arith; zone = zone-low f n; fix = fix-low f n t }
+short-acceptance f n along t = record { number = omega arith; zone = place-within f n; fix = fix-low f n t }
 
 module _ (f : Field) (r : Request) where
   -- the step, by whether the request is accepted
@@ -156,5 +131,7 @@ module _ (f : Field) (r : Request) where
   short-step = go (eqb (numberOf f r) 0) refl
     where
       go : (b : Bool) → eqb (numberOf f r) 0 ≡ b → Short (stepBy b .answer)
-      go true e = short-accepted (pass (accepted-within f r (eqb-true (numberOf f r) 0 e)))
+      go true e =
+          let z = eqb-true (numberOf f r) 0 e in
+          short-accepted (subst (λ (g : Field). T (withinBounds g)) (field-accepted f r z) (accepted-within f r (number-is f r ∙ z)))
       go false e = short-zeros (numberOf f r) (number-low f r)

@@ -2,7 +2,6 @@
 use request::Request;
 use rules::Answer;
 ghost use mathlib.Core.Path.{_≡_};
-ghost use Prim.Native.Nat.{_≤_};
 ghost use Rattle.session.specs.Tally.{Under, counted};
 
 // How many entries, taxis, exits and misses were accepted.

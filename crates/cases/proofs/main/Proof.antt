@@ -1,6 +1,5 @@
 -- `cases::main` is safe and ends: the measure is the number of arguments that are left. Assumes nothing.
-use Prim.Native.Nat.{ℕ, _-_, _≤_, max}
-use native.Mathlib.Omega.{arith}
+use Prim.Native.Nat.{_-_, _≤_, max}
 use borrow.Author.Needs.{needs}
 use Rattle.cases.proofs.main.Statement.{statement}
 use Rattle.cases.proofs.main.Tie as tie

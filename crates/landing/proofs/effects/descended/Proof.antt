@@ -1,6 +1,6 @@
 -- `landing::effects::descended` meets its contract. Assumes nothing.
 use native.Mathlib.Omega.{arith}
-use Rattle.landing.proofs.Starts.{zone-below}
+use Rattle.field.proofs.FindLaws.{place-within}
 use borrow.Author.Needs.{needs}
 use Rattle.landing.proofs.effects.descended.Statement.{statement}
 use Rattle.landing.proofs.effects.descended.Tie as tie
@@ -11,7 +11,7 @@ zone-before-requires c κs = search needs
 add-moved : tie.Need-add-moved
 add-moved c =
     let a = c .before .args in
-    record { fits = omega (arith, c .zone-before .ensures, zone-below (a .f) (a .r .number)) }
+    record { fits = omega (arith, c .zone-before .ensures, place-within (a .f) (a .r .number)) }
 
 moved-requires : tie.Need-moved-requires
 moved-requires c κs = search needs

@@ -1,7 +1,5 @@
 -- `landing::needs::may_merge` meets its contract: the leader's zone is in the range or not. Assumes nothing.
 use mathlib.Core.Path.{sym, ap, _∙_}
-use mathlib.Core.Bool.{Bool}
-use Prim.Native.Nat.{ℕ}
 use Rattle.request.specs.Input.{within}
 use Rattle.request.proofs.Tests.{within-yes, within-below, within-above}
 use Rattle.field.proofs.Parts.{or-first, or-else}

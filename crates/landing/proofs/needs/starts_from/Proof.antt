@@ -1,6 +1,6 @@
 -- `landing::needs::starts_from` meets its contract, range by range. Assumes nothing.
 use mathlib.Core.Path.{_≡_, sym, ap, _∙_}
-use mathlib.Core.Bool.{false, and-true, and-false, or-false}
+use mathlib.Core.Bool.{and-true, and-false, or-false}
 use mathlib.Core.Logic.{inl, inr, ⊎-elim}
 use Prim.Native.Nat.{ℕ}
 use native.Mathlib.Omega.{arith}
