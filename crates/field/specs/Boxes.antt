@@ -5,7 +5,7 @@ use Prim.Native.Nat.{ℕ, zero, suc, _+_, _%_}
 use lib.Dec.{eqb, leb}
 use lib.ListN.{length, getD, take, replicate}
 use lib.Ieee.{Float}
-use Rattle.leg.specs.Progress.{whole, flownOut}
+use Rattle.leg.specs.Progress.{whole, sixtyFourths, flownOut}
 use Rattle.leg.specs.declared.Progress.{Progress}
 use Rattle.leg.specs.declared.Progress.the-variants.{Waiting, Flying}
 use Rattle.field.specs.declared.Aircraft.{Aircraft}
@@ -138,6 +138,16 @@ unfoldable pub withFix : Aircraft → ℕ → Aircraft
 withFix a fix = record { number = a .number; fix = fix; speed = a .speed; progress = a .progress }
 
 -- ---- legs
+
+-- "leg lengths (missed, base, intermediate, final; both sides alike) are held as f64 miles": four legs of so many 64ths of a mile
+abbrev pub legsIn64ths : ℕ → ℕ → ℕ → ℕ → Legs
+legsIn64ths missed base intermediate final =
+    record {
+      missed = sixtyFourths missed;
+      base = sixtyFourths base;
+      intermediate = sixtyFourths intermediate;
+      «final_approach» = sixtyFourths final;
+    }
 
 -- the leg that belongs to zone z: "missed, base, intermediate, final; both sides alike"; 0 where no leg is flown
 unfoldable pub legOf : Legs → ℕ → Float

@@ -45,7 +45,7 @@ miles-are w = each-zone (λ (z : ℕ). T (isFlyingZone z) → legOf (inMiles w) 
 leg-fits : (w : WholeLegs) (z : ℕ) → T (within 1 13 z) → Between 1 4096 (in64ths w z)
 leg-fits w = each-zone (λ (z : ℕ). Between 1 4096 (in64ths w z)) (w .final-fits, (w .final-fits, (w .final-fits, (w .final-fits, (w .final-fits, (w .final-fits, (w .missed-fits, (w .missed-fits, (w .base-fits, (w .base-fits, (w .intermediate-fits, (w .final-fits, (w .final-fits, tt)))))))))))))
 
-legs-legal : (w : WholeLegs) → T (legalLegs (inMiles w))
+pub legs-legal : (w : WholeLegs) → T (legalLegs (inMiles w))
 unfolding legalLegs
 legs-legal w =
     let m = legalLeg (sixtyFourths (w .missed-leg)) in

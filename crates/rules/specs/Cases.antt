@@ -4,11 +4,11 @@ use mathlib.Core.Bool.{Bool, true, false, _&&_}
 use mathlib.Core.List.{List, [], _∷_}
 use Prim.Native.Nat.{ℕ}
 use lib.Dec.{eqb}
-use Rattle.leg.specs.Progress.{whole, sixtyFourths, flownOut}
+use Rattle.leg.specs.Progress.{whole, flownOut}
 use Rattle.request.specs.declared.Request.{Request}
 use Rattle.field.specs.declared.Legs.{Legs}
 use Rattle.field.specs.declared.Field.{Field}
-use Rattle.field.specs.Boxes.{emptyField, orderOf}
+use Rattle.field.specs.Boxes.{legsIn64ths, emptyField, orderOf}
 use Rattle.field.specs.Find.{placeOf, aircraftAt}
 use Rattle.rules.specs.declared.Answer.{Answer}
 use Rattle.rules.specs.Step.{numberAndZeros}
@@ -24,7 +24,7 @@ says aircraft zone fix leader along = record { number = 0; aircraft = aircraft; 
 
 -- four legs of so many 64ths of a mile
 abbrev pub allLegs : ℕ → Legs
-allLegs k = record { missed = sixtyFourths k; base = sixtyFourths k; intermediate = sixtyFourths k; «final_approach» = sixtyFourths k }
+allLegs k = legsIn64ths k k k k
 
 pub record Case : Type 0 where
   pub leg : ℕ

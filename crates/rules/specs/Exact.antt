@@ -4,13 +4,12 @@ use mathlib.Core.Bool.{cond, _&&_, _||_}
 use mathlib.Core.List.{List, [], _∷_}
 use Prim.Native.Nat.{ℕ, _+_, _*_, min}
 use lib.Dec.{T, eqb}
-use Rattle.leg.specs.Progress.{sixtyFourths}
 use Rattle.leg.specs.Ticks.{Between, FlownExactly}
 use Rattle.request.specs.Input.{within, isTick}
 use Rattle.request.specs.declared.Request.{Request}
 use Rattle.field.specs.declared.Aircraft.{Aircraft}
 use Rattle.field.specs.declared.Legs.{Legs}
-use Rattle.field.specs.Boxes.{missed, base, intermediate, right, left, inZone, emptyField}
+use Rattle.field.specs.Boxes.{missed, base, intermediate, right, left, inZone, legsIn64ths, emptyField}
 use Rattle.rules.specs.declared.Answer.{Answer}
 use Rattle.rules.specs.Play.{fieldAfter, played, isAccepted}
 
@@ -27,13 +26,7 @@ pub record WholeLegs : Type 0 where
 
 -- those legs in miles
 abbrev pub inMiles : WholeLegs → Legs
-inMiles w =
-    record {
-      missed = sixtyFourths (w .missed-leg);
-      base = sixtyFourths (w .base-leg);
-      intermediate = sixtyFourths (w .intermediate-leg);
-      «final_approach» = sixtyFourths (w .final-leg);
-    }
+inMiles w = legsIn64ths (w .missed-leg) (w .base-leg) (w .intermediate-leg) (w .final-leg)
 
 -- the leg of zone z, one of 7 to 12, in 64ths
 abbrev pub in64ths : WholeLegs → ℕ → ℕ

@@ -23,10 +23,14 @@ played f (r ∷ rs) = (r, stepOf f r .answer) ∷ played (stepOf f r .field) rs
 abbrev pub isAccepted : (ℕ → Bool) → Request × Answer → Bool
 isAccepted kinds p = eqb (p .1 .number) 0 && kinds (p .0 .kind)
 
+-- 1 for an answer with number 0 to a request of the kinds, else 0
+abbrev pub countedOnce : (ℕ → Bool) → Request × Answer → ℕ
+countedOnce kinds p = cond (isAccepted kinds p) 1 0
+
 -- the answers with number 0 to requests of the kinds
 abbrev pub accepted : (ℕ → Bool) → List (Request × Answer) → ℕ
 accepted kinds [] = 0
-accepted kinds (p ∷ ps) = cond (isAccepted kinds p) 1 0 + accepted kinds ps
+accepted kinds (p ∷ ps) = countedOnce kinds p + accepted kinds ps
 
 -- "Let in: the answers with number 0 to kinds 1 and 2 of the list."
 abbrev pub letIn : List (Request × Answer) → ℕ

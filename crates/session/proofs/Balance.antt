@@ -2,12 +2,10 @@
 -- requests that the file holds. Assumes nothing.
 use mathlib.Core.Path.{_≡_}
 use mathlib.Core.List.{List}
-use mathlib.Core.Bool.{true, _&&_}
+use mathlib.Core.Bool.{true}
 use Prim.Native.Nat.{ℕ}
 use lib.Dec.{T}
-use lib.Ieee.Fits.{and-i}
-use Rattle.leg.specs.Progress.{sixtyFourths, legalLeg}
-use Rattle.leg.proofs.Theorems.{sixty-fourths-legal}
+use Rattle.leg.specs.Ticks.{Between}
 use Rattle.practice.specs.declared.FileLegs.{FileLegs}
 use Rattle.practice.specs.File.{legsOf, legsBody, requestsBody, legsAllowed, fileNumber}
 use Rattle.practice.specs.Requests.{requestsOf}
@@ -17,25 +15,31 @@ use Rattle.field.specs.Boxes.{emptyField}
 use Rattle.field.specs.Counts.{presentOn}
 use Rattle.field.specs.Bounds.{legalLegs}
 use Rattle.rules.specs.Play.{fieldAfter, played}
+use Rattle.rules.proofs.Exact.{legs-legal}
 use Rattle.rules.proofs.Demand.{demand-3}
 use Rattle.session.specs.Tally.{tallyOf}
 use Rattle.session.specs.Report.{legsInMiles, sessionReport}
 use Rattle.session.specs.Balance.{Balanced}
 use Rattle.session.proofs.Reports.{practice-holds, report-holds}
 
--- the legs of an accepted file are legal
-legs-legal : (legs : FileLegs) → legsAllowed legs ≡ true → T (legalLegs (legsInMiles legs))
-unfolding legalLegs
-legs-legal legs e =
+-- the legs of an accepted file, whole 64ths as the file says them, are legal
+file-legs-legal : (legs : FileLegs) → legsAllowed legs ≡ true → T (legalLegs (legsInMiles legs))
+file-legs-legal legs e =
     let k = legs-known legs e in
-    let m = legalLeg (sixtyFourths (legs .missed)) in
-    let b = legalLeg (sixtyFourths (legs .base)) in
-    let i = legalLeg (sixtyFourths (legs .intermediate)) in
-    let l = legalLeg (sixtyFourths (legs .last)) in
-    and-i (m && b && i) l (and-i (m && b) i (and-i m b (one (legs .missed) (k .missed)) (one (legs .base) (k .base))) (one (legs .intermediate) (k .intermediate))) (one (legs .last) (k .last))
+    legs-legal
+    (record {
+      missed-leg = legs .missed;
+      base-leg = legs .base;
+      intermediate-leg = legs .intermediate;
+      final-leg = legs .last;
+      missed-fits = fits (legs .missed) (k .missed);
+      base-fits = fits (legs .base) (k .base);
+      intermediate-fits = fits (legs .intermediate) (k .intermediate);
+      final-fits = fits (legs .last) (k .last);
+    })
   where
-    one : (n : ℕ) → LegKnown n → T (legalLeg (sixtyFourths n))
-    one n k = sixty-fourths-legal n (record { least = k .low; most = k .high })
+    fits : (n : ℕ) → LegKnown n → Between 1 4096 n
+    fits n k = record { least = k .low; most = k .high }
 
 pub report-balanced : (file : List ℕ) → fileNumber file ≡ 0 → Balanced file
 unfolding sessionReport tallyOf
@@ -43,7 +47,7 @@ report-balanced file e =
     let legs = legsOf (legsBody file) in
     let rs = requestsOf (requestsBody file) in
     let h = held file legs rs (practice-holds file e) in
-    let d = demand-3 (legsInMiles legs) (legs-legal legs (h .legs-legal)) rs in
+    let d = demand-3 (legsInMiles legs) (file-legs-legal legs (h .legs-legal)) rs in
     let answers = played (emptyField (legsInMiles legs)) rs in
     record {
       answers = answers;

@@ -10,9 +10,9 @@ use borrow.Author.Tests.{eq-eqb, ne-eqb}
 use Rattle.request.specs.declared.Request.{Request}
 use Rattle.request.specs.Input.{isEntry}
 use Rattle.rules.specs.declared.Answer.{Answer}
-use Rattle.rules.specs.Play.{isAccepted, accepted, letIn, taxiedOff, exitedFrom, misses}
+use Rattle.rules.specs.Play.{isAccepted, countedOnce, accepted, letIn, taxiedOff, exitedFrom, misses}
 use Rattle.session.specs.declared.tally.Tally.{Tally}
-use Rattle.session.specs.Tally.{tallyOf, one, counted, Under}
+use Rattle.session.specs.Tally.{tallyOf, counted, Under}
 
 -- 1 or 0 by a test
 abbrev unit : Bool → ℕ
@@ -31,7 +31,7 @@ module _ (t : Tally) {u : Tally} (p : Request × Answer) where
         misses = (mi ∙ sym (by (λ kind. eqb kind 10) (t .misses))) i;
       }
     where
-      by : (kinds : ℕ → Bool) (n : ℕ) → n + one kinds p ≡ n + unit (kinds k)
+      by : (kinds : ℕ → Bool) (n : ℕ) → n + countedOnce kinds p ≡ n + unit (kinds k)
       by kinds n = ap (λ (b : Bool). n + unit (b && kinds (p .0 .kind))) (eq-eqb (p .1 .number) 0 z) ∙ ap (λ (kind : ℕ). n + unit (kinds kind)) e
 
   -- one that is refused
@@ -39,7 +39,7 @@ module _ (t : Tally) {u : Tally} (p : Request × Answer) where
   unfolding counted
   counted-none z e = e ∙ λ i. record { entries = same isEntry (t .entries) i; taxis = same (λ kind. eqb kind 8) (t .taxis) i; exits = same (λ kind. eqb kind 9) (t .exits) i; misses = same (λ kind. eqb kind 10) (t .misses) i }
     where
-      same : (kinds : ℕ → Bool) (n : ℕ) → n ≡ n + one kinds p
+      same : (kinds : ℕ → Bool) (n : ℕ) → n ≡ n + countedOnce kinds p
       same kinds n = let a : n ≡ n + 0 = omega arith in a ∙ sym (ap (λ (b : Bool). n + unit (b && kinds (p .0 .kind))) (ne-eqb (p .1 .number) 0 z))
 
 -- ---- the counts of a list

@@ -3,12 +3,11 @@ use Prim.Native.Nat.{ℕ, suc, _≤_}
 use mathlib.Core.Path.{_≡_}
 use mathlib.Core.List.{List, [], _∷_, _++_}
 use lib.ListN.{length, drop}
-use Rattle.leg.specs.Progress.{sixtyFourths}
 use Rattle.request.specs.declared.Request.{Request}
 use Rattle.practice.specs.declared.FileLegs.{FileLegs}
 use Rattle.practice.specs.Practice.{Practice, refused, holds, practiceOf}
 use Rattle.field.specs.declared.Legs.{Legs}
-use Rattle.field.specs.Boxes.{emptyField}
+use Rattle.field.specs.Boxes.{legsIn64ths, emptyField}
 use Rattle.field.specs.Counts.{presentOn}
 use Rattle.rules.specs.declared.Answer.{Answer}
 use Rattle.rules.specs.Play.{fieldAfter, played}
@@ -18,13 +17,7 @@ use Rattle.session.specs.Tally.{tallyOf}
 
 -- the legs of a file, "in 64ths of a mile", as the field holds them
 abbrev pub legsInMiles : FileLegs → Legs
-legsInMiles legs =
-    record {
-      missed = sixtyFourths (legs .missed);
-      base = sixtyFourths (legs .base);
-      intermediate = sixtyFourths (legs .intermediate);
-      «final_approach» = sixtyFourths (legs .last);
-    }
+legsInMiles legs = legsIn64ths (legs .missed) (legs .base) (legs .intermediate) (legs .last)
 
 -- "prints for each request: index .., number, aircraft, zone, fix, leader, along"
 unfoldable pub answerLine : ℕ → Answer → List ℕ

@@ -1,30 +1,25 @@
 -- Document 01, "The practice file": the closing counts, of a list of answers and answer by answer. Definitions only.
 use Prim.Native.Nat.{ℕ, _+_, _<_}
-use mathlib.Core.Bool.{Bool, cond}
 use mathlib.Core.List.{List}
 use lib.Dec.{eqb}
 use Rattle.request.specs.declared.Request.{Request}
 use Rattle.request.specs.Input.{isEntry}
 use Rattle.rules.specs.declared.Answer.{Answer}
-use Rattle.rules.specs.Play.{isAccepted, letIn, taxiedOff, exitedFrom, misses}
+use Rattle.rules.specs.Play.{countedOnce, letIn, taxiedOff, exitedFrom, misses}
 use Rattle.session.specs.declared.tally.Tally.{Tally}
 
 -- "accepted entries, taxis, exits, misses, .. counted as for demand 3"
 unfoldable pub tallyOf : List (Request × Answer) → Tally
 tallyOf ps = record { entries = letIn ps; taxis = taxiedOff ps; exits = exitedFrom ps; misses = misses ps }
 
--- 1 for an answer with number 0 to a request of the kinds, else 0
-abbrev pub one : (ℕ → Bool) → Request × Answer → ℕ
-one kinds p = cond (isAccepted kinds p) 1 0
-
 -- the counts with one more request and its answer
 unfoldable pub counted : Tally → Request × Answer → Tally
 counted t p =
     record {
-      entries = t .entries + one isEntry p;
-      taxis = t .taxis + one (λ kind. eqb kind 8) p;
-      exits = t .exits + one (λ kind. eqb kind 9) p;
-      misses = t .misses + one (λ kind. eqb kind 10) p;
+      entries = t .entries + countedOnce isEntry p;
+      taxis = t .taxis + countedOnce (λ kind. eqb kind 8) p;
+      exits = t .exits + countedOnce (λ kind. eqb kind 9) p;
+      misses = t .misses + countedOnce (λ kind. eqb kind 10) p;
     }
 
 -- each count is below n
