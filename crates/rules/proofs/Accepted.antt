@@ -26,7 +26,7 @@ use Rattle.rules.specs.Kinds.{startsFrom, headChecks, moved, held}
 use Rattle.rules.specs.Step.{effectOf}
 use Rattle.field.proofs.Tests.{passed, failed, decided, if-false, zones-imply}
 use Rattle.rules.proofs.Line.{Placed, zonesIn, fieldOf}
-use Rattle.rules.proofs.Counted.{lower, how-many-runway}
+use Rattle.rules.proofs.Counted.{lower, how-many-runway, none}
 use Rattle.field.proofs.FindLaws.{at}
 use Rattle.rules.proofs.Located.{first-there}
 use Rattle.rules.proofs.Members.{count-append}
@@ -68,10 +68,6 @@ no-line (x ∷ a) e = absurd (let n = ap length e in omega arith)
 nil-line : (a : List Placed) → isNil (zonesIn a) ≡ true → a ≡ []
 nil-line [] e = refl
 nil-line (x ∷ a) e = absurd (false≢true e)
-
-no-runway : (xs : List Aircraft) → length xs ≡ 0 → xs ≡ []
-no-runway [] e = refl
-no-runway (x ∷ xs) e = absurd (omega arith)
 
 -- a missed zone is no holding at 3000
 missed-apart : (z : ℕ) → T (within 1 13 z) → T (within 7 8 z) → eqb z (at3000 (sideOf z)) ≡ false
@@ -161,7 +157,7 @@ module _ (f : Side) (line : List Placed) (runway : List Aircraft) (legs : Legs) 
       let a = final-leads h q z in
       let w : h .ahead ++ h .here ∷ h .behind ≡ h .here ∷ h .behind = ap (λ (l : List Placed). l ++ h .here ∷ h .behind) a in
       let p = input.passed (besides (fieldOf f (h .ahead ++ h .here ∷ h .behind) runway legs) r 7) (tt, (tt, tt)) d in
-      let n : runway ≡ [] = no-runway runway (sym (how-many-runway f (h .ahead ++ h .here ∷ h .behind) runway legs) ∙ eqb-true (howMany (fieldOf f (h .ahead ++ h .here ∷ h .behind) runway legs) 13) 0 (p .1 .0)) in
+      let n : runway ≡ [] = none runway (sym (how-many-runway f (h .ahead ++ h .here ∷ h .behind) runway legs) ∙ eqb-true (howMany (fieldOf f (h .ahead ++ h .here ∷ h .behind) runway legs) 13) 0 (p .1 .0)) in
       subst (λ (l : List Placed). After f l runway legs r) (sym w)
       (subst (λ (l : List Aircraft). After f (h .here ∷ h .behind) l legs r) (sym n)
       (after-7 f (h .here) (h .behind) legs (subst (λ (l : List Aircraft). Orderly f (h .here ∷ h .behind) l legs) n (subst (λ (l : List Placed). Orderly f l runway legs) w q)) r (h .named) k z)))

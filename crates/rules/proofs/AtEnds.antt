@@ -15,11 +15,12 @@ use Rattle.field.specs.declared.Field.{Field}
 use Rattle.field.specs.Boxes.{isFlyingZone, missed, progressInto, entering, withProgress, withFix}
 use Rattle.field.specs.Counts.{isIn}
 use Rattle.field.specs.Bounds.{every}
-use Rattle.order.specs.Model.{Side, right, left, opp, num, okay, firstFix, weight, weights, one}
+use Rattle.order.specs.Model.{Side, opp, num, okay, firstFix, weight, weights, one}
 use Rattle.order.proofs.Facts.{okay-length, first-leaves, misses}
 use Rattle.rules.specs.Step.{effectOf}
 use Rattle.rules.specs.Kinds.{entered}
 use Rattle.rules.specs.Demand.{addsMoves}
+use Rattle.rules.proofs.Counted.{missed-in}
 use Rattle.field.proofs.Tests.{passed, failed, fail}
 use Rattle.field.proofs.Lists.{absent-left}
 use Rattle.rules.proofs.Line.{Placed, zonesIn, numbersOf, fieldOf}
@@ -89,10 +90,6 @@ module _ (f : Side) (e : Placed) (b : List Placed) (runway : List Aircraft) (leg
         carried = λ u. record { carry = λ P others arrive idle. each-append P b (g ∷ []) (behind-all P others) (arrive g refl (sym named), tt) };
         ticked-on = λ u. absurd (let n : 12 ≡ 10 = sym u ∙ h in omega arith);
       }
-    where
-      missed-in : (s : Side) → T (within 1 12 (missed (num s)))
-      missed-in right = tt
-      missed-in left = tt
 
 -- kind 7
 pub after-7 : (f : Side) (e : Placed) (b : List Placed) (legs : Legs) (o : Orderly f (e ∷ b) [] legs) (r : Request) → r .number ≡ e .aircraft .number → r .kind ≡ 7 → e .zone ≡ 12 → After f (e ∷ b) [] legs r

@@ -12,7 +12,7 @@ use Rattle.request.specs.Input.{within}
 use Rattle.field.specs.declared.Aircraft.{Aircraft}
 use Rattle.field.specs.declared.Legs.{Legs}
 use Rattle.field.specs.declared.Field.{Field}
-use Rattle.field.specs.Boxes.{zoneOf, queueOf, inZone, area, approach, operation, runway}
+use Rattle.field.specs.Boxes.{zoneOf, queueOf, inZone, area, approach, operation, runway, missed, everywhere}
 use Rattle.field.specs.Counts.{isIn, total, haveFix, howMany, howManyWithFix, inOperation, inArea, perFix, approachHolds, countedFor, potentialOf}
 use Rattle.order.specs.Model.{Side, right, left, opp, num, nextFix, count, countFix, free, potential, all}
 use Rattle.field.proofs.Tests.{if-false, each-zone}
@@ -38,7 +38,7 @@ length-inside z (e ∷ line) = go (eqb (e .zone) z) (length-inside z line)
     go false h = omega arith
 
 -- a free zone is empty
-none : (xs : List Aircraft) → length xs ≡ 0 → xs ≡ []
+pub none : (xs : List Aircraft) → length xs ≡ 0 → xs ≡ []
 none [] e = refl
 none (x ∷ xs) e = absurd (omega arith)
 
@@ -118,9 +118,17 @@ total-same g h (z ∷ zs) t e =
     ap (λ (n : ℕ). n + total g zs) (e z (and-l (within 1 12 z) (all (within 1 12) zs) t))
     ∙ ap (λ (n : ℕ). h z + n) (total-same g h zs (and-r (within 1 12 z) (all (within 1 12) zs) t) e)
 
-side-area : (s : Side) → T (all (within 1 12) (area (num s)))
+-- a side's area, and its missed zone, lie in the operation area; zones 1 to 13 are everywhere
+pub side-area : (s : Side) → T (all (within 1 12) (area (num s)))
 side-area right = tt
 side-area left = tt
+
+pub missed-in : (s : Side) → T (within 1 12 (missed (num s)))
+missed-in right = tt
+missed-in left = tt
+
+pub in-everywhere : (z : ℕ) → T (within 1 13 z) → isIn z everywhere ≡ true
+in-everywhere = each-zone (λ y. isIn y everywhere ≡ true) (refl, (refl, (refl, (refl, (refl, (refl, (refl, (refl, (refl, (refl, (refl, (refl, (refl, tt)))))))))))))
 
 module _ (f : Side) (line : List Placed) (runway : List Aircraft) (legs : Legs) where
   abbrev F : Field
@@ -160,7 +168,7 @@ pub total-add : (g h : ℕ → ℕ) (zs : List ℕ) → total (λ z. g z + h z) 
 total-add g h [] = refl
 total-add g h (z ∷ zs) = let e = total-add g h zs in omega arith
 
-total-none : (zs : List ℕ) → total (λ z. 0) zs ≡ 0
+pub total-none : (zs : List ℕ) → total (λ z. 0) zs ≡ 0
 total-none [] = refl
 total-none (z ∷ zs) = let e = total-none zs in omega arith
 

@@ -17,12 +17,12 @@ use Rattle.field.specs.Find.{aircraftAt}
 use Rattle.field.specs.Bounds.{allDifferent}
 use Rattle.field.specs.Edits.{withTail, withZone, withSequence, appended, removed}
 use Rattle.request.specs.declared.Request.{Request}
-use Rattle.order.specs.Model.{Side, right, left, opp, num, nextFix, firstFix}
+use Rattle.order.specs.Model.{Side, opp, num, nextFix, firstFix}
 use Rattle.rules.specs.Kinds.{headGone, tailPut, fixTaken, entered, fixAfterMiss, missedApproach}
 use Rattle.field.proofs.Tests.{if-false, flip-eqb}
 use Rattle.rules.proofs.Lists.{map-append}
 use Rattle.rules.proofs.Line.{zoneFor, tail-for, sequenceFor, order-for, appended-for, fieldBy, zone-by, Placed, zonesIn, numbersOf, inside, zonesOf, fieldOf}
-use Rattle.rules.proofs.Counted.{lower, not-13, Alternates}
+use Rattle.rules.proofs.Counted.{lower, not-13, Alternates, missed-in}
 use Rattle.field.proofs.FindLaws.{numbers}
 use Rattle.rules.proofs.Located.{inside-at, inside-other, head-there}
 use Rattle.rules.proofs.Orderly.{inside-le, length-numbers, opposite-num}
@@ -118,10 +118,6 @@ module _ (f : Side) (e : Placed) (b : List Placed) (runway : List Aircraft) (leg
   -- the one that has missed its approach
   abbrev pub misser : Placed
   misser = record { aircraft = withFix (withProgress (e .aircraft) (progressInto (missed (num f)))) (num (entryFix f (opp f) (zonesIn b))); zone = missed (num f) }
-
-  missed-in : (s : Side) → T (within 1 12 (missed (num s)))
-  missed-in right = tt
-  missed-in left = tt
 
   head-is : aircraftAt F₁₀ 12 1 ≡ e .aircraft
   head-is = ap (λ (w : ℕ). aircraftAt F₁₀ w 1) (sym h) ∙ head-there f [] e b runway legs d t refl

@@ -16,19 +16,20 @@ use Rattle.field.specs.declared.Field.{Field}
 use Rattle.field.specs.Boxes.{isSide, opposite, at3000, at2000, lateral, missed, zonesFrom, area, operation, everywhere, zoneOf, inZone, orderOf}
 use Rattle.field.specs.Counts.{isIn, total, howMany, inOperation, inArea}
 use Rattle.field.specs.Find.{placeOf, fixOf}
-use Rattle.field.specs.Bounds.{every, isEmpty, boundA, boundB, lateralRule, boundC, boundD, numbersIn, allDifferent, numbersDiffer, sequenceExact, finalFirst, zoneKept, sequenceKept, boundE, alternate, boundF, fitsZone, legalLegs, boundG, withinBounds}
+use Rattle.field.specs.Bounds.{every, isEmpty, boundA, boundB, lateralRule, boundC, numbersIn, allDifferent, numbersDiffer, sequenceExact, finalFirst, zoneKept, sequenceKept, boundE, alternate, boundF, fitsZone, legalLegs, boundG, withinBounds}
 use Rattle.order.specs.Model.{Side, right, left, opp, num, nextFix, count, one, ofArea, number, all, chain, okay}
 use Rattle.order.specs.Model as model
 use Rattle.rules.specs.Reason.{Listed, along, those, isInArea, neverFalls, eachAmong, fromLanding, approachOrder, heightIn, areaOrder, hasRoom, roomToMiss, lateralFree, lateralEntry, Reason, hasPlaces}
-use Rattle.field.proofs.Tests.{passed, pass, decided, each-zone}
+use Rattle.field.proofs.Lists.{every-listed}
+use Rattle.field.proofs.BoundLaws.{Within, within-each}
+use Rattle.field.proofs.Tests.{passed, pass, decided}
 use Rattle.rules.proofs.Line.{sequenceFor, zoneFor, Placed, zonesIn, numbersOf, inside, fieldOf}
-use Rattle.rules.proofs.Counted.{length-inside, Alternates, total-same, total-add, lower}
+use Rattle.rules.proofs.Counted.{length-inside, Alternates, total-same, total-add, lower, side-area, in-everywhere}
 use Rattle.field.proofs.FindLaws.{numbers}
 use Rattle.rules.proofs.Leaders.{nonzero}
 use Rattle.rules.proofs.Members.{numbers-total, count-append, count-absent, different-count, count-different, nonzero-count, count-nonzero}
 use Rattle.rules.proofs.Orderly.{Orderly, opposite-num}
 use Rattle.rules.proofs.AlongLine.{seen, each-operation, room-same}
-use Rattle.rules.proofs.Room.{every-listed}
 use Rattle.rules.proofs.Stands.{zone-is, sequence-is, lookedUp, lineOf, found-one, line-all, line-numbers, line-seen, queue-is, stands-for}
 use Rattle.rules.proofs.FromReason.{count-in, Facts, chain-from}
 
@@ -73,36 +74,6 @@ alternates-back f s (n ∷ m ∷ ns) t e =
     let r = alternates-back f (opp s) (m ∷ ns) (and-r next later t) (eqb→eq (fixOf f m) (opposite (fixOf f n)) (and-l next later t) ∙ ap opposite e ∙ opposite-num s) in
     ((e, r .0), r .1)
 
--- ---- the bounds, one by one
-record Seven (f : Field) : Type 0 where
-  a : T (boundA f)
-  b : T (boundB f)
-  c : T (boundC f)
-  e : T (boundE f)
-  f′ : T (boundF f)
-  g : T (boundG f)
-
-seven : (f : Field) → T (withinBounds f) → Seven f
-unfolding withinBounds
-seven f t =
-    let ab = boundA f && boundB f in
-    let abc = ab && boundC f in
-    let abcd = abc && boundD f in
-    let abcde = abcd && boundE f in
-    let abcdef = abcde && boundF f in
-    let t₁ = and-l abcdef (boundG f) t in
-    let t₂ = and-l abcde (boundF f) t₁ in
-    let t₃ = and-l abc (boundD f) (and-l abcd (boundE f) t₂) in
-    let t₄ = and-l ab (boundC f) t₃ in
-    record {
-      a = and-l (boundA f) (boundB f) t₄;
-      b = and-r (boundA f) (boundB f) t₄;
-      c = and-r ab (boundC f) t₃;
-      e = and-r abcd (boundE f) t₂;
-      f′ = and-r abcde (boundF f) t₁;
-      g = and-r abcdef (boundG f) t;
-    }
-
 -- bounds e and g, part by part
 record Parts (f : Field) : Type 0 where
   nonzeros : T (every nonzero (numbersIn f everywhere))
@@ -115,14 +86,14 @@ record Parts (f : Field) : Type 0 where
   next-side : T (isSide (f .next))
   legal : T (legalLegs (f .legs))
 
-parts : (f : Field) → Seven f → Parts f
+parts : (f : Field) → Within f → Parts f
 unfolding boundE boundG numbersDiffer sequenceExact
 parts f s =
     let ns = orderOf (f .sequence) in
     let zs = every (λ z. zoneKept (zoneOf f z)) everywhere in
     let nd = numbersDiffer f in
     let se = sequenceExact f in
-    let e₁ = and-l (nd && se && finalFirst f && zs) (sequenceKept (f .sequence)) (s .e) in
+    let e₁ = and-l (nd && se && finalFirst f && zs) (sequenceKept (f .sequence)) (s .bound-e) in
     let e₂ = and-l (nd && se) (finalFirst f) (and-l (nd && se && finalFirst f) zs e₁) in
     let nz = every nonzero (numbersIn f everywhere) in
     let ad = allDifferent (numbersIn f everywhere) in
@@ -130,17 +101,17 @@ parts f s =
     let sn = every (λ n. isIn n (numbersIn f operation)) ns in
     let so = every (λ n. isIn n ns) (numbersIn f operation) in
     let fz = every (λ z. every (fitsZone (f .legs) z) (inZone f z)) everywhere in
-    let g₁ = and-l (fz && isSide (f .next)) (legalLegs (f .legs)) (s .g) in
+    let g₁ = and-l (fz && isSide (f .next)) (legalLegs (f .legs)) (s .bound-g) in
     record {
       nonzeros = and-l nz ad (and-l nd se e₂);
       different = and-r nz ad (and-l nd se e₂);
       sequence-different = and-l sd sn (and-l (sd && sn) so (and-r nd se e₂));
       named = and-r sd sn (and-l (sd && sn) so (and-r nd se e₂));
       kept = and-r (nd && se && finalFirst f) zs e₁;
-      sequence-kept = and-r (nd && se && finalFirst f && zs) (sequenceKept (f .sequence)) (s .e);
+      sequence-kept = and-r (nd && se && finalFirst f && zs) (sequenceKept (f .sequence)) (s .bound-e);
       fit = and-l fz (isSide (f .next)) g₁;
       next-side = and-r fz (isSide (f .next)) g₁;
-      legal = and-r (fz && isSide (f .next)) (legalLegs (f .legs)) (s .g);
+      legal = and-r (fz && isSide (f .next)) (legalLegs (f .legs)) (s .bound-g);
     }
 
 -- a field that an orderly line stands for
@@ -152,7 +123,7 @@ pub record OrderlyField (f : Field) : Type 0 where
   pub is : f ≡ fieldOf first line runway legs
   pub orderly : Orderly first line runway legs
 
-module _ (f : Field) (h : T (hasPlaces f)) (s : Seven f) (p : Parts f) (c : Reason f) where
+module _ (f : Field) (h : T (hasPlaces f)) (s : Within f) (p : Parts f) (c : Reason f) where
   abbrev ns : List ℕ
   ns = orderOf (f .sequence)
 
@@ -179,9 +150,6 @@ module _ (f : Field) (h : T (hasPlaces f)) (s : Seven f) (p : Parts f) (c : Reas
       let z = eqb (length (f .zones)) 13 in
       let a = every (λ z. eqb (length (zoneOf f z .aircraft)) 4) everywhere in
       eqb→eq (length (f .sequence .numbers)) 4 (and-r (z && a) (eqb (length (f .sequence .numbers)) 4) h)
-
-  in-everywhere : (z : ℕ) → T (within 1 13 z) → isIn z everywhere ≡ true
-  in-everywhere = each-zone (λ y. isIn y everywhere ≡ true) (refl, (refl, (refl, (refl, (refl, (refl, (refl, (refl, (refl, (refl, (refl, (refl, (refl, tt)))))))))))))
 
   zones-kept : (z : ℕ) → T (within 1 13 z) → zoneOf f z ≡ zoneFor (inZone f z)
   unfolding inZone
@@ -244,7 +212,7 @@ module _ (f : Field) (h : T (hasPlaces f)) (s : Seven f) (p : Parts f) (c : Reas
 
   turns : Alternates firstSide line × (f .next ≡ num (nextFix firstSide (zonesIn line)))
   unfolding boundF
-  turns = alternates-back f firstSide ns (s .f′) (first-known .1)
+  turns = alternates-back f firstSide ns (s .bound-f) (first-known .1)
 
   is-line : f ≡ fieldOf firstSide line (inZone f 13) (f .legs)
   is-line = stands-for f firstSide thirteen zones-kept queues (order-kept ∙ ap sequenceFor (sym order-numbers)) (turns .1)
@@ -272,7 +240,7 @@ module _ (f : Field) (h : T (hasPlaces f)) (s : Seven f) (p : Parts f) (c : Reas
       let l = leb→le 1 z (and-l (leb 1 z) (leb z 6) t) in
       let u = leb→le z 6 (and-r (leb 1 z) (leb z 6) t) in
       let v : T (within 1 12 z) = and-i (leb 1 z) (leb z 12) (and-l (leb 1 z) (leb z 6) t) (le→leb z 12 (omega arith)) in
-      let k = leb→le (howMany f z) 1 (every-listed (λ z. leb (howMany f z) 1) (zonesFrom 1 6) z (and-l q (lateralRule f 1) (and-l (q && lateralRule f 1) (lateralRule f 2) (s .c))) (low-six z v (and-r (leb 1 z) (leb z 6) t))) in
+      let k = leb→le (howMany f z) 1 (every-listed (λ z. leb (howMany f z) 1) (zonesFrom 1 6) z (and-l q (lateralRule f 1) (and-l (q && lateralRule f 1) (lateralRule f 2) (s .bound-c))) (low-six z v (and-r (leb 1 z) (leb z 6) t))) in
       let e = counts z v in
       omega arith
     where
@@ -285,18 +253,14 @@ module _ (f : Field) (h : T (hasPlaces f)) (s : Seven f) (p : Parts f) (c : Reas
   area-of : (d : Side) → number (ofArea d) (zonesIn line) ≡ inArea f (num d)
   unfolding inArea
   area-of d = area-total d (zonesIn line) ins ∙ sym (total-same (howMany f) (count (zonesIn line)) (area (num d)) (side-area d) counts)
-    where
-      side-area : (d : Side) → T (all (within 1 12) (area (num d)))
-      side-area right = tt
-      side-area left = tt
 
   crowd : (d : Side) → number (ofArea d) (zonesIn line) ≤ 2
   unfolding boundB
   crowd d = let e = area-of d in let k = two d in omega arith
     where
       two : (d : Side) → inArea f (num d) ≤ 2
-      two right = leb→le (inArea f 1) 2 (and-l (leb (inArea f 1) 2) (leb (inArea f 2) 2) (s .b))
-      two left = leb→le (inArea f 2) 2 (and-r (leb (inArea f 1) 2) (leb (inArea f 2) 2) (s .b))
+      two right = leb→le (inArea f 1) 2 (and-l (leb (inArea f 1) 2) (leb (inArea f 2) 2) (s .bound-b))
+      two left = leb→le (inArea f 2) 2 (and-r (leb (inArea f 1) 2) (leb (inArea f 2) 2) (s .bound-b))
 
   -- with an occupied lateral zone the area has nobody else
   alone-of : (d : Side) → T (lateralRule f (num d)) → T (within 1 12 (lateral (num d))) → T (within 1 6 (lateral (num d))) → 1 ≤ count (zonesIn line) (lateral (num d)) → number (ofArea d) (zonesIn line) ≤ 1
@@ -318,8 +282,8 @@ module _ (f : Field) (h : T (hasPlaces f)) (s : Seven f) (p : Parts f) (c : Reas
 
   alone : (d : Side) → 1 ≤ count (zonesIn line) (lateral (num d)) → number (ofArea d) (zonesIn line) ≤ 1
   unfolding boundC
-  alone right = alone-of right (let q = every (λ z. leb (howMany f z) 1) (zonesFrom 1 6) in and-r q (lateralRule f 1) (and-l (q && lateralRule f 1) (lateralRule f 2) (s .c))) tt tt
-  alone left = alone-of left (let q = every (λ z. leb (howMany f z) 1) (zonesFrom 1 6) in and-r (q && lateralRule f 1) (lateralRule f 2) (s .c)) tt tt
+  alone right = alone-of right (let q = every (λ z. leb (howMany f z) 1) (zonesFrom 1 6) in and-r q (lateralRule f 1) (and-l (q && lateralRule f 1) (lateralRule f 2) (s .bound-c))) tt tt
+  alone left = alone-of left (let q = every (λ z. leb (howMany f z) 1) (zonesFrom 1 6) in and-r (q && lateralRule f 1) (lateralRule f 2) (s .bound-c)) tt tt
 
   -- ---- the reason, of the line
   seen-line : along f ≡ map seen line
@@ -365,13 +329,13 @@ module _ (f : Field) (h : T (hasPlaces f)) (s : Seven f) (p : Parts f) (c : Reas
         different = subst (λ (l : List ℕ). T (allDifferent l)) same-numbers (different-count (ns ++ rw) (λ n. let a = fewer n in let b = count-different (numbersIn f everywhere) (p .different) n in omega arith));
         fit-line = line-all f (λ (e : Placed). fitsZone (f .legs) (e .zone) (e .aircraft)) fits-one ns (p .named);
         fit-runway = every-listed (λ z. every (fitsZone (f .legs) z) (inZone f z)) everywhere 13 (p .fit) refl;
-        one-landed = leb→le (length (inZone f 13)) 1 (and-r (leb (inOperation f) 4) (leb (howMany f 13) 1) (s .a));
+        one-landed = leb→le (length (inZone f 13)) 1 (and-r (leb (inOperation f) 4) (leb (howMany f 13) 1) (s .bound-a));
         legal = p .legal;
       }
 
 -- any field with all its places, within the bounds and with the reason, is one that an orderly line stands for
 pub reason-orderly : (f : Field) → T (hasPlaces f) → T (withinBounds f) → Reason f → OrderlyField f
 reason-orderly f h t c =
-    let s = seven f t in
+    let s = within-each f t in
     let p = parts f s in
     record { first = first-known f h s p c .0; line = lineOf f; runway = inZone f 13; legs = f .legs; is = is-line f h s p c; orderly = is-orderly f h s p c }

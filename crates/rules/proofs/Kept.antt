@@ -7,7 +7,6 @@ use Prim.Native.Nat.{ℕ, _≤_}
 use native.Mathlib.Omega.{arith}
 use lib.Dec.{T, leb, leb→le, le→leb}
 use lib.Ieee.Fits.{and-i, and-l, and-r}
-use lib.Ieee.{Float}
 use Rattle.request.specs.Input.{within}
 use Rattle.leg.specs.Progress.{whole, legalLeg, withinLeg, progressAfter}
 use Rattle.leg.specs.Ticks.{Between}
@@ -25,7 +24,7 @@ use Rattle.order.proofs.Facts.{okay-zones}
 use Rattle.field.proofs.Tests.{pass, failed, decided, if-true, if-false}
 use Rattle.field.proofs.Lists.{absent-both}
 use Rattle.rules.proofs.Lists.{map-append, every-append, every-left, every-right, different-with}
-use Rattle.field.proofs.TickLaws.{leg-legal}
+use Rattle.field.proofs.TickLaws.{leg-legal, waiting-kept}
 use Rattle.rules.proofs.Line.{Placed, zonesIn, numbersOf}
 use Rattle.rules.proofs.Counted.{Alternates}
 use Rattle.field.proofs.FindLaws.{numbers}
@@ -194,10 +193,6 @@ come s f line e runway legs o k h z d fit =
 
 -- ---- a tick
 
-flying-not-waiting : (p : Progress) (speed amount : ℕ) (leg : Float) → isWaiting (progressAfter p speed amount leg) ≡ isWaiting p
-flying-not-waiting Waiting speed amount leg = refl
-flying-not-waiting (Flying miles) speed amount leg = refl
-
 ticked-of : (legs : Legs) (z amount : ℕ) (a : Aircraft) → T (personFits a) → T (progressFits legs z (progressAfter (a .progress) (a .speed) amount (legOf legs z)))
     → T (fitsZone legs z (tickedAircraft (legOf legs z) amount a))
 unfolding tickedAircraft withProgress
@@ -221,7 +216,7 @@ ticked-fits legs l amount al ah e t h = go (decided (isFlyingZone (e .zone)))
         ticked-of legs (e .zone) amount a (person-of legs (e .zone) a h)
         (subst T (sym (if-true (not (isWaiting q) && withinLeg q g) (isWaiting q) b))
         (and-i (not (isWaiting q)) (withinLeg q g)
-        (subst (λ (c : Bool). T (not c)) (sym (flying-not-waiting (a .progress) (a .speed) amount g)) (and-l (not (isWaiting (a .progress))) (withinLeg (a .progress) g) p))
+        (subst (λ (c : Bool). T (not c)) (sym (waiting-kept (a .progress) (a .speed) amount g)) (and-l (not (isWaiting (a .progress))) (withinLeg (a .progress) g) p))
         (within-kept (a .progress) g (leg-legal legs l (e .zone) (pass b)) speeds (record { least = al; most = ah }) (and-r (not (isWaiting (a .progress))) (withinLeg (a .progress) g) p))))
 
     go : (isFlyingZone (e .zone) ≡ true) ⊎ (isFlyingZone (e .zone) ≡ false) → T (placedFits legs (tickPlaced legs amount e))

@@ -2,7 +2,7 @@
 -- Assumes nothing.
 use mathlib.Core.Path.{_≡_, refl, sym, ap, _∙_, subst}
 use mathlib.Core.Logic.{_⊎_, inl, inr}
-use mathlib.Core.Bool.{Bool, true, false, cond, _&&_, _||_, false≢true}
+use mathlib.Core.Bool.{Bool, true, false, cond, _&&_, _||_}
 use mathlib.Core.List.{List, [], _∷_, map}
 use Prim.Native.Nat.{ℕ, suc, _+_, _≤_}
 use native.Mathlib.Omega.{arith}
@@ -17,11 +17,13 @@ use Rattle.field.specs.declared.Place.{Place}
 use Rattle.field.specs.Boxes.{isSide, area, everywhere, inZone, orderOf, nobody}
 use Rattle.field.specs.Counts.{isIn, total, howMany, inArea}
 use Rattle.field.specs.Find.{placeFrom, nowhere, findIn, placeOf, aircraftAt, fixOf}
-use Rattle.field.specs.Bounds.{every, allDifferent, fitsZone, legalLegs, boundA, boundB, boundC, boundD, boundE, boundF, boundG, withinBounds}
+use Rattle.field.specs.Bounds.{every, allDifferent, fitsZone, legalLegs, boundG, withinBounds}
 use Rattle.order.specs.Model.{count, one}
 use Rattle.rules.specs.Reason.{Listed, listed, along, those, isInZone, isInArea, neverFalls, eachAmong, fromLanding, approachOrder, hasRoom, roomToMiss, Reason, RoomAtSide}
+use Rattle.field.proofs.BoundLaws.{within-each}
+use Rattle.field.proofs.Lists.{every-listed}
 use Rattle.field.proofs.Tests.{decided, if-true, if-false, flip-eqb}
-use Rattle.rules.proofs.Counted.{total-add}
+use Rattle.rules.proofs.Counted.{total-add, total-none}
 use Rattle.rules.proofs.Members.{count-absent, count-different}
 
 -- ---- the aircraft at the head of final
@@ -131,11 +133,7 @@ in-one w zs t = elim (decided (isIn w zs)) [
     counted (z ∷ zs) = let h : one (eqb w z) ≡ one (eqb z w) = ap one (flip-eqb z w refl) in let r = counted zs in omega arith
 
 in-zones : (zs : List ℕ) → T (allDifferent zs) → (xs : List Listed) → total (λ z. length (those (isInZone z) xs)) zs ≤ length (those (λ a. isIn (a .zone) zs) xs)
-in-zones zs t [] = let n = none zs in omega arith
-  where
-    none : (ys : List ℕ) → total (λ z. 0) ys ≡ 0
-    none [] = refl
-    none (y ∷ ys) = let e = none ys in omega arith
+in-zones zs t [] = let n = total-none zs in omega arith
 in-zones zs t (x ∷ xs) =
     let e : total (λ z. length (those (isInZone z) (x ∷ xs))) zs ≡ total (λ z. one (eqb (x .zone) z) + length (those (isInZone z) xs)) zs = λ i. total (λ z. split (isInZone z) (eqb (x .zone) z) i) zs in
     let a = total-add (λ z. one (eqb (x .zone) z)) (λ z. length (those (isInZone z) xs)) zs in
@@ -149,23 +147,11 @@ in-zones zs t (x ∷ xs) =
     split p false = omega arith
 
 -- ---- bound g: the fix of an aircraft is a side
-pub every-listed : (p : ℕ → Bool) (zs : List ℕ) (w : ℕ) → T (every p zs) → isIn w zs ≡ true → T (p w)
-every-listed p [] w t i = absurd (false≢true i)
-every-listed p (z ∷ zs) w t i = go (decided (eqb z w)) (every-listed p zs w (and-r (p z) (every p zs) t))
-  where
-    go : (eqb z w ≡ true) ⊎ (eqb z w ≡ false) → (isIn w zs ≡ true → T (p w)) → T (p w)
-    go (inl e) later = subst (λ (y : ℕ). T (p y)) (eqb-true z w e) (and-l (p z) (every p zs) t)
-    go (inr e) later = later (sym (ap (λ (b : Bool). b || isIn w zs) e) ∙ i)
-
-g-of : (f : Field) → T (withinBounds f) → T (boundG f)
-unfolding withinBounds
-g-of f t = and-r (boundA f && boundB f && boundC f && boundD f && boundE f && boundF f) (boundG f) t
-
 fix-side : (f : Field) → T (withinBounds f) → (x : Aircraft) (rest : List Aircraft) → inZone f 12 ≡ x ∷ rest → T (isSide (x .fix))
 unfolding boundG fitsZone
 fix-side f t x rest e =
     let zones = every (λ z. every (fitsZone (f .legs) z) (inZone f z)) everywhere in
-    let fits = and-l zones (isSide (f .next)) (and-l (zones && isSide (f .next)) (legalLegs (f .legs)) (g-of f t)) in
+    let fits = and-l zones (isSide (f .next)) (and-l (zones && isSide (f .next)) (legalLegs (f .legs)) (within-each f t .bound-g)) in
     let all-12 = subst (λ (q : List Aircraft). T (every (fitsZone (f .legs) 12) q)) e (every-listed (λ z. every (fitsZone (f .legs) z) (inZone f z)) everywhere 12 fits refl) in
     let one-12 = and-l (fitsZone (f .legs) 12 x) (every (fitsZone (f .legs) 12) rest) all-12 in
     and-first (isSide (x .fix)) _ _ one-12

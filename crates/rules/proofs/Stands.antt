@@ -25,11 +25,11 @@ use Rattle.field.specs.Find.{placeFrom, findIn, placeOf, aircraftAt, fixOf}
 use Rattle.field.specs.Bounds.{every, numbersIn, allDifferent, isWaiting, isNobody, zoneKept, sequenceKept}
 use Rattle.order.specs.Model.{Side, num, nextFix, count, one}
 use Rattle.rules.specs.Reason.{Listed, listed, along, those, isInZone, QueueAgrees}
-use Rattle.field.proofs.Tests.{passed, decided, if-true, if-false, same, each-zone}
+use Rattle.field.proofs.Tests.{passed, decided, if-true, if-false, same}
 use Rattle.field.proofs.Lists.{in-append}
 use Rattle.rules.proofs.Lists.{map-append}
 use Rattle.rules.proofs.Line.{zoneFor, sequenceFor, fieldBy, by-zones, Placed, zonesIn, numbersOf, inside, zonesOf, fieldOf}
-use Rattle.rules.proofs.Counted.{lower, not-13}
+use Rattle.rules.proofs.Counted.{lower, not-13, in-everywhere}
 use Rattle.field.proofs.FindLaws.{numbers, no-place, place-at, at}
 use Rattle.rules.proofs.Located.{find-at, zone-split}
 use Rattle.rules.proofs.Members.{numbers-total, count-append, absent-count, count-different}
@@ -219,9 +219,6 @@ module _ (f : Field) where
     once : (n : ℕ) → total (λ z. count (numbers (inZone f z)) n) everywhere ≤ 1
     once n = let a = numbers-total f n everywhere in let b = count-different (numbersIn f everywhere) d n in omega arith
 
-    listed-zone : (z : ℕ) → T (within 1 13 z) → isIn z everywhere ≡ true
-    listed-zone = each-zone (λ y. isIn y everywhere ≡ true) (refl, (refl, (refl, (refl, (refl, (refl, (refl, (refl, (refl, (refl, (refl, (refl, (refl, tt)))))))))))))
-
     in-queue : (z : ℕ) → T (within 1 13 z) → (pre : List Aircraft) (x : Aircraft) (post : List Aircraft) → inZone f z ≡ pre ++ x ∷ post → placeOf f (x .number) ≡ at z (suc (length pre))
     unfolding placeOf
     in-queue z t pre x post e =
@@ -231,11 +228,11 @@ module _ (f : Field) where
         ap (λ (q : List Aircraft). count (numbers q) n) e ∙ ap (λ (l : List ℕ). count l n) (map-append (λ (a : Aircraft). a .number) pre (x ∷ post)) ∙ count-append (numbers pre) (n ∷ numbers post) n in
         let one-here : one (eqb n n) ≡ 1 = if-true 1 0 (same n) in
         let all-once = once n in
-        let upper = one-in-total g everywhere z (listed-zone z t) in
+        let upper = one-in-total g everywhere z (in-everywhere z t) in
         let before : isIn n (numbers pre) ≡ false = absent-count (numbers pre) n (omega arith) in
-        find-at f n everywhere z (length pre) tt (listed-zone z t)
+        find-at f n everywhere z (length pre) tt (in-everywhere z t)
         (ap (placeFrom 1 n) e ∙ place-at 1 pre x post before ∙ omega arith)
-        (λ y u h. no-place 1 n (inZone f y) (absent-count (numbers (inZone f y)) n (let both = two-in-total g everywhere y z (listed-zone y u) (listed-zone z t) h in omega arith)))
+        (λ y u h. no-place 1 n (inZone f y) (absent-count (numbers (inZone f y)) n (let both = two-in-total g everywhere y z (in-everywhere y u) (in-everywhere z t) h in omega arith)))
 
     queue-found : (z : ℕ) → T (within 1 13 z) → (pre post : List Aircraft) → inZone f z ≡ pre ++ post → post ≡ map (λ n. lookedUp f n .aircraft) (numbers post)
     unfolding aircraftAt

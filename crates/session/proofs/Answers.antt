@@ -18,12 +18,13 @@ use Rattle.field.specs.declared.Field.{Field}
 use Rattle.field.specs.declared.Place.{Place}
 use Rattle.field.specs.Boxes.{isSide, isFlyingZone, inZone, everywhere, nobody, legOf}
 use Rattle.field.specs.Find.{placeFrom, findIn, placeOf, aircraftAt, fixOf}
-use Rattle.field.specs.Bounds.{every, isWaiting, fitsZone, legalLegs, boundA, boundB, boundC, boundD, boundE, boundF, boundG, withinBounds}
+use Rattle.field.specs.Bounds.{every, isWaiting, fitsZone, legalLegs, boundG, withinBounds}
 use Rattle.rules.specs.declared.Answer.{Answer}
 use Rattle.rules.specs.declared.Stepped.{Stepped}
 use Rattle.rules.specs.Kinds.{heldAlong}
 use Rattle.rules.specs.Step.{checksOf, effectOf, numberOf, numberAndZeros, acceptance, answerOf, stepOf}
 use Rattle.field.proofs.Tests.{passed, decided}
+use Rattle.field.proofs.BoundLaws.{within-each}
 use Rattle.field.proofs.FindLaws.{place-within}
 use Rattle.rules.proofs.Outcomes.{number-is, field-accepted}
 use Rattle.rules.proofs.Refusals.{accepted-within}
@@ -94,9 +95,9 @@ module _ (f : Field) (n : ℕ) where
       go false h = fix-of (f .legs) z (inZone f z) (placeFrom 1 n (inZone f z)) (and-l (every (fitsZone (f .legs) z) (inZone f z)) (allFit zs) t)
 
   fix-low : T (withinBounds f) → fixOf f n ≤ 2
-  unfolding fixOf placeOf withinBounds boundG
+  unfolding fixOf placeOf boundG
   fix-low t =
-      let g = and-r (boundA f && boundB f && boundC f && boundD f && boundE f && boundF f) (boundG f) t in
+      let g = within-each f t .bound-g in
       fix-in everywhere (and-l (allFit everywhere) (isSide (f .next)) (and-l (allFit everywhere && isSide (f .next)) (legalLegs (f .legs)) g))
 
 -- ---- the answer
