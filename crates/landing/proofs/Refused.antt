@@ -1,6 +1,6 @@
 -- The first need that is not met, of a list of needs that goes on after others. Assumes nothing.
 use mathlib.Core.Path.{_≡_, refl, sym, ap, _∙_}
-use mathlib.Core.List.{List, [], _∷_, _++_}
+use mathlib.Core.List.{List, [], _∷_}
 use mathlib.Core.Bool.{Bool, true, false, cond}
 use Prim.Native.Nat.{ℕ}
 use native.Mathlib.Nat.{ne-of-gt}
@@ -21,14 +21,6 @@ refused-or : (cs : List (ℕ × Bool)) (x : ℕ) → Numbered cs → refusedOr c
 refused-or [] x k = refl
 refused-or ((n, true) ∷ cs) x k = refused-or cs x (k .1)
 refused-or ((n, false) ∷ cs) x k = sym (ap (λ (t : Bool). cond t x n) (ne-eqb n 0 (ne-of-gt (leb→le 1 n (k .0)))))
-
--- of two lists, the second where the first is met
-pub refused-append : (cs ds : List (ℕ × Bool)) → Numbered cs → firstRefused (cs ++ ds) ≡ cond (eqb (firstRefused cs) 0) (firstRefused ds) (firstRefused cs)
-refused-append cs ds k = go cs ∙ refused-or cs (firstRefused ds) k
-  where
-    go : (cs : List (ℕ × Bool)) → firstRefused (cs ++ ds) ≡ refusedOr cs (firstRefused ds)
-    go [] = refl
-    go ((n, t) ∷ cs) = ap (λ (x : ℕ). cond t x n) (go cs)
 
 module _ (cs : List (ℕ × Bool)) (k : Numbered cs) {n : ℕ} (e : n ≡ firstRefused cs) where
   by-first : (x : ℕ) {b : Bool} → eqb n 0 ≡ b → refusedOr cs x ≡ cond b x n

@@ -11,8 +11,7 @@ use Rattle.field.specs.declared.Field.{Field}
 use Rattle.field.specs.Bounds.{withinBounds}
 use Rattle.rules.specs.Step.{checksOf, effectOf, numberOf, numberAndZeros, answerOf, stepOf}
 use Rattle.field.proofs.Tests.{if-false}
-use Rattle.rules.proofs.Checks.{checks-refuse}
-use Rattle.landing.proofs.Refused.{refused-append}
+use Rattle.rules.proofs.Checks.{refused-append, checks-refuse}
 
 module _ (f : Field) (r : Request) where
   -- the number, test by test

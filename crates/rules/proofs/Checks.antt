@@ -1,5 +1,5 @@
 -- The checks of each kind: what is known where none of them refuses, and which numbers they can answer. Assumes nothing.
-use mathlib.Core.Path.{_≡_, refl, ap}
+use mathlib.Core.Path.{_≡_, refl, sym, ap}
 use mathlib.Core.Logic.{_⊎_, inl, inr}
 use mathlib.Core.Bool.{Bool, true, false, cond, not, _&&_, _||_}
 use mathlib.Core.List.{List, [], _∷_, _++_}
@@ -8,6 +8,7 @@ use native.Mathlib.Nat.{ne-of-gt}
 use native.Mathlib.Omega.{arith}
 use lib.Dec.{T, leb, eqb, leb→le, le→leb}
 use lib.Ieee.Fits.{and-l, and-r}
+use borrow.Author.Tests.{ne-eqb}
 use Rattle.request.specs.Input.{within, firstRefused, kindAllowed, sideAllowed, numberAllowed, amountAllowed, inputNumber}
 use Rattle.request.specs.declared.Request.{Request}
 use Rattle.request.proofs.Tests.{Numbered}
@@ -16,6 +17,7 @@ use Rattle.field.specs.Boxes.{at3000, at2000, lateral, intermediate, finalAppro
 use Rattle.field.specs.Find.{placeOf, isFirst, leaderZone}
 use Rattle.field.specs.Bounds.{every, isEmpty}
 use Rattle.field.specs.Edits.{ticked}
+use Rattle.field.proofs.Tests.{if-false}
 use Rattle.rules.specs.Kinds.{zoneBefore, startsFrom, headChecks, flownOutCheck, mayApproach, baseFree, verticalChecks, lateralChecks, descendChecks, approachChecks, mergeChecks, flownOutChecks, landChecks, exitChecks, moved, headGone, entered, approached, landed, exited, missedApproach, held}
 use Rattle.rules.specs.Step.{byKind, checksOf, effectOf}
 
@@ -79,16 +81,11 @@ refused-in low high [] t = inl refl
 refused-in low high ((n, true) ∷ cs) t = refused-in low high cs (and-r (leb low n && leb n high) (numberedIn low high cs) t)
 refused-in low high ((n, false) ∷ cs) t = inr (and-l (leb low n && leb n high) (numberedIn low high cs) t)
 
--- one more check after those that all pass, and after one that fails
-pub refused-more : (cs : List (ℕ × Bool)) (more : List (ℕ × Bool)) → Numbered cs → firstRefused cs ≡ 0 → firstRefused (cs ++ more) ≡ firstRefused more
-refused-more [] more k e = refl
-refused-more ((n, true) ∷ cs) more k e = refused-more cs more (k .1) e
-refused-more ((n, false) ∷ cs) more k e = absurd (ne-of-gt (leb→le 1 n (k .0)) e)
-
-pub refused-first : (cs : List (ℕ × Bool)) (more : List (ℕ × Bool)) → (firstRefused cs ≡ 0 → ⊥) → firstRefused (cs ++ more) ≡ firstRefused cs
-refused-first [] more e = absurd (e refl)
-refused-first ((n, true) ∷ cs) more e = refused-first cs more e
-refused-first ((n, false) ∷ cs) more e = refl
+-- of two lists, the second where no check of the first fails
+pub refused-append : (cs ds : List (ℕ × Bool)) → Numbered cs → firstRefused (cs ++ ds) ≡ cond (eqb (firstRefused cs) 0) (firstRefused ds) (firstRefused cs)
+refused-append [] ds k = refl
+refused-append ((n, true) ∷ cs) ds k = refused-append cs ds (k .1)
+refused-append ((n, false) ∷ cs) ds k = sym (if-false (firstRefused ds) n (ne-eqb n 0 (ne-of-gt (leb→le 1 n (k .0)))))
 
 -- each kind's checks answer numbers from 11 to 24
 pub checks-numbered : (f : Field) (r : Request) → T (numberedIn 11 24 (checksOf f r))

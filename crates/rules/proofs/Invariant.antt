@@ -22,7 +22,7 @@ use Rattle.order.specs.Model as model
 use Rattle.rules.specs.Reason.{Listed, along, those, isInArea, neverFalls, eachAmong, fromLanding, approachOrder, heightIn, areaOrder, hasRoom, roomToMiss, lateralFree, lateralEntry, Reason, hasPlaces}
 use Rattle.field.proofs.Lists.{every-listed}
 use Rattle.field.proofs.BoundLaws.{Within, within-each}
-use Rattle.field.proofs.Tests.{passed, pass, decided}
+use Rattle.field.proofs.Tests.{passed, pass, decided, first-of}
 use Rattle.rules.proofs.Line.{sequenceFor, zoneFor, Placed, zonesIn, numbersOf, inside, fieldOf}
 use Rattle.rules.proofs.Counted.{length-inside, Alternates, total-same, total-add, lower, side-area, in-everywhere}
 use Rattle.field.proofs.FindLaws.{numbers}
@@ -187,9 +187,6 @@ module _ (f : Field) (h : T (hasPlaces f)) (s : Within f) (p : Parts f) (c : Rea
   fix-side : (n : ℕ) → T (isIn n (numbersIn f operation)) → T (isSide (fixOf f n))
   unfolding fitsZone fixOf
   fix-side n t = first-of (isSide (fixOf f n)) _ _ (fits-one n t)
-    where
-      first-of : (a b c : Bool) → T (a && b && c) → T a
-      first-of a b c t = and-l a b (and-l (a && b) c t)
 
   zones-in : (ms : List ℕ) → T (every (λ n. isIn n (numbersIn f operation)) ms) → T (all (within 1 12) (zonesIn (map (lookedUp f) ms)))
   zones-in [] t = tt

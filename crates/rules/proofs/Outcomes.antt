@@ -24,7 +24,7 @@ use Rattle.rules.proofs.Line.{Placed, fieldOf}
 use Rattle.rules.proofs.Orderly.{Orderly}
 use Rattle.rules.proofs.Within.{within-bounds}
 use Rattle.rules.proofs.After.{After}
-use Rattle.rules.proofs.Checks.{refused-in, refused-more, refused-first, checks-numbered, checks-refuse, input-numbered}
+use Rattle.rules.proofs.Checks.{refused-in, refused-append, checks-numbered, checks-refuse, input-numbered}
 use Rattle.rules.proofs.Steps.{accepted-after}
 
 -- ---- the step by its number, on any field
@@ -89,7 +89,8 @@ module _ (f : Side) (line : List Placed) (runway : List Aircraft) (legs : Legs) 
       record {
         number-0 =
             number-of i
-            ∙ refused-more (checksOf F r) ((25, withinBounds (effectOf F r)) ∷ []) (checks-refuse F r) c
+            ∙ refused-append (checksOf F r) ((25, withinBounds (effectOf F r)) ∷ []) (checks-refuse F r)
+            ∙ if-true (cond (withinBounds (effectOf F r)) 0 25) (firstRefused (checksOf F r)) (eq-eqb (firstRefused (checksOf F r)) 0 c)
             ∙ ap (λ (b : Bool). cond b 0 25) w;
         after = a;
       }
@@ -100,7 +101,7 @@ module _ (f : Side) (line : List Placed) (runway : List Aircraft) (legs : Legs) 
         | inl e ↦ inl (accepted-by i (eqb-true (firstRefused (checksOf F r)) 0 e))
         | inr e ↦
             let n = eqb-false (firstRefused (checksOf F r)) 0 e in
-            let q : numberOf F r ≡ firstRefused (checksOf F r) = number-of i ∙ refused-first (checksOf F r) ((25, withinBounds (effectOf F r)) ∷ []) n in
+            let q : numberOf F r ≡ firstRefused (checksOf F r) = number-of i ∙ refused-append (checksOf F r) ((25, withinBounds (effectOf F r)) ∷ []) (checks-refuse F r) ∙ if-false (cond (withinBounds (effectOf F r)) 0 25) (firstRefused (checksOf F r)) e in
             elim (refused-in 11 24 (checksOf F r) (checks-numbered F r)) [
               | inl z ↦ absurd (n z)
               | inr t ↦ inr (subst (λ (m : ℕ). T (refusable m)) (sym q) (or-right (within 1 4 (firstRefused (checksOf F r))) (within 11 24 (firstRefused (checksOf F r))) t))

@@ -22,7 +22,7 @@ use Rattle.order.specs.Model.{count, one}
 use Rattle.rules.specs.Reason.{Listed, listed, along, those, isInZone, isInArea, neverFalls, eachAmong, fromLanding, approachOrder, hasRoom, roomToMiss, Reason, RoomAtSide}
 use Rattle.field.proofs.BoundLaws.{within-each}
 use Rattle.field.proofs.Lists.{every-listed}
-use Rattle.field.proofs.Tests.{decided, if-true, if-false, flip-eqb}
+use Rattle.field.proofs.Tests.{decided, if-true, if-false, flip-eqb, first-of}
 use Rattle.rules.proofs.Counted.{total-add, total-none}
 use Rattle.rules.proofs.Members.{count-absent, count-different}
 
@@ -154,10 +154,7 @@ fix-side f t x rest e =
     let fits = and-l zones (isSide (f .next)) (and-l (zones && isSide (f .next)) (legalLegs (f .legs)) (within-each f t .bound-g)) in
     let all-12 = subst (λ (q : List Aircraft). T (every (fitsZone (f .legs) 12) q)) e (every-listed (λ z. every (fitsZone (f .legs) z) (inZone f z)) everywhere 12 fits refl) in
     let one-12 = and-l (fitsZone (f .legs) 12 x) (every (fitsZone (f .legs) 12) rest) all-12 in
-    and-first (isSide (x .fix)) _ _ one-12
-  where
-    and-first : (a b c : Bool) → T (a && b && c) → T a
-    and-first a b c t = and-l a b (and-l (a && b) c t)
+    first-of (isSide (x .fix)) _ _ one-12
 
 side-is : (P : ℕ → Type 0) → P 1 → P 2 → (s : ℕ) → T (isSide s) → P s
 unfolding isSide

@@ -1,7 +1,7 @@
 -- How large the parts of an answer are: its number, zone and fix. Assumes nothing.
 use mathlib.Core.Path.{_≡_, refl, sym, ap, _∙_, subst}
 use mathlib.Core.Logic.{inl, inr}
-use mathlib.Core.Bool.{Bool, true, false, cond, not, _&&_, _||_}
+use mathlib.Core.Bool.{Bool, true, false, cond, _&&_, _||_}
 use mathlib.Core.List.{List, [], _∷_, _++_}
 use Prim.Native.Nat.{ℕ, zero, suc, _≤_}
 use native.Mathlib.Omega.{arith}
@@ -9,21 +9,20 @@ use lib.Dec.{T, leb, eqb, leb→le}
 use lib.ListN.{getD}
 use lib.Ieee.Fits.{and-l, and-r}
 use borrow.Author.Tests.{eqb-true}
-use Rattle.leg.specs.Progress.{withinLeg}
 use Rattle.request.specs.Input.{firstRefused, inputNumber}
 use Rattle.request.specs.declared.Request.{Request}
 use Rattle.field.specs.declared.Aircraft.{Aircraft}
 use Rattle.field.specs.declared.Legs.{Legs}
 use Rattle.field.specs.declared.Field.{Field}
 use Rattle.field.specs.declared.Place.{Place}
-use Rattle.field.specs.Boxes.{isSide, isFlyingZone, inZone, everywhere, nobody, legOf}
+use Rattle.field.specs.Boxes.{isSide, inZone, everywhere, nobody}
 use Rattle.field.specs.Find.{placeFrom, findIn, placeOf, aircraftAt, fixOf}
-use Rattle.field.specs.Bounds.{every, isWaiting, fitsZone, legalLegs, boundG, withinBounds}
+use Rattle.field.specs.Bounds.{every, fitsZone, legalLegs, boundG, withinBounds}
 use Rattle.rules.specs.declared.Answer.{Answer}
 use Rattle.rules.specs.declared.Stepped.{Stepped}
 use Rattle.rules.specs.Kinds.{heldAlong}
 use Rattle.rules.specs.Step.{checksOf, effectOf, numberOf, numberAndZeros, acceptance, answerOf, stepOf}
-use Rattle.field.proofs.Tests.{passed, decided}
+use Rattle.field.proofs.Tests.{passed, decided, first-of}
 use Rattle.field.proofs.BoundLaws.{within-each}
 use Rattle.field.proofs.FindLaws.{place-within}
 use Rattle.rules.proofs.Outcomes.{number-is, field-accepted}
@@ -63,11 +62,7 @@ side-low s t = elim (decided (eqb s 1)) [ inl e ↦ (let h = eqb-true s 1 e in o
 module _ (legs : Legs) (z : ℕ) where
   fits-fix : (a : Aircraft) → T (fitsZone legs z a) → a .fix ≤ 2
   unfolding fitsZone
-  fits-fix a t =
-      let s = isSide (a .fix) in
-      let v = leb 1 (a .speed) && leb (a .speed) 512 in
-      let p = cond (isFlyingZone z) (not (isWaiting (a .progress)) && withinLeg (a .progress) (legOf legs z)) (isWaiting (a .progress)) in
-      side-low (a .fix) (and-l s v (and-l (s && v) p t))
+  fits-fix a t = side-low (a .fix) (first-of (isSide (a .fix)) _ _ t)
 
   fix-at : (qs : List Aircraft) (i : ℕ) → T (every (fitsZone legs z) qs) → getD qs i nobody .fix ≤ 2
   fix-at [] i t = omega arith
