@@ -9,8 +9,8 @@ use lib.ListN.{length}
 use lib.Ieee.Fits.{and-i}
 use Rattle.request.specs.Input.{within}
 use Rattle.field.specs.Boxes.{opposite, sideOf, at3000, at2000, lateral, missed, area, operation, zonesFrom}
-use Rattle.field.specs.Counts.{total}
-use Rattle.field.specs.Bounds.{every}
+use Rattle.questions.specs.Counts.{total}
+use Rattle.field.specs.Lists.{every}
 use Rattle.order.specs.Model.{Side, right, left, opp, num, count, countFix, free, isNil, Kind, descend, approaching, merge, final, hold, needs, target, mayEnter, mayEnterLateral, firstFix, all, okay, weight, weights}
 use Rattle.order.proofs.Claims.{Each, Claim, One, Two, ofSequences, of-sequence, ofOnes, of-one, ofTwos, of-two}
 

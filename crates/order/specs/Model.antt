@@ -8,7 +8,8 @@ use lib.Dec.{leb, ltb, eqb}
 use lib.ListN.{length, getD}
 use Rattle.request.specs.Input.{within}
 use Rattle.field.specs.Boxes.{opposite, sideOf, at3000, at2000, lateral, missed, base, area, approach, operation}
-use Rattle.field.specs.Counts.{isIn, total}
+use Rattle.field.specs.Lists.{isIn}
+use Rattle.questions.specs.Counts.{total}
 
 -- ---- sides
 pub data Side : Type 0 where
