@@ -18,20 +18,19 @@ use Rattle.field.specs.Boxes.{emptyField}
 use Rattle.field.specs.Counts.{inArea}
 use Rattle.field.specs.Find.{placeOf, fixOf}
 use Rattle.field.specs.Bounds.{legalLegs, withinBounds}
-use Rattle.order.specs.Model.{Side, right}
+use Rattle.order.specs.Model.{Side}
 use Rattle.rules.specs.Kinds.{startsFrom, headChecks, zoneBefore}
 use Rattle.rules.specs.Step.{checksOf, effectOf, numberOf, stepOf}
 use Rattle.rules.specs.Play.{fieldAfter}
 use Rattle.rules.specs.Reason.{Reason, RoomAtSide, Sound, KeptBy}
 use Rattle.rules.specs.Examples.{crowded}
 use Rattle.field.proofs.Tests.{passed, pass, decided, if-true, if-false}
-use Rattle.rules.proofs.Line.{Placed, fieldOf, empty-is}
+use Rattle.rules.proofs.Line.{Placed, fieldOf}
 use Rattle.rules.proofs.Orderly.{Orderly}
 use Rattle.rules.proofs.Within.{within-bounds}
 use Rattle.rules.proofs.Checks.{checks-at}
 use Rattle.rules.proofs.Outcomes.{number-is}
-use Rattle.rules.proofs.Demand.{empty-orderly}
-use Rattle.rules.proofs.Runs.{Run, runs}
+use Rattle.rules.proofs.Demand.{from-empty}
 use Rattle.rules.proofs.AlongLine.{orderly-reason}
 use Rattle.rules.proofs.Examples.{bounds-not-enough}
 use Rattle.rules.proofs.Room.{reason-gives-room}
@@ -40,13 +39,9 @@ use Rattle.rules.proofs.OneStep.{orderly-kept}
 
 -- ---- after every list
 module _ (legs : Legs) (l : T (legalLegs legs)) where
-  -- nobody yet
-  from-empty : (rs : List Request) → Run legs (emptyField legs) 0 0 rs
-  from-empty rs = subst (λ (g : Field). Run legs g 0 0 rs) (sym (empty-is legs)) (runs legs rs right [] [] (empty-orderly legs l))
-
   -- what holds of every field that an orderly line stands for holds after every list
   pub after-list : (P : Field → Type 0) → ((f : Side) (line : List Placed) (runway : List Aircraft) → Orderly f line runway legs → P (fieldOf f line runway legs)) → (rs : List Request) → P (fieldAfter (emptyField legs) rs)
-  after-list P h rs = let run = from-empty rs in subst P (sym (run .stands)) (h (run .first-then) (run .line-then) (run .runway-then) (run .orderly))
+  after-list P h rs = let run = from-empty legs l rs in subst P (sym (run .stands)) (h (run .first-then) (run .line-then) (run .runway-then) (run .orderly))
 
   -- the reason holds after every list of requests
   pub reason-holds : (rs : List Request) → Reason (fieldAfter (emptyField legs) rs)
