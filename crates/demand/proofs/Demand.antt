@@ -19,9 +19,9 @@ use Rattle.field.specs.Lists.{every}
 use Rattle.bounds.specs.Bounds.{legalLegs, boundA, boundB, boundC, boundD, lateralRule}
 use Rattle.field.proofs.Shapes.{one-of-two}
 use Rattle.order.specs.Model.{Side, right}
-use Rattle.order.proofs.Facts.{okay-empty, okay-zones, weights-small}
+use Rattle.order.proofs.Facts.{okay-empty, okay-zones, weight-small}
 use Rattle.rules.specs.Play.{fieldAfter, played, accepted, moves, addsMoves}
-use Rattle.demand.specs.Demand.{allFlownOut, MovesOn, Demand3}
+use Rattle.demand.specs.Demand.{allFlownOut, MovesOn, Demand3, addsMoves}
 use Rattle.field.proofs.Tests.{every-from}
 use Rattle.line.proofs.Line.{Placed, zonesIn, fieldOf, empty-is}
 use Rattle.line.proofs.Counted.{in-operation, all-counted, how-many-runway}
@@ -87,12 +87,12 @@ module _ (f : Side) (line : List Placed) (runway : List Aircraft) (legs : Legs) 
       omega arith
 
   light : weightOf line runway ≤ 29
-  light = let a = weights-small f (zonesIn line) (o .okay-line) in let b = o .one-landed in omega arith
+  light = let a = weight-small f (zonesIn line) (o .okay-line) in let b = o .one-landed in omega arith
 
 -- ---- every list
 module _ (legs : Legs) (l : T (legalLegs legs)) (rs : List Request) where
-  from-empty : Run legs (emptyField legs) 0 0 rs
-  from-empty = subst (λ (g : Field). Run legs g 0 0 rs) (sym (empty-is legs)) (runs legs rs right [] [] (empty-orderly legs l))
+  pub from-empty : Run legs (emptyField legs) 0 (weightOf [] []) rs
+  from-empty = subst (λ (g : Field). Run legs g 0 (weightOf [] []) rs) (sym (empty-is legs)) (runs legs rs right [] [] (empty-orderly legs l))
 
   -- what holds of the order's field holds of the field after the list
   carry : (P : Field → Type 0) → P (fieldOf (from-empty .first-then) (from-empty .line-then) (from-empty .runway-then) legs) → P (fieldAfter (emptyField legs) rs)

@@ -15,7 +15,7 @@ use Rattle.field.specs.declared.Aircraft.{Aircraft}
 use Rattle.field.specs.declared.Legs.{Legs}
 use Rattle.field.specs.Boxes.{isFlyingZone, progressInto, withProgress}
 use Rattle.field.specs.Lists.{isIn, every, allDifferent}
-use Rattle.order.specs.Model.{Side, free, Kind, needs, target, okay, weight, weights, one}
+use Rattle.order.specs.Model.{Side, free, Kind, needs, target, okay, weight, one}
 use Rattle.order.proofs.Facts.{okay-length, okay-zones, moves}
 use Rattle.rules.specs.Kinds.{moved}
 use Rattle.rules.specs.Step.{effectOf}
@@ -58,7 +58,7 @@ leaves kind = eqb kind 8 || eqb kind 9
 
 -- how many moves are left at the most
 abbrev pub weightOf : List Placed → List Aircraft → ℕ
-weightOf line runway = weights (zonesIn line) + length runway
+weightOf line runway = weight (zonesIn line) + length runway
 
 -- P holds of each one with another number
 abbrev pub Others : ℕ → (Placed → Type 0) → List Placed → Type 0
@@ -115,18 +115,10 @@ one-le false = omega arith
 pub not-one : (b : Bool) → T (not b) → one b ≡ 0
 not-one b t = ap one (failed {b = b} t)
 
--- ---- weights
-pub weights-append : (a b : List ℕ) → weights (a ++ b) ≡ weights a + weights b
-weights-append [] b = omega arith
-weights-append (z ∷ a) b = let h = weights-append a b in omega arith
-
-zones-split : (a : List Placed) (e : Placed) (b : List Placed) → zonesIn (a ++ e ∷ b) ≡ zonesIn a ++ e .zone ∷ zonesIn b
+-- ---- the model's view of a line that is split
+pub zones-split : (a : List Placed) (e : Placed) (b : List Placed) → zonesIn (a ++ e ∷ b) ≡ zonesIn a ++ e .zone ∷ zonesIn b
 zones-split a e b = map-append (λ (p : Placed). p .zone) a (e ∷ b)
 
-pub weights-split : (a : List Placed) (e : Placed) (b : List Placed) → weights (zonesIn (a ++ e ∷ b)) ≡ weights (zonesIn a) + (weight (e .zone) + weights (zonesIn b))
-weights-split a e b = ap weights (zones-split a e b) ∙ weights-append (zonesIn a) (e .zone ∷ zonesIn b)
-
--- ---- the model's view of a line that is split
 pub okay-split : (f : Side) (a : List Placed) (e : Placed) (b : List Placed) → T (okay f (zonesIn (a ++ e ∷ b))) → T (okay f (zonesIn a ++ e .zone ∷ zonesIn b))
 okay-split f a e b t = subst (λ (l : List ℕ). T (okay f l)) (zones-split a e b) t
 
@@ -181,8 +173,8 @@ module _ (f : Side) (a : List Placed) (e : Placed) (b : List Placed) (runway : L
         balance = stay-balance r s (same-length a (into w e) e b);
         lighter =
             λ h.
-            let p = weights-split a e b in
-            let q = weights-split a (into w e) b in
+            let p = ap weight (zones-split a e b) in
+            let q = ap weight (zones-split a (into w e) b) in
             let l = m .lighter in
             let u = one-le (within 3 11 (r .kind)) in
             omega arith;

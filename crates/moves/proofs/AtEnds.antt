@@ -14,8 +14,8 @@ use Rattle.field.specs.declared.Legs.{Legs}
 use Rattle.field.specs.declared.Field.{Field}
 use Rattle.field.specs.Boxes.{isFlyingZone, missed, progressInto, entering, withProgress, withFix}
 use Rattle.field.specs.Lists.{isIn, every}
-use Rattle.order.specs.Model.{Side, opp, num, okay, firstFix, weight, weights, one}
-use Rattle.order.proofs.Facts.{okay-length, first-leaves, misses}
+use Rattle.order.specs.Model.{Side, opp, num, okay, firstFix, weight, one}
+use Rattle.order.proofs.Facts.{okay-length, first-leaves, misses, exit-lighter, landing-lighter}
 use Rattle.rules.specs.Step.{effectOf}
 use Rattle.rules.specs.Kinds.{entered}
 use Rattle.rules.specs.Play.{addsMoves}
@@ -62,7 +62,7 @@ module _ (f : Side) (e : Placed) (b : List Placed) (runway : List Aircraft) (leg
         effect = effect-at F r h ∙ first-exits f e b runway legs (zone-in f [] e b runway legs o) room z r named;
         orderly = first-gone f e b runway legs o rest-okay;
         balance = subst (λ (k : ℕ). length b + length runway + one (leaves k) ≡ suc (length b) + length runway + one (isEntry k)) (sym h) (omega arith);
-        lighter = λ u. let w : weight (e .zone) ≡ 3 = ap weight z in let x = one-le (within 3 11 (r .kind)) in omega arith;
+        lighter = λ u. let w = exit-lighter f (e .zone) (zonesIn b) z (o .okay-line) in let x = one-le (within 3 11 (r .kind)) in omega arith;
         carried = λ u. carried-behind;
         ticked-on = λ u. absurd (let n : 12 ≡ 9 = sym u ∙ h in omega arith);
       }
@@ -106,7 +106,7 @@ after-7 f e b legs o r named h z =
           landed-on (opp f) b x legs (first-gone f e b [] legs o (rest-okay f e b [] legs o r named)) (and-l (nonzero n) (every nonzero (numbersOf b ++ [])) (o .nonzeros)) (absent-left n (numbersOf b) [] (al .behind))
           (landed-fits legs (e .zone) (e .aircraft) (fit-here f [] e b [] legs o));
       balance = subst (λ (k : ℕ). length b + 1 + one (leaves k) ≡ suc (length b) + 0 + one (isEntry k)) (sym h) (omega arith);
-      lighter = λ u. let w : weight (e .zone) ≡ 2 = ap weight z in let y = one-le (within 3 11 (r .kind)) in omega arith;
+      lighter = λ u. let w = landing-lighter f (e .zone) (zonesIn b) z (o .okay-line) in let y = one-le (within 3 11 (r .kind)) in omega arith;
       carried = λ u. carried-behind f e b [] legs o r named;
       ticked-on = λ u. absurd (let n : 12 ≡ 7 = sym u ∙ h in omega arith);
     }
@@ -174,7 +174,7 @@ after-12 f line runway legs o r h l m =
           subst (λ (k : ℕ). length (map (tickPlaced legs (r .amount)) line) + length runway + one (leaves k) ≡ length line + length runway + one (isEntry k)) (sym h) (omega arith);
       lighter =
           λ u.
-          let p = ap weights (zones-same legs (r .amount) line) in
+          let p = ap weight (zones-same legs (r .amount) line) in
           let q : one (within 3 11 (r .kind)) ≡ 0 = ap (λ (k : ℕ). one (within 3 11 k)) h in
           omega arith;
       carried = λ u. absurd (u h);

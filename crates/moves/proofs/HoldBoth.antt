@@ -18,13 +18,12 @@ use Rattle.order.proofs.Facts.{BothMoved, hold-both}
 use Rattle.rules.specs.Kinds.{moved}
 use Rattle.rules.specs.Step.{effectOf}
 use Rattle.field.proofs.Tests.{pass, failed, zones-imply}
-use Rattle.line.proofs.Lists.{map-append}
 use Rattle.line.proofs.Line.{Placed, zonesIn, fieldOf}
 use Rattle.line.proofs.Counted.{lower}
 use Rattle.line.proofs.Members.{count-append}
 use Rattle.line.proofs.Orderly.{Orderly}
 use Rattle.moves.proofs.Moves.{into, same-length}
-use Rattle.moves.proofs.After.{Each, each-append, each-left, each-right, After, Carried, carried-one, one-le, zone-in, weights-split, okay-split, moved-is, moved-orderly}
+use Rattle.moves.proofs.After.{Each, each-append, each-left, each-right, After, Carried, carried-one, one-le, zone-in, moved-is, moved-orderly, zones-split}
 
 -- what is nowhere in a list is nowhere in its parts
 free-left : (xs ys : List ℕ) (z : ℕ) → T (free (xs ++ ys) z) → T (free xs z)
@@ -62,15 +61,19 @@ module _ (f : Side) (a : List Placed) (g : Placed) (b : List Placed) (e : Placed
   F = fieldOf f (a ++ g ∷ (b ++ e ∷ c)) runway legs
 
   zones-here : zonesIn (b ++ e ∷ c) ≡ zonesIn b ++ z ∷ zonesIn c
-  zones-here = map-append (λ (p : Placed). p .zone) b (e ∷ c)
+  zones-here = zones-split b e c
+
+  -- the zones before the hold and after it
+  zones-before : zonesIn (a ++ g ∷ (b ++ e ∷ c)) ≡ zonesIn a ++ y ∷ (zonesIn b ++ z ∷ zonesIn c)
+  zones-before = zones-split a g (b ++ e ∷ c) ∙ ap (λ (v : ℕ). zonesIn a ++ v ∷ zonesIn (b ++ e ∷ c)) above ∙ ap (λ (l : List ℕ). zonesIn a ++ y ∷ l) zones-here
 
   heads-here : T (free (zonesIn a ++ y ∷ zonesIn b) z)
-  heads-here = subst (λ (l : List ℕ). T (free l z)) (map-append (λ (p : Placed). p .zone) a (g ∷ b) ∙ ap (λ (v : ℕ). zonesIn a ++ v ∷ zonesIn b) above) heads
+  heads-here = subst (λ (l : List ℕ). T (free l z)) (zones-split a g b ∙ ap (λ (v : ℕ). zonesIn a ++ v ∷ zonesIn b) above) heads
 
   both : BothMoved f (zonesIn a) y w (zonesIn b) z (zonesIn c)
   both =
       hold-both f (zonesIn a) (zonesIn b) z (zonesIn c) missed-zone
-      (subst (λ (l : List ℕ). T (okay f (zonesIn a ++ y ∷ l))) zones-here (subst (λ (v : ℕ). T (okay f (zonesIn a ++ v ∷ zonesIn (b ++ e ∷ c)))) above (okay-split f a g (b ++ e ∷ c) (o .okay-line))))
+      (subst (λ (l : List ℕ). T (okay f l)) zones-before (o .okay-line))
       heads-here
 
   -- the first move, from 3000 to 2000
@@ -103,13 +106,16 @@ module _ (f : Side) (a : List Placed) (g : Placed) (b : List Placed) (e : Placed
   orderly₂ = subst (λ (l : List Placed). Orderly f l runway legs) (regroup e) down-orderly
 
   zones₂ : zonesIn a₂ ≡ zonesIn a ++ w ∷ zonesIn b
-  zones₂ = map-append (λ (p : Placed). p .zone) a (into w g ∷ b)
+  zones₂ = zones-split a (into w g) b
+
+  zones-after : zonesIn a₂ ++ y ∷ zonesIn c ≡ zonesIn a ++ w ∷ (zonesIn b ++ y ∷ zonesIn c)
+  zones-after = ap (λ (l : List ℕ). l ++ y ∷ zonesIn c) zones₂ ∙ append-assoc (zonesIn a) (w ∷ zonesIn b) (y ∷ zonesIn c)
 
   e-heads : T (free (zonesIn a₂) z)
   e-heads = subst (λ (l : List ℕ). T (free l z)) (sym zones₂) (free-changed (zonesIn a) y w (zonesIn b) z heads-here (failed {b = eqb w z} (both .apart .2)))
 
   after-okay : T (okay f (zonesIn a₂ ++ y ∷ zonesIn c))
-  after-okay = subst (λ (l : List ℕ). T (okay f l)) (sym (ap (λ (l : List ℕ). l ++ y ∷ zonesIn c) zones₂ ∙ append-assoc (zonesIn a) (w ∷ zonesIn b) (y ∷ zonesIn c))) (both .okay-after)
+  after-okay = subst (λ (l : List ℕ). T (okay f l)) (sym zones-after) (both .okay-after)
 
   moved-up : moved (moved F y w) z y ≡ fieldOf f (a₂ ++ into y e ∷ c) runway legs
   moved-up =
@@ -147,12 +153,9 @@ module _ (f : Side) (a : List Placed) (g : Placed) (b : List Placed) (e : Placed
             kind-balance (r .kind) h (p ∙ sym q ∙ m);
         lighter =
             λ u.
-            let p = weights-split a₂ (into y e) c in
-            let q = weights-split a (into w g) b in
-            let s = weights-split a g (b ++ e ∷ c) in
-            let t = weights-split b e c in
+            let p = ap weight (zones-split a₂ (into y e) c ∙ zones-after) in
+            let q = ap weight zones-before in
             let l = both .lighter in
-            let v : weight (g .zone) ≡ weight y = ap weight above in
             let x = one-le (within 3 11 (r .kind)) in
             omega arith;
         carried = λ u. carried-both;
