@@ -34,27 +34,27 @@ joined : (n s a t : ℕ) → n + s * a + s * t ≡ n + s * (a + t)
 joined n s a t = add-assoc n (s * a) (s * t) ∙ ap (λ (z : ℕ). n + z) (sym (mul-add s a t))
 
 module _ (most : ℕ) (few : most < 2 ^ 41) (leg : Float) (l : T (legUpTo most leg)) {speed : ℕ} (s : Between 1 fastest speed) where
-  p : T (positive leg)
-  p = leg-positive most few leg l
+  above : T (positive leg)
+  above = leg-positive most few leg l
 
   -- the bound's miles and more are no less than the leg
   far : (n : ℕ) → most * 4096 ≤ n → T (le leg (parts n))
   unfolding ofInt
-  far n h = le-up leg (whole most) (parts n) p (at-most most few leg l) (round-mono binary64 most 1 n 4096 (lit< tt) (lit< tt) (le-trans h (le-of-eq (sym (mul-one n)))))
+  far n h = le-up leg (whole most) (parts n) above (at-most most few leg l) (round-mono binary64 most 1 n 4096 (lit< tt) (lit< tt) (le-trans h (le-of-eq (sym (mul-one n)))))
 
   -- at the end of the leg, or at n / 4096 miles or past them, short of the bound
   abbrev Along : ℕ → Float → Type 0
   Along n x = T (eq x leg) ⊎ ((n < most * 4096) × T (le (parts n) x))
 
   along-tick : (n : ℕ) (x : Float) {amount : ℕ} → Between 1 longestTick amount → T (withinLeg (Flying x) leg) → Along n x → Along (n + speed * amount) (advanced x speed amount leg)
-  along-tick n x a w (inl e) = inl (rw (end-kept most few x leg l s a e) (eq-self leg p))
+  along-tick n x a w (inl e) = inl (rw (end-kept most few x leg l s a e) (eq-self leg above))
   along-tick n x {amount} a w (inr h) = subst (Along (n + speed * amount)) (sym is) (go (lt y leg) refl)
     where
       y : Float
       y = round binary64 false (num x * 4096 + speed * amount * den x) (den x * 4096)
 
       worth : Worth x (num x) (den x)
-      worth = miles-worth x leg p (and-l (le (whole 0) x) (le x leg) w) (and-r (le (whole 0) x) (le x leg) w)
+      worth = miles-worth x leg above (and-l (le (whole 0) x) (le x leg) w) (and-r (le (whole 0) x) (le x leg) w)
 
       is : advanced x speed amount leg ≡ upTo leg y
       is = advanced-is s a x leg (num x) (den x) (den-pos x) worth
@@ -69,17 +69,17 @@ module _ (most : ℕ) (few : most < 2 ^ 41) (leg : Float) (l : T (legUpTo most l
 
       -- had the ticks flown the bound's miles, y would not be below the leg
       short : lt y leg ≡ true → n + speed * amount < most * 4096
-      short e = lt-of-not-le (λ (g : most * 4096 ≤ n + speed * amount). true≢false (sym e ∙ lt-false y leg p (le-up leg (parts (n + speed * amount)) y p (far (n + speed * amount) g) on)))
+      short e = lt-of-not-le (λ (g : most * 4096 ≤ n + speed * amount). true≢false (sym e ∙ lt-false y leg above (le-up leg (parts (n + speed * amount)) y above (far (n + speed * amount) g) on)))
 
       go : (b : Bool) → lt y leg ≡ b → Along (n + speed * amount) (upTo leg y)
       go true e = inr (short e, rw (upTo-yes leg y e) on)
-      go false e = inl (rw (upTo-no leg y e) (eq-self leg p))
+      go false e = inl (rw (upTo-no leg y e) (eq-self leg above))
 
   along-ticks : (n : ℕ) (x : Float) (amounts : List ℕ) → TickAmounts amounts → T (withinLeg (Flying x) leg) → Along n x
       → (y : Float) × (afterTicks (Flying x) speed amounts leg ≡ Flying y) × Along (n + speed * addedUp amounts) y
   along-ticks n x [] r w h = (x, refl, subst (λ (z : ℕ). Along z x) (none n speed) h)
   along-ticks n x (amount ∷ amounts) r w h =
-      let rest = along-ticks (n + speed * amount) (advanced x speed amount leg) amounts (r .1) (flying-within x leg p s (r .0) w) (along-tick n x (r .0) w h) in
+      let rest = along-ticks (n + speed * amount) (advanced x speed amount leg) amounts (r .1) (flying-within x leg above s (r .0) w) (along-tick n x (r .0) w h) in
       (rest .0, rest .1, subst (λ (z : ℕ). Along z (rest .0)) (joined n speed amount (addedUp amounts)) (rest .2))
 
   -- the bound's miles of ticks end the leg
