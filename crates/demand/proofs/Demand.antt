@@ -21,7 +21,7 @@ use Rattle.field.proofs.Shapes.{one-of-two}
 use Rattle.order.specs.Model.{Side, right}
 use Rattle.order.proofs.Facts.{okay-empty, okay-zones, weight-small}
 use Rattle.rules.specs.Play.{fieldAfter, played, accepted, moves, addsMoves}
-use Rattle.demand.specs.Demand.{allFlownOut, MovesOn, Demand3, addsMoves}
+use Rattle.demand.specs.Demand.{allFlownOut, MovesOn, Demand3}
 use Rattle.field.proofs.Tests.{every-from}
 use Rattle.line.proofs.Line.{Placed, zonesIn, fieldOf, empty-is}
 use Rattle.line.proofs.Counted.{in-operation, all-counted, how-many-runway}

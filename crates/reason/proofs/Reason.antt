@@ -36,7 +36,6 @@ use Rattle.rules.proofs.Cases.{bounds-not-enough}
 use Rattle.reason.proofs.Room.{reason-gives-room}
 use Rattle.reason.proofs.Invariant.{reason-orderly}
 use Rattle.reason.proofs.OneStep.{orderly-kept}
-use Rattle.rules.proofs.Examples.{bounds-not-enough}
 
 -- ---- after every list
 module _ (legs : Legs) (l : T (legalLegs legs)) where
