@@ -1,14 +1,5 @@
-pub mod Shapes
-pub mod Totals
-pub mod Arrays
-pub mod Tick
-pub mod Parts
-pub mod Listed
 pub mod Tests
 pub mod Lists
-pub mod BoundLaws
-pub mod EditLaws
-pub mod FindLaws
-pub mod CountLaws
-pub mod Alike
-pub mod TickLaws
+pub mod Arrays
+pub mod Parts
+pub mod Shapes

@@ -10,8 +10,7 @@ use lib.Dec.{T, eqb, leb, le→leb}
 use lib.Ieee.Fits.{and-i, and-l, and-r}
 use Rattle.leg.specs.Ticks.{Between}
 use Rattle.field.specs.Boxes.{area, everywhere}
-use Rattle.field.specs.Counts.{isIn}
-use Rattle.field.specs.Bounds.{every, allDifferent}
+use Rattle.field.specs.Lists.{isIn, every, allDifferent}
 use Rattle.field.proofs.Tests.{failed, decided, flip-eqb, each-zone}
 
 -- ---- either

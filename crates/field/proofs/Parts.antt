@@ -11,7 +11,7 @@ use lib.Dec.{leb, eqb}
 use lib.ListN.{length, getD, drop}
 use Rattle.field.proofs.Arrays.{Walked, next-of, walked-none, walked-more, walked-stop, walked-all}
 use Rattle.field.specs.Boxes.{zonesFrom}
-use Rattle.field.specs.Bounds.{every}
+use Rattle.field.specs.Lists.{every}
 
 pub and-then : {x y r : Bool} → x ≡ true → y ≡ r → (x && y) ≡ r
 and-then {y = y} e h = ap (λ (t : Bool). t && y) e ∙ h

@@ -1,7 +1,7 @@
 -- What the proofs of the field's functions share: the lengths of its arrays, an element read from one, the next of a queue, and a
 -- number that is one of two. Assumes nothing.
 use mathlib.Core.Path.{_≡_, refl, sym, ap, _∙_, subst}
-use mathlib.Core.Bool.{Bool, true, false, cond}
+use mathlib.Core.Bool.{Bool, true, false}
 use mathlib.Core.List.{List, [], _∷_, map}
 use Prim.Native.Nat.{ℕ, zero, suc, _+_, _-_, _≤_, _<_}
 use native.Mathlib.Omega.{arith}
@@ -17,8 +17,7 @@ use Rattle.field.specs.declared.Aircraft.{Aircraft}
 use Rattle.field.specs.declared.Zone.{Zone}
 use Rattle.field.specs.declared.Sequence.{Sequence}
 use Rattle.field.specs.declared.Field.{Field}
-use Rattle.field.specs.Boxes.{area, emptyZone, zoneOf, queueOf, queueLength, inZone, orderOf}
-use Rattle.field.specs.Counts.{isIn, haveFix, howMany, howManyWithFix, countedFor}
+use Rattle.field.specs.Boxes.{emptyZone, zoneOf, queueOf, inZone, orderOf}
 use Rattle.field.proofs.Zone.{the-field}
 
 module _ {ℓ} {A : Type ℓ} where
@@ -107,21 +106,3 @@ module _ (f : Field) (us : List Val) (z : ℕ) (known : Known (f .zones) us) whe
 pub zone-read : (f : Field) (z : ℕ) (d : Zone) → length (f .zones) ≡ 13 → 1 ≤ z → z ≤ 13 → getD (f .zones) (z - 1) d ≡ zoneOf f z
 unfolding zoneOf
 zone-read f z d n low high = read (f .zones) (z - 1) d emptyZone (omega arith) ∙ sym (from-one emptyZone (f .zones) z emptyZone low)
-
--- and how many are in it
-pub length-read : (f : Field) (z : ℕ) (d : Zone) → length (f .zones) ≡ 13 → 1 ≤ z → z ≤ 13 → queueLength (getD (f .zones) (z - 1) d) ≡ howMany f z
-unfolding queueLength howMany inZone
-length-read f z d n low high = ap queueLength (zone-read f z d n low high)
-
--- and how many of them have a fix
-pub fixes-read : (f : Field) (side z : ℕ) (d : Zone) → length (f .zones) ≡ 13 → 1 ≤ z → z ≤ 13 → haveFix side (queueOf (getD (f .zones) (z - 1) d)) ≡ howManyWithFix f side z
-unfolding howManyWithFix inZone
-fixes-read f side z d n low high = ap (λ (q : Zone). haveFix side (queueOf q)) (zone-read f z d n low high)
-
--- and how many of it count for a side
-pub counted-read : (f : Field) (side z : ℕ) (d : Zone) → length (f .zones) ≡ 13 → 1 ≤ z → z ≤ 13
-    → cond (isIn z (area side)) (queueLength (getD (f .zones) (z - 1) d)) (haveFix side (queueOf (getD (f .zones) (z - 1) d))) ≡ countedFor f side z
-unfolding countedFor
-counted-read f side z d n low high =
-    ap (λ (m : ℕ). cond (isIn z (area side)) m (haveFix side (queueOf (getD (f .zones) (z - 1) d)))) (length-read f z d n low high)
-    ∙ ap (λ (m : ℕ). cond (isIn z (area side)) (howMany f z) m) (fixes-read f side z d n low high)

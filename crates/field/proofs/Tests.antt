@@ -5,11 +5,11 @@ use mathlib.Core.Bool.{Bool, true, false, cond, not, _&&_, _||_, true≢false}
 use Prim.Native.Nat.{ℕ, zero, suc, _+_, _≤_, _<_}
 use native.Mathlib.Nat.{eq-or-lt-of-le}
 use native.Mathlib.Omega.{arith}
-use lib.Dec.{T, leb, eqb, leb→le, eqb→eq, eqb-refl}
-use lib.Ieee.Fits.{and-l, and-r}
+use lib.Dec.{T, leb, eqb, leb→le, le→leb, eqb→eq, eqb-refl}
+use lib.Ieee.Fits.{and-i, and-l, and-r}
 use borrow.Author.Tests.{eq-eqb, ne-eqb}
 use Rattle.field.specs.Boxes.{zonesFrom}
-use Rattle.field.specs.Bounds.{every}
+use Rattle.field.specs.Lists.{every}
 
 -- ---- a passed test and an equation
 pub passed : {b : Bool} → T b → b ≡ true
@@ -90,6 +90,13 @@ each-from k (suc n) P p z l h =
 pub each-zone {ℓ} : (P : ℕ → Type ℓ) → EachFrom 1 13 P → (z : ℕ) → T (leb 1 z && leb z 13) → P z
 each-zone P p z t =
     each-from 1 13 P p z (leb→le 1 z (and-l (leb 1 z) (leb z 13) t)) (let h = leb→le z 13 (and-r (leb 1 z) (leb z 13) t) in omega arith)
+
+-- what holds of each zone of the operation area
+pub each-operation : (P : ℕ → Type 0) → P 1 × P 2 × P 3 × P 4 × P 5 × P 6 × P 7 × P 8 × P 9 × P 10 × P 11 × P 12 → (z : ℕ) → T (leb 1 z && leb z 12) → P z
+each-operation P (p1, p2, p3, p4, p5, p6, p7, p8, p9, p10, p11, p12) z t =
+    each-zone (λ (y : ℕ). T (leb 1 y && leb y 12) → P y)
+    ((λ u. p1), ((λ u. p2), ((λ u. p3), ((λ u. p4), ((λ u. p5), ((λ u. p6), ((λ u. p7), ((λ u. p8), ((λ u. p9), ((λ u. p10), ((λ u. p11), ((λ u. p12), ((λ u. absurd u), tt)))))))))))))
+    z (and-i (leb 1 z) (leb z 13) (and-l (leb 1 z) (leb z 12) t) (le→leb z 13 (let h = leb→le z 12 (and-r (leb 1 z) (leb z 12) t) in omega arith))) t
 
 -- ---- computed tests of a run of zones
 pub every-from : (p : ℕ → Bool) (k n : ℕ) → T (every p (zonesFrom k n)) → (z : ℕ) → k ≤ z → z < k + n → T (p z)

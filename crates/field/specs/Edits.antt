@@ -1,17 +1,14 @@
 -- Document 01, "The requests": the few changes of a queue, of the sequence and of the field that requests are made of.
 use mathlib.Core.Bool.{cond}
-use mathlib.Core.List.{List, [], _∷_, _++_, map}
+use mathlib.Core.List.{List, [], _∷_, _++_}
 use Prim.Native.Nat.{ℕ, zero, suc, _+_, _-_}
 use lib.Dec.{eqb, ltb}
 use lib.ListN.{length, drop, take, set}
-use lib.Ieee.{Float}
-use Rattle.leg.specs.Progress.{progressAfter}
 use Rattle.field.specs.declared.Aircraft.{Aircraft}
 use Rattle.field.specs.declared.Zone.{Zone}
 use Rattle.field.specs.declared.Sequence.{Sequence}
-use Rattle.field.specs.declared.Legs.{Legs}
 use Rattle.field.specs.declared.Field.{Field}
-use Rattle.field.specs.Boxes.{nobody, orderOf, isFlyingZone, legOf, withProgress}
+use Rattle.field.specs.Boxes.{nobody, orderOf}
 
 -- ---- a queue
 
@@ -65,23 +62,3 @@ withZone f z q = record { zones = setFromOne (f .zones) z q; sequence = f .seque
 -- the field with another sequence and next fix
 unfoldable pub withSequence : Field → Sequence → ℕ → Field
 withSequence f s next = record { zones = f .zones; sequence = s; next = next; legs = f .legs }
-
--- ---- a tick
-
--- an aircraft of a zone with this leg after a tick
-unfoldable pub tickedAircraft : Float → ℕ → Aircraft → Aircraft
-tickedAircraft leg amount a = withProgress a (progressAfter (a .progress) (a .speed) amount leg)
-
--- a zone with this leg after a tick
-unfoldable pub tickedZone : Float → ℕ → Zone → Zone
-tickedZone leg amount q = record { aircraft = map (tickedAircraft leg amount) (q .aircraft); length = q .length }
-
--- the zones after a tick, the first of them zone z: those that are flown in, and the others as they were
-abbrev pub tickedFrom : Legs → ℕ → ℕ → List Zone → List Zone
-tickedFrom legs amount z [] = []
-tickedFrom legs amount z (q ∷ qs) = cond (isFlyingZone z) (tickedZone (legOf legs z) amount q) q ∷ tickedFrom legs amount (suc z) qs
-
--- "everyone flying advances"
-unfoldable pub ticked : Field → ℕ → Field
-ticked f amount =
-    record { zones = tickedFrom (f .legs) amount 1 (f .zones); sequence = f .sequence; next = f .next; legs = f .legs }

@@ -1,5 +1,3 @@
+pub mod Lists
 pub mod Boxes
-pub mod Counts
-pub mod Find
-pub mod Bounds
 pub mod Edits

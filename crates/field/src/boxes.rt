@@ -6,7 +6,7 @@ use crate::Sequence;
 use crate::Zone;
 use leg::Progress;
 ghost use mathlib.Core.Path.{_≡_};
-ghost use Rattle.field.specs.Boxes.{isSide, opposite, isFlyingZone, nobody, emptyZone, zoneOf, queueLength, orderLength, progressInto, entering, withProgress, withFix, legOf, flownOutIn, emptyField};
+ghost use Rattle.field.specs.Boxes.{isSide, opposite, sideOf, isFlyingZone, nobody, emptyZone, zoneOf, queueLength, orderLength, progressInto, entering, withProgress, withFix, legOf, flownOutIn, emptyField};
 
 // Whether a number is a side.
 pub fn is_side(side: u8) -> bool
@@ -26,6 +26,13 @@ pub fn opposite(side: u8) -> u8
     } else {
         0
     }
+}
+
+// The side of a holding, lateral, missed or base zone.
+pub fn side_of(zone: usize) -> u8
+    ensures { λ r. ⌜ r ≡ sideOf zone ⌝ }
+{
+    if zone % 2 == 1 { 1 } else { 2 }
 }
 
 // Whether a zone is flown in.

@@ -11,12 +11,11 @@ use crate::boxes::order_length;
 use crate::boxes::with_progress;
 use leg::progress_after;
 ghost use mathlib.Core.Path.{_≡_};
-ghost use mathlib.Core.Bool.{cond};
 ghost use mathlib.Core.List.{[], _∷_, _++_};
 ghost use Prim.Native.Nat.{suc, _<_};
 ghost use lib.ListN.{take, drop};
-ghost use Rattle.field.specs.Boxes.{orderOf, isFlyingZone, legOf};
-ghost use Rattle.field.specs.Edits.{withoutHead, withTail, appended, before, removed, withZone, withSequence, tickedAircraft, tickedZone, ticked};
+ghost use Rattle.field.specs.Boxes.{orderOf};
+ghost use Rattle.field.specs.Edits.{withoutHead, withTail, appended, before, removed, withZone, withSequence};
 
 // The zone with its head taken off; an empty one as it is.
 pub fn without_head(q: Zone) -> Zone
@@ -135,61 +134,4 @@ pub fn with_sequence(f: Field, s: Sequence, next: u8) -> Field
     g.sequence = s;
     g.next = next;
     g
-}
-
-// An aircraft of a zone with this leg after a tick.
-pub fn ticked_aircraft(leg: f64, amount: u16, a: Aircraft) -> Aircraft
-    ensures { λ r. ⌜ r ≡ tickedAircraft leg amount a ⌝ }
-{
-    let p = a.progress;
-    with_progress(a, progress_after(p, a.speed, amount, leg))
-}
-
-// A zone with this leg after a tick.
-pub fn ticked_zone(leg: f64, amount: u16, q: Zone) -> Zone
-    ensures { λ r. ⌜ r ≡ tickedZone leg amount q ⌝ }
-{
-    let length = q.length;
-    let mut aircraft = q.aircraft;
-    let mut i = 0;
-    while i < 4 {
-        let a = aircraft[i];
-        aircraft[i] = ticked_aircraft(leg, amount, a);
-        i += 1;
-    }
-    Zone {
-        aircraft: aircraft,
-        length: length,
-    }
-}
-
-// Zone `zone` after a tick: as it was where it is not flown in.
-fn ticked_in(legs: Legs, amount: u16, zone: usize, q: Zone) -> Zone
-    ensures { λ r. ⌜ r ≡ cond (isFlyingZone zone) (tickedZone (legOf legs zone) amount q) q ⌝ }
-{
-    if is_flying_zone(zone) {
-        return ticked_zone(leg_of(legs, zone), amount, q);
-    }
-    q
-}
-
-// The field after a tick.
-pub fn ticked(f: Field, amount: u16) -> Field
-    ensures { λ r. ⌜ r ≡ ticked f amount ⌝ }
-{
-    let legs = f.legs;
-    let mut zones = f.zones;
-    let mut i = 0;
-    while i < 13 {
-        let q = zones[i];
-        zones[i] = ticked_in(legs, amount, i + 1, q);
-        i += 1;
-    }
-    let sequence = f.sequence;
-    Field {
-        zones: zones,
-        sequence: sequence,
-        next: f.next,
-        legs: legs,
-    }
 }

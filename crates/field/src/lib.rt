@@ -1,12 +1,9 @@
 // The landing field: thirteen zones, the landing sequence, the next fix and the legs, by value.
 use leg::Progress;
 
-pub mod bounds;
 pub mod boxes;
-pub mod counts;
 pub mod edits;
-pub mod find;
-pub mod numbers;
+pub mod zones;
 
 // Document 01's aircraft: a number (never 0), a fix (the side for its missed approach), a speed in 64ths of a mile
 // per minute, and a progress.
@@ -43,10 +40,4 @@ pub struct Field {
     pub sequence: Sequence,
     pub next: u8,
     pub legs: Legs,
-}
-
-// Where an aircraft is: its zone, and its place in the zone's queue from 1. Zone 0 and place 0 where it is not on the field.
-pub struct Place {
-    pub zone: usize,
-    pub place: usize,
 }

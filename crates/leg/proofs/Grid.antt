@@ -1,8 +1,8 @@
--- One tick in whole numbers. A tick's step is speed * amount of the 4096ths of a mile, exactly, and what it adds is rounded once (`advanced-is`); on the grid of the 4096ths nothing is rounded (`grid-tick`).
--- Assumes nothing.
+-- One tick in whole numbers. A tick's step is speed * amount of the 4096ths of a mile, exactly, and what it adds is rounded once (`advanced-is`); on the grid of the 4096ths nothing is rounded
+-- (`grid-tick`). Assumes nothing.
 use mathlib.Core.Path.{_≡_, sym, ap, _∙_, subst}
 use Prim.Native.Nat.{ℕ, _+_, _*_, _^_, _≤_, _<_, min}
-use native.Mathlib.Nat.{le-trans, lt-trans, lt-of-not-le, lt-of-le-of-lt, mul-one, mul-le-mul, mul-pos, mul-lt-mul-of-pos-right, mul-le-mul-right}
+use native.Mathlib.Nat.{le-refl, le-of-lt, lt-trans, lt-of-not-le, lt-of-le-of-lt, mul-one, mul-le-mul, mul-pos, mul-lt-mul-of-pos-right, mul-le-mul-right}
 use native.Mathlib.Omega.{arith}
 use native.Mathlib.Decide.{decLe}
 use mathlib.Core.Bool.{Bool, true, false, cond}
@@ -10,18 +10,19 @@ use lib.Dec.{T, lit<, lit≤}
 use lib.Ieee.{Float, binary64, round, add, ofInt, lt, le}
 use lib.Ieee.Exact.{HasValue}
 use lib.Ieee.Back.{round-whole}
-use lib.Ieee.Order.{round-mono}
+use lib.Ieee.Order.{round-mono, le-of-values}
 use lib.Ieee.Scale.{round-same}
 use lib.Ieee.Positive.{positive-of-value, mul-at}
+use Rattle.limits.specs.Limits.{longestTick, fastest}
 use Rattle.leg.specs.Progress.{whole, sixtyFourths, milesFlown, upTo, advanced}
-use Rattle.leg.specs.Ticks.{Between}
-use Rattle.leg.proofs.Floats.{Worth, value→worth, add-worth, div-at, dyadic, lt-of-values, lt-false}
+use Rattle.leg.specs.Ticks.{Between, Exactly, LegIn4096ths}
+use Rattle.leg.proofs.Floats.{Worth, value→worth, add-worth, div-at, dyadic, lt-of-values, lt-false, le-up}
 
 -- ---- the grid: n / 4096
 abbrev pub parts : ℕ → Float
 parts n = round binary64 false n 4096
 
-pub parts-value : (n : ℕ) → n < 2 ^ 53 → HasValue (parts n) false n 4096
+pub parts-value : (n : ℕ) → n < 2 ^ 53 → Exactly (parts n) n
 parts-value n h = dyadic 12 n (lit≤ tt) h
 
 parts-mono : (m n : ℕ) → m ≤ n → T (le (parts m) (parts n))
@@ -32,17 +33,19 @@ pub whole-value : (n : ℕ) → n ≤ 2 ^ 53 → HasValue (whole n) false n 1
 unfolding ofInt
 whole-value n h = round-whole binary64 false n h
 
-sixtyFourths-is : (n : ℕ) → n ≤ 4096 → sixtyFourths n ≡ round binary64 false n 64
+sixtyFourths-is : (n : ℕ) → n < 2 ^ 53 → sixtyFourths n ≡ round binary64 false n 64
 sixtyFourths-is n h =
-    div-at binary64 (whole n) (whole 64) n 1 64 1 (lit< tt) (lit< tt) (lit< tt) (whole-value n (le-trans h (lit≤ tt))) (whole-value 64 (lit≤ tt))
+    div-at binary64 (whole n) (whole 64) n 1 64 1 (lit< tt) (lit< tt) (lit< tt) (whole-value n (le-of-lt h)) (whole-value 64 (lit≤ tt))
     ∙ ap (λ (z : ℕ). round binary64 false z 64) (mul-one n)
 
-pub sixtyFourths-value : (n : ℕ) → n ≤ 4096 → HasValue (sixtyFourths n) false n 64
-sixtyFourths-value n h = subst (λ (x : Float). HasValue x false n 64) (sym (sixtyFourths-is n h)) (dyadic 6 n (lit≤ tt) (lt-of-le-of-lt h (lit< tt)))
+pub sixtyFourths-value : (n : ℕ) → n < 2 ^ 53 → HasValue (sixtyFourths n) false n 64
+sixtyFourths-value n h = subst (λ (x : Float). HasValue x false n 64) (sym (sixtyFourths-is n h)) (dyadic 6 n (lit≤ tt) h)
 
--- a leg of k / 64 miles is on the grid
-leg-on-grid : (k : ℕ) → k ≤ 4096 → sixtyFourths k ≡ parts (64 * k)
-leg-on-grid k h = sixtyFourths-is k h ∙ round-same binary64 false k 64 (64 * k) 4096 (lit< tt) (lit< tt) (omega arith)
+-- n / 64 miles are on the grid
+pub sixtyFourths-exact : (n : ℕ) → 64 * n < 2 ^ 53 → Exactly (sixtyFourths n) (64 * n)
+sixtyFourths-exact n h =
+    let small : n < 2 ^ 53 = omega arith in
+    subst (λ (x : Float). Exactly x (64 * n)) (sym (sixtyFourths-is n small ∙ round-same binary64 false n 64 (64 * n) 4096 (lit< tt) (lit< tt) (omega arith))) (parts-value (64 * n) h)
 
 -- ---- the clamp
 pub upTo-yes : (leg x : Float) → lt x leg ≡ true → upTo leg x ≡ x
@@ -51,21 +54,24 @@ upTo-yes leg x e = ap (λ (t : Bool). cond t x leg) e
 pub upTo-no : (leg x : Float) → lt x leg ≡ false → upTo leg x ≡ leg
 upTo-no leg x e = ap (λ (t : Bool). cond t x leg) e
 
-upTo-grid : (k n : ℕ) → 0 < k → k < 2 ^ 53 → upTo (parts k) (parts n) ≡ parts (min k n)
-upTo-grid k n k0 kh = go (decLe k n)
+-- n / 4096 miles, up to a leg of k / 4096
+upTo-grid : (leg : Float) (k n : ℕ) → LegIn4096ths leg k → Exactly (upTo leg (parts n)) (min k n)
+upTo-grid leg k n r = go (decLe k n)
   where
-    go : Dec (k ≤ n) → upTo (parts k) (parts n) ≡ parts (min k n)
+    go : Dec (k ≤ n) → Exactly (upTo leg (parts n)) (min k n)
     go (yes h) =
         let least : k ≡ min k n = omega arith in
-        upTo-no (parts k) (parts n) (lt-false (parts n) (parts k) (positive-of-value (parts k) k 4096 (parts-value k kh) k0) (parts-mono k n h)) ∙ ap parts least
+        let p = positive-of-value leg k 4096 (r .exact) (r .some) in
+        let here : T (le leg (parts k)) = le-of-values leg (parts k) k 4096 k 4096 (lit< tt) (lit< tt) (r .exact) (parts-value k (r .few)) (le-refl (k * 4096)) in
+        subst (λ (x : Float). Exactly x (min k n)) (sym (upTo-no leg (parts n) (lt-false (parts n) leg p (le-up leg (parts k) (parts n) p here (parts-mono k n h))))) (subst (Exactly leg) least (r .exact))
     go (no g) =
         let h : n < k = lt-of-not-le g in
         let least : n ≡ min k n = omega arith in
-        upTo-yes (parts k) (parts n) (lt-of-values (parts n) (parts k) n 4096 k 4096 (lit< tt) (lit< tt) (parts-value n (lt-trans h kh)) (parts-value k kh) (mul-lt-mul-of-pos-right h (lit< tt)))
-        ∙ ap parts least
+        let v = parts-value n (lt-trans h (r .few)) in
+        subst (λ (x : Float). Exactly x (min k n)) (sym (upTo-yes leg (parts n) (lt-of-values (parts n) leg n 4096 k 4096 (lit< tt) (lit< tt) v (r .exact) (mul-lt-mul-of-pos-right h (lit< tt))))) (subst (Exactly (parts n)) least v)
 
 -- ---- one tick
-module _ {speed amount : ℕ} (s : Between 1 512 speed) (a : Between 1 64 amount) where
+module _ {speed amount : ℕ} (s : Between 1 fastest speed) (a : Between 1 longestTick amount) where
   step-is : milesFlown speed amount ≡ parts (speed * amount)
   step-is =
       let sv = sixtyFourths-value speed (omega arith) in
@@ -85,12 +91,12 @@ module _ {speed amount : ℕ} (s : Between 1 512 speed) (a : Between 1 64 amount
       ap (λ (x : Float). upTo leg (add binary64 miles x)) step-is
       ∙ ap (upTo leg) (add-worth binary64 miles (parts (speed * amount)) b c (speed * amount) 4096 C (lit< tt) step-pos w (parts-value (speed * amount) (lt-of-le-of-lt step-small (lit< tt))))
 
-  -- from m / 4096 miles on a leg of k / 64: nothing is rounded
-  pub grid-tick : {k : ℕ} (miles : Float) (m : ℕ) → Between 1 4096 k → HasValue miles false m 4096 → advanced miles speed amount (sixtyFourths k) ≡ parts (min (64 * k) (m + speed * amount))
-  grid-tick {k} miles m r h =
+  -- from m / 4096 miles on a leg of k / 4096: nothing is rounded
+  pub grid-tick : (miles leg : Float) (k m : ℕ) → LegIn4096ths leg k → Exactly miles m → Exactly (advanced miles speed amount leg) (min k (m + speed * amount))
+  grid-tick miles leg k m r h =
       let n = speed * amount in
       let cross : (m * 4096 + n * 4096) * 4096 ≡ (m + n) * 16777216 = omega arith in
-      advanced-is miles (sixtyFourths k) m 4096 (lit< tt) (value→worth miles m 4096 h)
-      ∙ ap (λ (leg : Float). upTo leg (round binary64 false (m * 4096 + n * 4096) 16777216)) (leg-on-grid k (r .most))
-      ∙ ap (upTo (parts (64 * k))) (round-same binary64 false (m * 4096 + n * 4096) 16777216 (m + n) 4096 (lit< tt) (lit< tt) cross)
-      ∙ upTo-grid (64 * k) (m + n) (omega arith) (omega arith)
+      let is : advanced miles speed amount leg ≡ upTo leg (parts (m + n)) =
+      advanced-is miles leg m 4096 (lit< tt) (value→worth miles m 4096 h)
+      ∙ ap (upTo leg) (round-same binary64 false (m * 4096 + n * 4096) 16777216 (m + n) 4096 (lit< tt) (lit< tt) cross) in
+      subst (λ (x : Float). Exactly x (min k (m + n))) (sym is) (upTo-grid leg k (m + n) r)

@@ -4,6 +4,7 @@ use Prim.Native.Nat.{ℕ}
 use mathlib.Core.Bool.{Bool, true, false, cond, _&&_}
 use lib.IntN.{pos}
 use lib.Ieee.{Float, binary64, add, mul, div, ofInt, lt, le, eq}
+use Rattle.limits.specs.Limits.{longestLegMiles}
 use Rattle.leg.specs.declared.Progress.{Progress}
 use Rattle.leg.specs.declared.Progress.the-variants.{Waiting, Flying}
 
@@ -42,6 +43,10 @@ abbrev pub withinLeg : Progress → Float → Bool
 withinLeg Waiting leg = true
 withinLeg (Flying miles) leg = le (whole 0) miles && le miles leg
 
+-- the leg compares between 1/64 of a mile and this many miles
+abbrev pub legUpTo : ℕ → Float → Bool
+legUpTo most leg = le (sixtyFourths 1) leg && le leg (whole most)
+
 -- "legs compare between 1/64 and 64 miles"
 abbrev pub legalLeg : Float → Bool
-legalLeg leg = le (sixtyFourths 1) leg && le leg (whole 64)
+legalLeg leg = legUpTo longestLegMiles leg

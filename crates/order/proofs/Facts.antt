@@ -1,6 +1,7 @@
--- What holds of every okay sequence: its bounds, that entries and moves lead to okay sequences again, and that the first can always go on.
+-- What holds of every okay sequence: its bounds, that entries and moves lead to okay sequences again, that a move makes the weight
+-- smaller, and that the first can always go on.
 -- A claim, such as `moved`, is tested of all okay sequences by computation (`moved-holds`), and the fact is read off. Assumes nothing.
-use mathlib.Core.Path.{_≡_, refl}
+use mathlib.Core.Path.{_≡_, refl, subst}
 use mathlib.Core.Bool.{true, cond, not, _&&_, _||_}
 use mathlib.Core.List.{List, [], _∷_, _++_}
 use Prim.Native.Nat.{ℕ, _+_, _≤_, _<_}
@@ -9,9 +10,9 @@ use lib.ListN.{length}
 use lib.Ieee.Fits.{and-i}
 use Rattle.request.specs.Input.{within}
 use Rattle.field.specs.Boxes.{opposite, sideOf, at3000, at2000, lateral, missed, area, operation, zonesFrom}
-use Rattle.field.specs.Counts.{total}
-use Rattle.field.specs.Bounds.{every}
-use Rattle.order.specs.Model.{Side, right, left, opp, num, count, countFix, free, isNil, Kind, descend, approaching, merge, final, hold, needs, target, mayEnter, mayEnterLateral, firstFix, all, okay, weight, weights}
+use Rattle.questions.specs.Counts.{total}
+use Rattle.field.specs.Lists.{every}
+use Rattle.order.specs.Model.{Side, right, left, opp, num, count, countFix, free, isNil, Kind, descend, approaching, merge, final, hold, needs, target, mayEnter, mayEnterLateral, firstFix, all, okay, weight, heaviest}
 use Rattle.order.proofs.Claims.{Each, Claim, One, Two, ofSequences, of-sequence, ofOnes, of-one, ofTwos, of-two}
 
 -- ---- the sequence as a whole
@@ -26,10 +27,11 @@ abbrev fitting : Claim (List ℕ)
 fitting =
     record {
       given = λ f zs. true;
-      shown = λ f zs. leb (length zs) 4 ∷ all (within 1 12) zs ∷ leb (weights zs) 28 ∷ every (λ z. leb (count zs z) 1) (zonesFrom 1 6) ∷ [];
+      shown = λ f zs. leb (length zs) 4 ∷ all (within 1 12) zs ∷ leb (weight zs) heaviest ∷ every (λ z. leb (count zs z) 1) (zonesFrom 1 6) ∷ [];
     }
 
 fitting-holds : T (ofSequences fitting)
+unfolding weight
 fitting-holds = tt
 
 -- at most four in the sequence
@@ -40,9 +42,9 @@ okay-length f zs o = leb→le (length zs) 4 (of-sequence fitting fitting-holds f
 pub okay-zones : (f : Side) (zs : List ℕ) → T (okay f zs) → T (all (within 1 12) zs)
 okay-zones f zs o = of-sequence fitting fitting-holds f zs o tt 1
 
--- their weights add up to at most 28
-pub weights-small : (f : Side) (zs : List ℕ) → T (okay f zs) → weights zs ≤ 28
-weights-small f zs o = leb→le (weights zs) 28 (of-sequence fitting fitting-holds f zs o tt 2)
+-- the weight is at most the heaviest
+pub weight-small : (f : Side) (zs : List ℕ) → T (okay f zs) → weight zs ≤ heaviest
+weight-small f zs o = leb→le (weight zs) heaviest (of-sequence fitting fitting-holds f zs o tt 2)
 
 -- bounds b, c and d of document 01, said of the sequence
 pub record Bounds (f : Side) (zs : List ℕ) : Type 0 where
@@ -142,7 +144,8 @@ pub record Moved (f : Side) (zs₁ : List ℕ) (z w : ℕ) (zs₂ : List ℕ) : 
   pub none-behind : T (free zs₂ w)
   pub other : T (not (eqb w z))
   pub inside : T (within 1 12 w)
-  pub lighter : weight w < weight z
+  -- the weight is smaller
+  pub lighter : weight (zs₁ ++ w ∷ zs₂) < weight (zs₁ ++ z ∷ zs₂)
 
 -- a move of one by the kind
 abbrev moved : Kind → Claim One
@@ -152,27 +155,27 @@ moved k =
       shown =
           λ f (zs₁, z, zs₂).
           let w = target k zs₁ z zs₂ in
-          okay f (zs₁ ++ w ∷ zs₂) ∷ free zs₂ w ∷ not (eqb w z) ∷ within 1 12 w ∷ ltb (weight w) (weight z) ∷ [];
+          okay f (zs₁ ++ w ∷ zs₂) ∷ free zs₂ w ∷ not (eqb w z) ∷ within 1 12 w ∷ ltb (weight (zs₁ ++ w ∷ zs₂)) (weight (zs₁ ++ z ∷ zs₂)) ∷ [];
     }
 
 descend-holds : T (ofOnes (moved descend))
-unfolding okay
+unfolding okay weight
 descend-holds = tt
 
 approaching-holds : T (ofOnes (moved approaching))
-unfolding okay opposite sideOf
+unfolding okay weight opposite sideOf
 approaching-holds = tt
 
 merge-holds : T (ofOnes (moved merge))
-unfolding okay
+unfolding okay weight
 merge-holds = tt
 
 final-holds : T (ofOnes (moved final))
-unfolding okay
+unfolding okay weight
 final-holds = tt
 
 hold-holds : T (ofOnes (moved hold))
-unfolding okay sideOf
+unfolding okay weight sideOf
 hold-holds = tt
 
 moved-holds : (k : Kind) → T (ofOnes (moved k))
@@ -193,7 +196,7 @@ moves k f zs₁ z zs₂ o h n =
       none-behind = m 1;
       other = m 2;
       inside = m 3;
-      lighter = ltb→lt (weight w) (weight z) (m 4);
+      lighter = ltb→lt (weight (zs₁ ++ w ∷ zs₂)) (weight (zs₁ ++ z ∷ zs₂)) (m 4);
     }
 
 -- ---- a hold where 3000 is occupied
@@ -225,7 +228,8 @@ pub record BothMoved (f : Side) (zs₁ : List ℕ) (y w : ℕ) (zs₂ : List ℕ
   pub apart : T (not (eqb w y)) × T (not (eqb y z)) × T (not (eqb w z))
   pub inside-y : T (within 1 12 y)
   pub inside-w : T (within 1 12 w)
-  pub lighter : weight w + weight y < weight y + weight z
+  -- the weight is smaller
+  pub lighter : weight (zs₁ ++ w ∷ (zs₂ ++ y ∷ zs₃)) < weight (zs₁ ++ y ∷ (zs₂ ++ z ∷ zs₃))
 
 -- a move of two by a hold
 abbrev bothMoved : Claim Two
@@ -245,12 +249,12 @@ bothMoved =
           ∷ not (eqb w z)
           ∷ within 1 12 y
           ∷ within 1 12 w
-          ∷ ltb (weight w + weight y) (weight y + weight z)
+          ∷ ltb (weight (zs₁ ++ w ∷ (zs₂ ++ y ∷ zs₃))) (weight (zs₁ ++ y ∷ (zs₂ ++ z ∷ zs₃)))
           ∷ [];
     }
 
 both-moved-holds : T (ofTwos bothMoved)
-unfolding okay sideOf
+unfolding okay weight sideOf
 both-moved-holds = tt
 
 -- a hold of one at the head of its missed zone, where 3000 is occupied
@@ -271,7 +275,7 @@ hold-both f zs₁ zs₂ z zs₃ u o h =
       apart = (m 5, m 6, m 7);
       inside-y = m 8;
       inside-w = m 9;
-      lighter = ltb→lt (weight w + weight y) (weight y + weight z) (m 10);
+      lighter = ltb→lt (weight (zs₁ ++ w ∷ (zs₂ ++ y ∷ zs₃))) (weight (zs₁ ++ y ∷ (zs₂ ++ z ∷ zs₃))) (m 10);
     }
 
 -- ---- the first of the sequence
@@ -299,6 +303,29 @@ first-leaves f z zs o = of-one firstGoes first-goes-holds f [] z zs o tt 0
 -- the first can go on, or is on final
 pub head-moves : (f : Side) (z : ℕ) (zs : List ℕ) → T (okay f (z ∷ zs)) → T (eqb z 12 || needs (headKind z) [] z zs)
 head-moves f z zs o = of-one firstGoes first-goes-holds f [] z zs o tt 1
+
+-- without the first, in zone v, the weight is smaller by at least n
+abbrev firstGone : ℕ → ℕ → Claim One
+firstGone v n =
+    record { given = λ f (zs₁, z, zs₂). isNil zs₁ && eqb z v; shown = λ f (zs₁, z, zs₂). leb (n + weight zs₂) (weight (z ∷ zs₂)) ∷ [] }
+
+first-exits-holds : T (ofOnes (firstGone 11 1))
+unfolding weight
+first-exits-holds = tt
+
+first-lands-holds : T (ofOnes (firstGone 12 2))
+unfolding weight
+first-lands-holds = tt
+
+-- an exit of the first, on intermediate, makes the weight smaller
+pub exit-lighter : (f : Side) (z : ℕ) (zs : List ℕ) → z ≡ 11 → T (okay f (z ∷ zs)) → 1 + weight zs ≤ weight (z ∷ zs)
+exit-lighter f z zs e o =
+    leb→le (1 + weight zs) (weight (z ∷ zs)) (of-one (firstGone 11 1) first-exits-holds f [] z zs o (subst (λ (v : ℕ). T (eqb z v)) e (eqb-refl z)) 0)
+
+-- a landing of the first, on final, makes it smaller by at least two: one of them is for the taxi that follows
+pub landing-lighter : (f : Side) (z : ℕ) (zs : List ℕ) → z ≡ 12 → T (okay f (z ∷ zs)) → 2 + weight zs ≤ weight (z ∷ zs)
+landing-lighter f z zs e o =
+    leb→le (2 + weight zs) (weight (z ∷ zs)) (of-one (firstGone 12 2) first-lands-holds f [] z zs o (subst (λ (v : ℕ). T (eqb z v)) e (eqb-refl z)) 0)
 
 -- the first, on final, misses its approach
 abbrev firstMisses : Claim One

@@ -8,7 +8,8 @@ use lib.Dec.{leb, ltb, eqb}
 use lib.ListN.{length, getD}
 use Rattle.request.specs.Input.{within}
 use Rattle.field.specs.Boxes.{opposite, sideOf, at3000, at2000, lateral, missed, base, area, approach, operation}
-use Rattle.field.specs.Counts.{isIn, total}
+use Rattle.field.specs.Lists.{isIn}
+use Rattle.questions.specs.Counts.{total}
 
 -- ---- sides
 pub data Side : Type 0 where
@@ -162,10 +163,17 @@ roomToMiss k f (z ∷ zs) = leb (number (ofArea f) zs + k / 2) 1 && roomToMiss (
 unfoldable pub okay : Side → List ℕ → Bool
 okay f zs = leb (length zs) 4 && chain f zs && roomToMiss 0 f zs
 
--- ---- the weight: how many moves a zone is from the end at the most
-abbrev pub weight : ℕ → ℕ
-weight z = getD (0 ∷ 6 ∷ 6 ∷ 5 ∷ 5 ∷ 6 ∷ 6 ∷ 7 ∷ 7 ∷ 4 ∷ 4 ∷ 3 ∷ 2 ∷ 1 ∷ []) z 0
+-- ---- the weight
 
-abbrev pub weights : List ℕ → ℕ
-weights [] = 0
-weights (z ∷ zs) = weight z + weights zs
+-- at most so many moves are left for one in zone z, as long as it does not miss its approach
+abbrev movesFrom : ℕ → ℕ
+movesFrom z = getD (0 ∷ 6 ∷ 6 ∷ 5 ∷ 5 ∷ 6 ∷ 6 ∷ 7 ∷ 7 ∷ 4 ∷ 4 ∷ 3 ∷ 2 ∷ []) z 0
+
+-- at most so many moves are left for those in the sequence, as long as nobody enters or misses its approach
+unfoldable pub weight : List ℕ → ℕ
+weight [] = 0
+weight (z ∷ zs) = movesFrom z + weight zs
+
+-- the weight of an okay sequence at the most: with one move more, for the one on the runway, document 01's 29
+abbrev pub heaviest : ℕ
+heaviest = 28

@@ -9,7 +9,7 @@ ghost use lib.ListN.{length};
 ghost use denote.Ref.{ptr};
 ghost use Rattle.practice.specs.File.{number16, number32, legsOf, legsAllowed, opens, entryIs, contentsAllowed, fileNumber};
 ghost use Rattle.practice.specs.Sections.{placeAt, sectionOffset, sectionLength, sectionBytes, fileLegs};
-ghost use Rattle.practice.specs.Requests.{requestsOf, requestAt};
+ghost use Rattle.practice.specs.Requests.{requestAt};
 
 // The legs of a practice file, in 64ths of a mile. `last` is document 01's final, a word that the language keeps.
 pub struct FileLegs {
@@ -170,13 +170,6 @@ pub fn file_legs(file: &[u8]) -> FileLegs
             missed: 0,
         }
     }
-}
-
-// How many requests the file holds from its second body's first byte on.
-pub fn request_count(body: &[u8]) -> usize
-    ensures { λ r. ⌜ r ≡ length (requestsOf (now (body .entry))) ⌝ }
-{
-    body.len() / 6
 }
 
 // The i-th of those requests, counted from 0, or the end.

@@ -1,18 +1,26 @@
--- The marked cases of "Played by hand" hold of the definitions, by one computed test of the whole table. Assumes nothing.
+-- The marked cases of "Played by hand" and the examples of docs/WHY-SAFE.md hold of the definitions, by one computation. Assumes nothing.
+use mathlib.Core.Path.{refl}
 use lib.Dec.{T}
 use lib.Ieee.{add, mul, div, ofInt, round, lt, le, eq}
 use Rattle.leg.specs.Progress.{advanced}
 use Rattle.request.specs.Input.{kindAllowed, sideAllowed, numberAllowed, amountAllowed, inputNumber}
 use Rattle.field.specs.Boxes.{isSide, sideOf, opposite, isFlyingZone, zoneOf, queueOf, inZone, orderOf, progressInto, entering, withProgress, withFix, legOf, flownOutIn, emptyField}
-use Rattle.field.specs.Counts.{howMany, howManyWithFix, inOperation, inArea, perFix, approachHolds, countedFor, potentialOf}
-use Rattle.field.specs.Find.{findIn, placeOf, aircraftAt, fixOf, isFirst, leaderOf, leaderZone}
-use Rattle.field.specs.Bounds.{every, boundA, boundB, lateralRule, boundC, boundD, numbersDiffer, sequenceExact, finalFirst, isNobody, zoneKept, sequenceKept, boundE, boundF, fitsZone, legalLegs, boundG, withinBounds}
-use Rattle.field.specs.Edits.{withoutHead, withTail, appended, removed, withZone, withSequence, tickedAircraft, tickedZone, ticked}
+use Rattle.questions.specs.Counts.{howMany, howManyWithFix, inOperation, inArea, perFix, approachHolds, countedFor, potentialOf}
+use Rattle.questions.specs.Find.{findIn, placeOf, aircraftAt, fixOf, isFirst, leaderOf, leaderZone}
+use Rattle.field.specs.Lists.{every}
+use Rattle.bounds.specs.Bounds.{boundA, boundB, lateralRule, boundC, boundD, finalFirst, isNobody, zoneKept, sequenceKept, boundE, boundF, fitsZone, legalLegs, boundG, withinBounds}
+use Rattle.numbers.specs.Numbers.{numbersDiffer, sequenceExact}
+use Rattle.field.specs.Edits.{withoutHead, withTail, appended, removed, withZone, withSequence}
+use Rattle.tick.specs.Tick.{tickedAircraft, tickedZone, ticked}
 use Rattle.rules.specs.Kinds.{startsFrom, mayApproach, baseFree, verticalChecks, lateralChecks, descendChecks, approachChecks, mergeChecks, flownOutChecks, landChecks, exitChecks, headGone, tailPut, moved, outOfSequence, fixTaken, entered, approached, landed, exited, fixAfterMiss, missedApproach, held, heldAlong}
 use Rattle.rules.specs.Step.{checksOf, effectOf, numberOf, numberAndZeros, acceptance, answerOf, stepOf}
+use Rattle.rules.specs.Reason.{along, approachOrder, areaOrder, roomToMiss, lateralEntry, QueueAgrees}
 use Rattle.rules.specs.Cases.{marked, caseHolds}
+use Rattle.rules.specs.Examples.{examples, crowded, missOfSeven, BoundsNotEnough}
+use Rattle.field.proofs.Tests.{each-operation}
 
-pub marked-cases : T (every caseHolds marked)
+-- the three together, so that what is computed is unfolded once
+computed : T (every caseHolds marked) × T (every caseHolds examples) × BoundsNotEnough crowded missOfSeven
 unfolding
     advanced kindAllowed sideAllowed numberAllowed amountAllowed inputNumber isSide opposite isFlyingZone zoneOf queueOf inZone orderOf progressInto entering
     withProgress withFix legOf flownOutIn emptyField howMany howManyWithFix inOperation inArea perFix approachHolds countedFor potentialOf findIn placeOf
@@ -21,5 +29,27 @@ unfolding
     startsFrom mayApproach baseFree verticalChecks lateralChecks descendChecks approachChecks mergeChecks flownOutChecks landChecks exitChecks headGone tailPut moved
     outOfSequence fixTaken entered approached landed exited fixAfterMiss missedApproach held heldAlong checksOf effectOf numberOf numberAndZeros acceptance
     answerOf stepOf
-    add mul div ofInt round lt le eq
-marked-cases = tt
+    add mul div ofInt round lt le eq along approachOrder areaOrder roomToMiss lateralEntry
+computed = (
+  tt,
+  tt,
+  record {
+    within-bounds = tt;
+    other-parts = tt;
+    queues-agree = each-operation (QueueAgrees crowded) (refl, refl, refl, refl, refl, refl, refl, refl, refl, refl, refl, refl);
+    no-room = refl;
+    answer-25 = refl;
+  },
+)
+
+-- the marked cases
+pub marked-cases : T (every caseHolds marked)
+marked-cases = computed .0
+
+-- the three aircraft of docs/WHY-SAFE.md
+pub examples-hold : T (every caseHolds examples)
+examples-hold = computed .1
+
+-- the bounds alone are not enough
+pub bounds-not-enough : BoundsNotEnough crowded missOfSeven
+bounds-not-enough = computed .2

@@ -14,9 +14,10 @@ use Rattle.request.specs.declared.Request.{Request}
 use Rattle.request.proofs.Tests.{Numbered}
 use Rattle.field.specs.declared.Field.{Field}
 use Rattle.field.specs.Boxes.{at3000, at2000, lateral, intermediate, finalApproach, runway, sideOf}
-use Rattle.field.specs.Find.{placeOf, isFirst, leaderZone}
-use Rattle.field.specs.Bounds.{every, isEmpty}
-use Rattle.field.specs.Edits.{ticked}
+use Rattle.questions.specs.Find.{placeOf, isFirst, leaderZone}
+use Rattle.field.specs.Lists.{every}
+use Rattle.questions.specs.Counts.{isEmpty}
+use Rattle.tick.specs.Tick.{ticked}
 use Rattle.field.proofs.Tests.{if-false}
 use Rattle.rules.specs.Kinds.{zoneBefore, startsFrom, headChecks, flownOutCheck, mayApproach, baseFree, verticalChecks, lateralChecks, descendChecks, approachChecks, mergeChecks, flownOutChecks, landChecks, exitChecks, moved, headGone, entered, approached, landed, exited, missedApproach, held}
 use Rattle.rules.specs.Step.{byKind, checksOf, effectOf}

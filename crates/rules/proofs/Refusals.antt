@@ -11,18 +11,14 @@ use Rattle.request.specs.Input.{firstRefused, inputNumber}
 use Rattle.request.specs.declared.Request.{Request}
 use Rattle.request.proofs.Tests.{Numbered}
 use Rattle.field.specs.declared.Field.{Field}
-use Rattle.field.specs.Bounds.{withinBounds}
+use Rattle.bounds.specs.Bounds.{withinBounds}
 use Rattle.rules.specs.declared.Stepped.{Stepped}
-use Rattle.rules.specs.Step.{checksOf, effectOf, numberOf, numberAndZeros, answerOf, stepOf}
+use Rattle.rules.specs.Step.{checksOf, effectOf, numberOf, numberAndZeros, answerOf, stepOf, Unchanged}
 use Rattle.field.proofs.Tests.{pass, if-true, if-false}
 use Rattle.rules.proofs.Checks.{first-passes, checks-refuse}
-use Rattle.rules.proofs.Outcomes.{number-is, input-of, field-accepted, field-refused}
+use Rattle.rules.proofs.StepLaws.{number-is, input-of, field-accepted, field-refused}
 
--- ---- a refusal answers its number and zeros, and the field is the one handed in
-pub record Unchanged (f : Field) (r : Request) : Type 0 where
-  pub same-field : stepOf f r .field ≡ f
-  pub zeros : stepOf f r .answer ≡ numberAndZeros (stepOf f r .answer .number)
-
+-- a refusal answers its number and zeros, and the field is the one handed in
 pub refused-unchanged : (f : Field) (r : Request) → (stepOf f r .answer .number ≡ 0 → ⊥) → Unchanged f r
 unfolding stepOf
 refused-unchanged f r h =

@@ -9,7 +9,7 @@ use Rattle.request.specs.declared.Request.{Request}
 use Rattle.field.specs.declared.Legs.{Legs}
 use Rattle.field.specs.declared.Field.{Field}
 use Rattle.field.specs.Boxes.{legsIn64ths, emptyField, orderOf}
-use Rattle.field.specs.Find.{placeOf, aircraftAt}
+use Rattle.questions.specs.Find.{placeOf, aircraftAt}
 use Rattle.rules.specs.declared.Answer.{Answer}
 use Rattle.rules.specs.Step.{numberAndZeros}
 use Rattle.rules.specs.Play.{fieldAfter, played}
@@ -104,7 +104,7 @@ marked =
       leg = 64;
       requests = ask 1 2 7 64 ∷ ask 3 0 7 0 ∷ ask 1 2 8 64 ∷ ask 4 0 7 0 ∷ ask 1 1 9 64 ∷ toBase 8 (toBase 9 []);
       answer = numberAndZeros 23;
-      after = λ f. stands 7 10 f && stands 8 10 f && stands 9 3 f;
+      after = λ f. inOrder (7 ∷ 8 ∷ 9 ∷ []) f && stands 7 10 f && stands 8 10 f && stands 9 3 f;
     }
     -- "Speed 512, tick 64, leg 4096: 8 miles."
     ∷ record {

@@ -10,7 +10,7 @@ use Rattle.field.specs.declared.Aircraft.{Aircraft}
 use Rattle.field.specs.declared.Zone.{Zone}
 use Rattle.field.specs.declared.Field.{Field}
 use Rattle.field.specs.Boxes.{right, left, finalApproach, nobody, emptyZone, entering, withProgress, progressInto}
-use Rattle.field.specs.Bounds.{withinBounds}
+use Rattle.bounds.specs.Bounds.{withinBounds}
 use Rattle.rules.specs.Step.{numberAndZeros, stepOf}
 use Rattle.rules.specs.Cases.{ask, says, allLegs, Case, anyField, inOrder, stands, toBase, toFinal}
 use Rattle.rules.specs.Reason.{approachOrder, areaOrder, roomToMiss, lateralEntry, QueueAgrees}

@@ -9,9 +9,8 @@ use Rattle.request.specs.declared.Request.{Request}
 use Rattle.field.specs.declared.Aircraft.{Aircraft}
 use Rattle.field.specs.declared.Field.{Field}
 use Rattle.field.specs.Boxes.{opposite, sideOf, at3000, at2000, lateral, missed, base, intermediate, finalApproach, runway, zoneOf, orderOf, progressInto, entering, withProgress, withFix, flownOutIn}
-use Rattle.field.specs.Counts.{howMany, approachHolds, potentialOf}
-use Rattle.field.specs.Find.{placeOf, aircraftAt, isFirst, leaderZone}
-use Rattle.field.specs.Bounds.{isEmpty}
+use Rattle.questions.specs.Counts.{howMany, approachHolds, potentialOf, isEmpty}
+use Rattle.questions.specs.Find.{placeOf, aircraftAt, isFirst, leaderZone}
 use Rattle.field.specs.Edits.{withoutHead, withTail, appended, removed, withZone, withSequence}
 
 -- ---- where an aircraft is

@@ -1,5 +1,5 @@
 -- Document 01, "Any list of requests": playing a list, and the counts over its requests and answers.
-use mathlib.Core.Bool.{Bool, cond, _&&_}
+use mathlib.Core.Bool.{Bool, cond, _&&_, _||_}
 use mathlib.Core.List.{List, [], _∷_}
 use Prim.Native.Nat.{ℕ, _+_}
 use lib.Dec.{eqb}
@@ -51,3 +51,7 @@ misses = accepted (λ kind. eqb kind 10)
 -- "A move is an accepted request of kinds 3 to 11."
 abbrev pub moves : List (Request × Answer) → ℕ
 moves = accepted (within 3 11)
+
+-- kinds 1, 2 and 10: entries and missed approaches
+abbrev pub addsMoves : ℕ → Bool
+addsMoves kind = isEntry kind || eqb kind 10

@@ -10,9 +10,10 @@ use Rattle.request.specs.Input.{within}
 use Rattle.request.specs.declared.Request.{Request}
 use Rattle.field.specs.declared.Field.{Field}
 use Rattle.field.specs.Boxes.{right, left, sideOf, at3000, missed, base, intermediate, finalApproach, area, everywhere, zoneOf, inZone, orderOf}
-use Rattle.field.specs.Counts.{isIn, inArea}
-use Rattle.field.specs.Find.{placeOf, fixOf}
-use Rattle.field.specs.Bounds.{every, withinBounds}
+use Rattle.field.specs.Lists.{isIn, every}
+use Rattle.questions.specs.Counts.{inArea}
+use Rattle.questions.specs.Find.{placeOf, fixOf}
+use Rattle.bounds.specs.Bounds.{withinBounds}
 use Rattle.rules.specs.Step.{stepOf}
 
 -- ---- along the landing sequence

@@ -1,4 +1,5 @@
 -- Document 01, "The requests" and "Turned away by the field": the step of any request on any field.
+use mathlib.Core.Path.{_≡_}
 use mathlib.Core.Bool.{Bool, cond}
 use mathlib.Core.List.{List, [], _∷_, _++_}
 use Prim.Native.Nat.{ℕ}
@@ -7,9 +8,9 @@ use Rattle.request.specs.Input.{firstRefused, inputNumber}
 use Rattle.request.specs.declared.Request.{Request}
 use Rattle.field.specs.declared.Field.{Field}
 use Rattle.field.specs.Boxes.{at3000, at2000, lateral, intermediate, finalApproach, runway}
-use Rattle.field.specs.Find.{placeOf, fixOf, leaderOf}
-use Rattle.field.specs.Bounds.{withinBounds}
-use Rattle.field.specs.Edits.{ticked}
+use Rattle.questions.specs.Find.{placeOf, fixOf, leaderOf}
+use Rattle.bounds.specs.Bounds.{withinBounds}
+use Rattle.tick.specs.Tick.{ticked}
 use Rattle.rules.specs.declared.Answer.{Answer}
 use Rattle.rules.specs.declared.Stepped.{Stepped}
 use Rattle.rules.specs.Kinds.{zoneBefore, headChecks, verticalChecks, lateralChecks, descendChecks, approachChecks, mergeChecks, flownOutChecks, landChecks, exitChecks, moved, headGone, entered, approached, landed, exited, missedApproach, held, heldAlong}
@@ -91,3 +92,8 @@ stepOf f r =
     cond (eqb (numberOf f r) 0)
     (record { answer = answerOf f r; field = effectOf f r })
     (record { answer = numberAndZeros (numberOf f r); field = f })
+
+-- what a refusal is to leave (demand 1): its number and zeros, and the field handed in
+pub record Unchanged (f : Field) (r : Request) : Type 0 where
+  pub same-field : stepOf f r .field ≡ f
+  pub zeros : stepOf f r .answer ≡ numberAndZeros (stepOf f r .answer .number)

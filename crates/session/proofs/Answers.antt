@@ -14,18 +14,19 @@ use Rattle.request.specs.declared.Request.{Request}
 use Rattle.field.specs.declared.Aircraft.{Aircraft}
 use Rattle.field.specs.declared.Legs.{Legs}
 use Rattle.field.specs.declared.Field.{Field}
-use Rattle.field.specs.declared.Place.{Place}
+use Rattle.questions.specs.declared.Place.{Place}
 use Rattle.field.specs.Boxes.{isSide, inZone, everywhere, nobody}
-use Rattle.field.specs.Find.{placeFrom, findIn, placeOf, aircraftAt, fixOf}
-use Rattle.field.specs.Bounds.{every, fitsZone, legalLegs, boundG, withinBounds}
+use Rattle.questions.specs.Find.{placeFrom, findIn, placeOf, aircraftAt, fixOf}
+use Rattle.field.specs.Lists.{every}
+use Rattle.bounds.specs.Bounds.{fitsZone, legalLegs, boundG, withinBounds}
 use Rattle.rules.specs.declared.Answer.{Answer}
 use Rattle.rules.specs.declared.Stepped.{Stepped}
 use Rattle.rules.specs.Kinds.{heldAlong}
 use Rattle.rules.specs.Step.{checksOf, effectOf, numberOf, numberAndZeros, acceptance, answerOf, stepOf}
 use Rattle.field.proofs.Tests.{passed, decided, first-of}
-use Rattle.field.proofs.BoundLaws.{within-each}
-use Rattle.field.proofs.FindLaws.{place-within}
-use Rattle.rules.proofs.Outcomes.{number-is, field-accepted}
+use Rattle.laws.proofs.BoundLaws.{within-each}
+use Rattle.questions.proofs.FindLaws.{place-within}
+use Rattle.rules.proofs.StepLaws.{number-is, field-accepted}
 use Rattle.rules.proofs.Refusals.{accepted-within}
 use Rattle.rules.proofs.Checks.{numberedIn, checks-numbered, input-numbered}
 

@@ -12,11 +12,11 @@ use Rattle.practice.specs.Requests.{requestsOf}
 use Rattle.practice.proofs.Accepted.{LegKnown, legs-known}
 use Rattle.practice.proofs.Meaning.{held}
 use Rattle.field.specs.Boxes.{emptyField}
-use Rattle.field.specs.Counts.{presentOn}
-use Rattle.field.specs.Bounds.{legalLegs}
+use Rattle.questions.specs.Counts.{presentOn}
+use Rattle.bounds.specs.Bounds.{legalLegs}
 use Rattle.rules.specs.Play.{fieldAfter, played}
-use Rattle.rules.proofs.Exact.{legs-legal}
-use Rattle.rules.proofs.Demand.{demand-3}
+use Rattle.demand.proofs.Exact.{legs-legal}
+use Rattle.demand.proofs.Demand.{demand-3}
 use Rattle.session.specs.Tally.{tallyOf}
 use Rattle.session.specs.Report.{legsInMiles, sessionReport}
 use Rattle.session.specs.Balance.{Balanced}

@@ -5,7 +5,7 @@ use mathlib.Core.List.{List, _++_}
 use lib.Dec.{T}
 use Rattle.request.specs.declared.Request.{Request}
 use Rattle.rules.specs.declared.Answer.{Answer}
-use Rattle.rules.specs.Demand.{neverAnswers}
+use Rattle.demand.specs.Demand.{neverAnswers}
 use Rattle.session.specs.declared.tally.Tally.{Tally}
 use Rattle.session.specs.Report.{answerLines, endLine, reportOf}
 

@@ -8,7 +8,7 @@ use Rattle.practice.specs.declared.FileLegs.{FileLegs}
 use Rattle.practice.specs.Practice.{Practice, refused, holds, practiceOf}
 use Rattle.field.specs.declared.Legs.{Legs}
 use Rattle.field.specs.Boxes.{legsIn64ths, emptyField}
-use Rattle.field.specs.Counts.{presentOn}
+use Rattle.questions.specs.Counts.{presentOn}
 use Rattle.rules.specs.declared.Answer.{Answer}
 use Rattle.rules.specs.Play.{fieldAfter, played}
 use Rattle.session.specs.declared.tally.Tally.{Tally}

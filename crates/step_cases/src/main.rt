@@ -18,13 +18,13 @@ use field::edits::appended;
 use field::edits::with_sequence;
 use field::edits::with_tail;
 use field::edits::with_zone;
-use field::find::aircraft_at;
-use landing::step;
 use leg::Progress;
 use leg::of_sixty_fourths;
 use libc::STDOUT_FILENO;
+use questions::find::aircraft_at;
 use request::Request;
 use rules::Answer;
+use step::step;
 
 // ---- the fields
 

@@ -1,13 +1,12 @@
 -- `session::put::put_number` meets its contract: the digits of n / 10, and one more. The measure is the number. Assumes nothing.
 use mathlib.Core.Path.{ap, subst⁻¹}
 use mathlib.Core.List.{List, [], _∷_}
-use Prim.Native.Nat.{_+_, _/_, _%_}
+use Prim.Native.Nat.{_+_, _/_, _%_, ℕ, _<_}
 use native.Mathlib.Omega.{arith}
 use lib.ListN.{length, length-append}
 use denote.Ref.{now}
 use Rattle.session.specs.Text.{decimal, Put}
 use Rattle.session.proofs.Texts.{decimal-one, decimal-more, put-more}
-use Prim.Native.Nat.{ℕ, _<_}
 use borrow.Fn.Kinds.{In}
 use borrow.Fn.PlainCycle.{Measures, is, falls, and}
 use Rattle.session.proofs.put.put_number.Reads as put-number

@@ -1,0 +1,346 @@
+// Document 01, "The bounds", a to g (specs/Bounds.antt).
+use field::Aircraft;
+use field::Field;
+use field::Legs;
+use field::Sequence;
+use field::Zone;
+use field::boxes::is_flying_zone;
+use field::boxes::is_side;
+use field::boxes::leg_of;
+use field::boxes::opposite;
+use field::boxes::order_length;
+use field::boxes::queue_length;
+use leg::Progress;
+use leg::legal;
+use leg::within;
+use numbers::numbers_differ;
+use numbers::sequence_exact;
+use questions::counts::how_many;
+use questions::counts::in_area;
+use questions::counts::in_operation;
+use questions::counts::per_fix;
+use questions::find::aircraft_at;
+use questions::find::fix_of;
+use questions::find::is_first;
+ghost use mathlib.Core.Path.{_≡_};
+ghost use mathlib.Core.List.{map};
+ghost use lib.Dec.{leb};
+ghost use lib.ListN.{getD};
+ghost use Rattle.field.specs.Boxes.{zonesFrom, everywhere, zoneOf, queueOf, inZone, orderOf};
+ghost use Rattle.questions.specs.Counts.{howMany};
+ghost use Rattle.questions.specs.Find.{fixOf};
+ghost use Rattle.field.specs.Lists.{every};
+ghost use Rattle.bounds.specs.Bounds.{boundA, boundB, lateralRule, boundC, boundD, finalFirst, isWaiting, isNobody, zoneKept, sequenceKept, boundE, boundF, fitsZone, legalLegs, boundG, withinBounds};
+
+// Bound a: at most four in the operation area, one on the runway.
+pub fn bound_a(f: Field) -> bool
+    ensures { λ r. ⌜ r ≡ boundA f ⌝ }
+{
+    if 4 < in_operation(f) {
+        return false;
+    }
+    how_many(f, 13) <= 1
+}
+
+// Bound b: at most two in each side's area.
+pub fn bound_b(f: Field) -> bool
+    ensures { λ r. ⌜ r ≡ boundB f ⌝ }
+{
+    if 2 < in_area(f, 1) {
+        return false;
+    }
+    in_area(f, 2) <= 2
+}
+
+// Whether zones 1 to 6 hold at most one each.
+fn one_each(f: Field) -> bool
+    ensures { λ r. ⌜ r ≡ every (λ z. leb (howMany f z) 1) (zonesFrom 1 6) ⌝ }
+{
+    for zone in 1..=6 {
+        let q = f.zones[zone - 1];
+        if 1 < queue_length(q) {
+            return false;
+        }
+    }
+    true
+}
+
+// Whether a side's lateral zone is empty, or else its holdings and its missed zone.
+pub fn lateral_rule(f: Field, side: u8) -> bool
+    ensures { λ r. ⌜ r ≡ lateralRule f side ⌝ }
+{
+    let s = side as usize;
+    if how_many(f, 4 + s) == 0 {
+        return true;
+    }
+    if how_many(f, s) != 0 {
+        return false;
+    }
+    if how_many(f, 2 + s) != 0 {
+        return false;
+    }
+    how_many(f, 6 + s) == 0
+}
+
+// Bound c: at most one in each of zones 1 to 6, and the rule of the lateral zones.
+pub fn bound_c(f: Field) -> bool
+    ensures { λ r. ⌜ r ≡ boundC f ⌝ }
+{
+    if !one_each(f) {
+        return false;
+    }
+    if !lateral_rule(f, 1) {
+        return false;
+    }
+    lateral_rule(f, 2)
+}
+
+// Bound d: at most two in the operation area per fix.
+pub fn bound_d(f: Field) -> bool
+    ensures { λ r. ⌜ r ≡ boundD f ⌝ }
+{
+    if 2 < per_fix(f, 1) {
+        return false;
+    }
+    per_fix(f, 2) <= 2
+}
+
+// Whether the head of final, if any, heads the sequence.
+pub fn final_first(f: Field) -> bool
+    ensures { λ r. ⌜ r ≡ finalFirst f ⌝ }
+{
+    if how_many(f, 12) == 0 {
+        return true;
+    }
+    let s = f.sequence;
+    let a = aircraft_at(f, 12, 1);
+    is_first(s, a.number)
+}
+
+// Whether a progress is waiting.
+pub fn is_waiting(p: Progress) -> bool
+    ensures { λ r. ⌜ r ≡ isWaiting p ⌝ }
+{
+    match p {
+        Progress::Waiting => true,
+        Progress::Flying(_) => false,
+    }
+}
+
+// Whether a place is all zero and waiting.
+pub fn is_nobody(a: Aircraft) -> bool
+    ensures { λ r. ⌜ r ≡ isNobody a ⌝ }
+{
+    if a.number != 0 {
+        return false;
+    }
+    if a.fix != 0 {
+        return false;
+    }
+    if a.speed != 0 {
+        return false;
+    }
+    let p = a.progress;
+    is_waiting(p)
+}
+
+// Whether a zone's length fits its array, and the places past it are all zero and waiting.
+pub fn zone_kept(q: Zone) -> bool
+    ensures { λ r. ⌜ r ≡ zoneKept q ⌝ }
+{
+    let n = q.length;
+    if 4 < n {
+        return false;
+    }
+    for i in n..4 {
+        let a = q.aircraft[i];
+        if !is_nobody(a) {
+            return false;
+        }
+    }
+    true
+}
+
+// Whether each of the thirteen zones is kept so.
+fn zones_kept(f: Field) -> bool
+    ensures { λ r. ⌜ r ≡ every (λ z. zoneKept (zoneOf f z)) everywhere ⌝ }
+{
+    for zone in 1..=13 {
+        let q = f.zones[zone - 1];
+        if !zone_kept(q) {
+            return false;
+        }
+    }
+    true
+}
+
+// Whether the sequence's length fits its array, and the places past it are zero.
+pub fn sequence_kept(s: Sequence) -> bool
+    ensures { λ r. ⌜ r ≡ sequenceKept s ⌝ }
+{
+    let n = s.length;
+    if 4 < n {
+        return false;
+    }
+    for i in n..4 {
+        if s.numbers[i] != 0 {
+            return false;
+        }
+    }
+    true
+}
+
+// Bound e: numbers, the sequence, the head of final, lengths and the places past them.
+pub fn bound_e(f: Field) -> bool
+    ensures { λ r. ⌜ r ≡ boundE f ⌝ }
+{
+    if !numbers_differ(f) {
+        return false;
+    }
+    if !sequence_exact(f) {
+        return false;
+    }
+    if !final_first(f) {
+        return false;
+    }
+    if !zones_kept(f) {
+        return false;
+    }
+    let s = f.sequence;
+    sequence_kept(s)
+}
+
+// The fix of the one at an index of the sequence; past its end the next fix.
+fn fix_at(f: Field, i: usize) -> u8
+    ensures { λ r. ⌜ r ≡ getD (map (fixOf f) (orderOf (f .sequence))) i (f .next) ⌝ }
+{
+    let s = f.sequence;
+    if i < order_length(s) {
+        return fix_of(f, s.numbers[i]);
+    }
+    f.next
+}
+
+// Bound f: fixes alternate along the sequence, and the next fix is the opposite of the last one's.
+pub fn bound_f(f: Field) -> bool
+    ensures { λ r. ⌜ r ≡ boundF f ⌝ }
+{
+    let s = f.sequence;
+    let end = order_length(s);
+    let mut fix = fix_at(f, 0);
+    for i in 0..end {
+        let other = opposite(fix);
+        fix = fix_at(f, i + 1);
+        if fix != other {
+            return false;
+        }
+    }
+    true
+}
+
+// Whether an aircraft of a zone has a side as fix, a speed from 1 to 512, and flies within the zone's leg where the zone is flown in
+// and waits elsewhere.
+pub fn fits_zone(legs: Legs, zone: usize, a: Aircraft) -> bool
+    ensures { λ r. ⌜ r ≡ fitsZone legs zone a ⌝ }
+{
+    if !is_side(a.fix) {
+        return false;
+    }
+    if a.speed < 1 {
+        return false;
+    }
+    if 512 < a.speed {
+        return false;
+    }
+    let p = a.progress;
+    if is_flying_zone(zone) {
+        if is_waiting(p) {
+            return false;
+        }
+        return within(p, leg_of(legs, zone));
+    }
+    is_waiting(p)
+}
+
+// Whether everyone in a zone's queue fits the zone.
+fn zone_fits(legs: Legs, zone: usize, q: Zone) -> bool
+    ensures { λ r. ⌜ r ≡ every (fitsZone legs zone) (queueOf q) ⌝ }
+{
+    let end = queue_length(q);
+    for i in 0..end {
+        let a = q.aircraft[i];
+        if !fits_zone(legs, zone, a) {
+            return false;
+        }
+    }
+    true
+}
+
+// Whether everyone on the field fits their zone.
+fn zones_fit(f: Field) -> bool
+    ensures { λ r. ⌜ r ≡ every (λ z. every (fitsZone (f .legs) z) (inZone f z)) everywhere ⌝ }
+{
+    let legs = f.legs;
+    for zone in 1..=13 {
+        let q = f.zones[zone - 1];
+        if !zone_fits(legs, zone, q) {
+            return false;
+        }
+    }
+    true
+}
+
+// Whether all four legs are from 1/64 of a mile to 64 miles.
+pub fn legal_legs(legs: Legs) -> bool
+    ensures { λ r. ⌜ r ≡ legalLegs legs ⌝ }
+{
+    if !legal(legs.missed) {
+        return false;
+    }
+    if !legal(legs.base) {
+        return false;
+    }
+    if !legal(legs.intermediate) {
+        return false;
+    }
+    legal(legs.final_approach)
+}
+
+// Bound g: sides, speeds, miles, legs, and who flies.
+pub fn bound_g(f: Field) -> bool
+    ensures { λ r. ⌜ r ≡ boundG f ⌝ }
+{
+    if !zones_fit(f) {
+        return false;
+    }
+    if !is_side(f.next) {
+        return false;
+    }
+    let legs = f.legs;
+    legal_legs(legs)
+}
+
+// All seven bounds.
+pub fn within_bounds(f: Field) -> bool
+    ensures { λ r. ⌜ r ≡ withinBounds f ⌝ }
+{
+    if !bound_a(f) {
+        return false;
+    }
+    if !bound_b(f) {
+        return false;
+    }
+    if !bound_c(f) {
+        return false;
+    }
+    if !bound_d(f) {
+        return false;
+    }
+    if !bound_e(f) {
+        return false;
+    }
+    if !bound_f(f) {
+        return false;
+    }
+    bound_g(f)
+}

@@ -1,0 +1,125 @@
+-- Demand 3 holds of every list of requests from an empty field with legal legs. Assumes nothing.
+use mathlib.Core.Path.{_≡_, sym, ap, _∙_, subst}
+use mathlib.Core.Bool.{_&&_}
+use mathlib.Core.List.{List, []}
+use Prim.Native.Nat.{ℕ, _+_, _≤_, _<_}
+use native.Mathlib.Nat.{le-trans}
+use native.Mathlib.Omega.{arith}
+use lib.Dec.{T, leb, leb→le}
+use lib.ListN.{length}
+use lib.Ieee.Fits.{and-l, and-r}
+use Rattle.request.specs.Input.{within}
+use Rattle.request.specs.declared.Request.{Request}
+use Rattle.field.specs.declared.Aircraft.{Aircraft}
+use Rattle.field.specs.declared.Legs.{Legs}
+use Rattle.field.specs.declared.Field.{Field}
+use Rattle.field.specs.Boxes.{emptyField, zonesFrom}
+use Rattle.questions.specs.Counts.{howMany, presentOn, inOperation, inArea, perFix}
+use Rattle.field.specs.Lists.{every}
+use Rattle.bounds.specs.Bounds.{legalLegs, boundA, boundB, boundC, boundD, lateralRule}
+use Rattle.field.proofs.Shapes.{one-of-two}
+use Rattle.order.specs.Model.{Side, right}
+use Rattle.order.proofs.Facts.{okay-empty, okay-zones, weight-small}
+use Rattle.rules.specs.Play.{fieldAfter, played, accepted, moves, addsMoves}
+use Rattle.demand.specs.Demand.{allFlownOut, MovesOn, Demand3}
+use Rattle.field.proofs.Tests.{every-from}
+use Rattle.line.proofs.Line.{Placed, zonesIn, fieldOf, empty-is}
+use Rattle.line.proofs.Counted.{in-operation, all-counted, how-many-runway}
+use Rattle.line.proofs.Orderly.{Orderly, length-zones}
+use Rattle.line.proofs.Within.{a-holds, b-holds, c-holds, d-holds}
+use Rattle.moves.proofs.After.{weightOf}
+use Rattle.demand.proofs.Runs.{Run, runs}
+use Rattle.demand.proofs.Unstuck.{unstuck}
+
+-- nobody yet
+pub empty-orderly : (legs : Legs) → T (legalLegs legs) → Orderly right [] [] legs
+empty-orderly legs l =
+    record { okay-line = okay-empty right; alternates = tt; nonzeros = tt; different = tt; fit-line = tt; fit-runway = tt; one-landed = omega arith; legal = l }
+
+-- a side is 1 or 2
+by-side : (P : ℕ → Type 0) → P 1 → P 2 → (s : ℕ) → T (within 1 2 s) → P s
+by-side P p q s t =
+    one-of-two P 1 s (leb→le 1 s (and-l (leb 1 s) (leb s 2) t)) (let h = leb→le s 2 (and-r (leb 1 s) (leb s 2) t) in omega arith) p q
+
+module _ (f : Side) (line : List Placed) (runway : List Aircraft) (legs : Legs) (o : Orderly f line runway legs) where
+  abbrev F : Field
+  F = fieldOf f line runway legs
+
+  four-in : inOperation F ≤ 4
+  unfolding boundA
+  four-in = leb→le (inOperation F) 4 (and-l (leb (inOperation F) 4) (leb (howMany F 13) 1) (a-holds f line runway legs o))
+
+  two-in-area : (s : ℕ) → T (within 1 2 s) → inArea F s ≤ 2
+  unfolding boundB
+  two-in-area =
+      let b = b-holds f line runway legs o in
+      by-side (λ (s : ℕ). inArea F s ≤ 2)
+      (leb→le (inArea F 1) 2 (and-l (leb (inArea F 1) 2) (leb (inArea F 2) 2) b))
+      (leb→le (inArea F 2) 2 (and-r (leb (inArea F 1) 2) (leb (inArea F 2) 2) b))
+
+  two-per-fix : (s : ℕ) → T (within 1 2 s) → perFix F s ≤ 2
+  unfolding boundD
+  two-per-fix =
+      let d = d-holds f line runway legs o in
+      by-side (λ (s : ℕ). perFix F s ≤ 2)
+      (leb→le (perFix F 1) 2 (and-l (leb (perFix F 1) 2) (leb (perFix F 2) 2) d))
+      (leb→le (perFix F 2) 2 (and-r (leb (perFix F 1) 2) (leb (perFix F 2) 2) d))
+
+  single : T (every (λ z. leb (howMany F z) 1) (zonesFrom 1 6))
+  unfolding boundC
+  single =
+      let p = every (λ z. leb (howMany F z) 1) (zonesFrom 1 6) in
+      and-l p (lateralRule F 1) (and-l (p && lateralRule F 1) (lateralRule F 2) (c-holds f line runway legs o))
+
+  one-in-holding : (z : ℕ) → T (within 1 4 z) → howMany F z ≤ 1
+  one-in-holding z t =
+      leb→le (howMany F z) 1
+      (every-from (λ z. leb (howMany F z) 1) 1 6 single z (leb→le 1 z (and-l (leb 1 z) (leb z 4) t)) (let h = leb→le z 4 (and-r (leb 1 z) (leb z 4) t) in omega arith))
+
+  -- everyone of the line and the runway is present
+  pub present-is : presentOn F ≡ length line + length runway
+  unfolding presentOn inOperation
+  present-is =
+      let a = in-operation f line runway legs in
+      let b = all-counted (zonesIn line) (okay-zones f (zonesIn line) (o .okay-line)) in
+      let c = length-zones line in
+      let d = how-many-runway f line runway legs in
+      omega arith
+
+  light : weightOf line runway ≤ 29
+  light = let a = weight-small f (zonesIn line) (o .okay-line) in let b = o .one-landed in omega arith
+
+-- ---- every list
+module _ (legs : Legs) (l : T (legalLegs legs)) (rs : List Request) where
+  pub from-empty : Run legs (emptyField legs) 0 (weightOf [] []) rs
+  from-empty = subst (λ (g : Field). Run legs g 0 (weightOf [] []) rs) (sym (empty-is legs)) (runs legs rs right [] [] (empty-orderly legs l))
+
+  -- what holds of the order's field holds of the field after the list
+  carry : (P : Field → Type 0) → P (fieldOf (from-empty .first-then) (from-empty .line-then) (from-empty .runway-then) legs) → P (fieldAfter (emptyField legs) rs)
+  carry P p = subst P (sym (from-empty .stands)) p
+
+  pub demand-3 : Demand3 legs rs
+  demand-3 =
+      let f = from-empty .first-then in
+      let line = from-empty .line-then in
+      let runway = from-empty .runway-then in
+      let o = from-empty .orderly in
+      let present = present-is f line runway legs o in
+      record {
+        no-10 = from-empty .no-10;
+        no-25 = from-empty .no-25;
+        operation = carry (λ (g : Field). inOperation g ≤ 4) (four-in f line runway legs o);
+        areas = carry (λ (g : Field). (side : ℕ) → T (within 1 2 side) → inArea g side ≤ 2) (two-in-area f line runway legs o);
+        fixes = carry (λ (g : Field). (side : ℕ) → T (within 1 2 side) → perFix g side ≤ 2) (two-per-fix f line runway legs o);
+        holdings = carry (λ (g : Field). (zone : ℕ) → T (within 1 4 zone) → howMany g zone ≤ 1) (one-in-holding f line runway legs o);
+        balance =
+            let p : presentOn (fieldAfter (emptyField legs) rs) ≡ length line + length runway = ap presentOn (from-empty .stands) ∙ present in
+            let b = from-empty .balance in
+            omega arith;
+        never-stuck =
+            carry (λ (g : Field). 0 < presentOn g → T (allFlownOut g) → MovesOn g)
+            (λ p t. unstuck f line runway legs o (subst (λ (n : ℕ). 0 < n) present p) t);
+        at-most-29 =
+            carry (λ (g : Field). (more : List Request) → accepted addsMoves (played g more) ≡ 0 → moves (played g more) ≤ 29)
+            (λ more h. le-trans (runs legs more f line runway o .few h) (light f line runway legs o));
+      }

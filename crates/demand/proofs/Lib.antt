@@ -1,0 +1,4 @@
+pub mod Runs
+pub mod Unstuck
+pub mod Demand
+pub mod Exact

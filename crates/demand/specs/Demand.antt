@@ -1,0 +1,51 @@
+-- Demand 3: one claim about every list of requests from an empty field (document 01, "Any list of requests").
+use mathlib.Core.Path.{_≡_}
+use mathlib.Core.Bool.{Bool, not, _||_}
+use mathlib.Core.List.{List}
+use Prim.Native.Nat.{ℕ, _+_, _≤_, _<_}
+use lib.Dec.{T, eqb}
+use Rattle.request.specs.Input.{within}
+use Rattle.request.specs.declared.Request.{Request}
+use Rattle.field.specs.declared.Legs.{Legs}
+use Rattle.field.specs.declared.Field.{Field}
+use Rattle.field.specs.Boxes.{emptyField, inZone, flownOutIn, zonesFrom}
+use Rattle.questions.specs.Counts.{howMany, presentOn, inOperation, inArea, perFix}
+use Rattle.field.specs.Lists.{every}
+use Rattle.rules.specs.declared.Answer.{Answer}
+use Rattle.rules.specs.Step.{stepOf}
+use Rattle.rules.specs.Play.{fieldAfter, played, accepted, addsMoves, letIn, taxiedOff, exitedFrom, moves}
+
+-- no answer in the list has the number
+abbrev pub neverAnswers : ℕ → List (Request × Answer) → Bool
+neverAnswers number ps = every (λ p. not (eqb (p .1 .number) number)) ps
+
+-- "All have flown their leg out when, for everyone in zones 7 to 12, miles equal the leg's length"
+unfoldable pub allFlownOut : Field → Bool
+allFlownOut f = every (λ z. every (flownOutIn (f .legs) z) (inZone f z)) (zonesFrom 7 6)
+
+-- kinds 3 to 8 and 11
+abbrev pub movesOn : ℕ → Bool
+movesOn kind = within 3 8 kind || eqb kind 11
+
+-- a request of kinds 3 to 8 or 11 that is accepted on the field
+pub record MovesOn (f : Field) : Type 0 where
+  pub request : Request
+  pub kind : T (movesOn (request .kind))
+  pub accepted : stepOf f request .answer .number ≡ 0
+
+-- what holds of the field and the answers after a list of requests from the empty field with these legs
+pub record Demand3 (legs : Legs) (rs : List Request) : Type 0 where
+  -- "refusals 10 and 25 never come"
+  pub no-10 : T (neverAnswers 10 (played (emptyField legs) rs))
+  pub no-25 : T (neverAnswers 25 (played (emptyField legs) rs))
+  -- at most four in the operation area, two in each side's area, two per missed approach side, one in each of zones 1 to 4
+  pub operation : inOperation (fieldAfter (emptyField legs) rs) ≤ 4
+  pub areas : (side : ℕ) → T (within 1 2 side) → inArea (fieldAfter (emptyField legs) rs) side ≤ 2
+  pub fixes : (side : ℕ) → T (within 1 2 side) → perFix (fieldAfter (emptyField legs) rs) side ≤ 2
+  pub holdings : (zone : ℕ) → T (within 1 4 zone) → howMany (fieldAfter (emptyField legs) rs) zone ≤ 1
+  -- let in = taxied off + exited + present
+  pub balance : letIn (played (emptyField legs) rs) ≡ taxiedOff (played (emptyField legs) rs) + exitedFrom (played (emptyField legs) rs) + presentOn (fieldAfter (emptyField legs) rs)
+  -- "then, if anyone is present, there is a request of kinds 3 to 8 or 11 that is accepted on that field"
+  pub never-stuck : 0 < presentOn (fieldAfter (emptyField legs) rs) → T (allFlownOut (fieldAfter (emptyField legs) rs)) → MovesOn (fieldAfter (emptyField legs) rs)
+  -- "The 29 holds for every list that goes on from there without an accepted request of kind 1, 2 or 10."
+  pub at-most-29 : (more : List Request) → accepted addsMoves (played (fieldAfter (emptyField legs) rs) more) ≡ 0 → moves (played (fieldAfter (emptyField legs) rs) more) ≤ 29

@@ -1,0 +1,99 @@
+-- `effects::missed_approach` meets its contract, step by step. Assumes nothing.
+use mathlib.Core.Path.{_≡_}
+use Prim.Native.Nat.{ℕ, _+_}
+use Rattle.request.specs.declared.Request.{Request}
+use Rattle.leg.specs.declared.Progress.{Progress}
+use Rattle.field.specs.declared.Aircraft.{Aircraft}
+use Rattle.field.specs.declared.Sequence.{Sequence}
+use Rattle.field.specs.declared.Field.{Field}
+use Rattle.field.specs.Boxes.{opposite, progressInto, withProgress, withFix}
+use Rattle.field.specs.Edits.{appended, removed, withSequence}
+use Rattle.questions.specs.Find.{aircraftAt}
+use Rattle.rules.specs.Kinds.{headGone, tailPut, fixAfterMiss, missedApproach}
+use borrow.Author.Needs.{needs}
+use Rattle.effects.proofs.missed_approach.Statement.{statement}
+use Rattle.effects.proofs.missed_approach.Tie as tie
+
+-- the field by its parts
+made : (f : Field) (r : Request) {a b d : Aircraft} {p : Progress} {fix next : ℕ} {g h x : Field} {s t : Sequence}
+    → a ≡ aircraftAt f 12 1 → fix ≡ fixAfterMiss f a → p ≡ progressInto (6 + a .fix) → b ≡ withProgress a p → d ≡ withFix b fix
+    → g ≡ headGone f 12 → h ≡ tailPut g (6 + a .fix) d
+    → s ≡ removed (f .sequence) (r .number) → t ≡ appended s (r .number) → next ≡ opposite fix → x ≡ withSequence h t next → x ≡ missedApproach f r
+unfolding missedApproach
+made f r ea ef ep eb ed eg eh es et en ex = cc
+
+aircraft-at-requires : tie.Need-aircraft-at-requires
+aircraft-at-requires c κs = search needs
+
+cast-zone : tie.Need-cast-zone
+cast-zone c = search needs
+
+add-zone : tie.Need-add-zone
+add-zone c = search needs
+
+fix-after-miss-requires : tie.Need-fix-after-miss-requires
+fix-after-miss-requires c κs = search needs
+
+progress-into-requires : tie.Need-progress-into-requires
+progress-into-requires c κs = search needs
+
+with-progress-requires : tie.Need-with-progress-requires
+with-progress-requires c κs = search needs
+
+with-fix-requires : tie.Need-with-fix-requires
+with-fix-requires c κs = search needs
+
+head-gone-requires : tie.Need-head-gone-requires
+head-gone-requires c κs = search needs
+
+tail-put-requires : tie.Need-tail-put-requires
+tail-put-requires c κs = search needs
+
+removed-requires : tie.Need-removed-requires
+removed-requires c κs = search needs
+
+appended-requires : tie.Need-appended-requires
+appended-requires c κs = search needs
+
+opposite-requires : tie.Need-opposite-requires
+opposite-requires c κs = search needs
+
+with-sequence-requires : tie.Need-with-sequence-requires
+with-sequence-requires c κs = search needs
+
+returns : tie.Need-returns
+returns c =
+    let a = c .before .before .before .before .before .before .before .before .before .before .before .before in
+    let b = c .before .before .before .before .before .before .before in
+    let d = c .before .before in
+    made (a .before .args .f) (a .before .args .r)
+    (a .aircraft-at .ensures)
+    (b .before .before .before .fix-after-miss .ensures)
+    (b .before .before .progress-into .ensures)
+    (b .before .with-progress .ensures)
+    (b .with-fix .ensures)
+    (d .before .before .before .before .head-gone .ensures)
+    (d .before .before .before .tail-put .ensures)
+    (d .before .removed .ensures)
+    (d .appended .ensures)
+    (c .before .opposite .ensures)
+    (c .with-sequence .ensures)
+
+pub missed-approach-spec : {M : Type 1} → statement M
+missed-approach-spec =
+    tie.close
+    (tie.spec
+    aircraft-at-requires
+    cast-zone
+    add-zone
+    fix-after-miss-requires
+    progress-into-requires
+    with-progress-requires
+    with-fix-requires
+    head-gone-requires
+    tail-put-requires
+    removed-requires
+    appended-requires
+    opposite-requires
+    with-sequence-requires
+    returns)

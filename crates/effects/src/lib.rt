@@ -1,0 +1,192 @@
+// Document 01, "The requests": what each kind does to the field (rules' specs/Kinds.antt).
+use field::Aircraft;
+use field::Field;
+use field::boxes::entering;
+use field::boxes::opposite;
+use field::boxes::order_length;
+use field::boxes::progress_into;
+use field::boxes::side_of;
+use field::boxes::with_fix;
+use field::boxes::with_progress;
+use field::boxes::zone_of;
+use field::edits::appended;
+use field::edits::removed;
+use field::edits::with_sequence;
+use field::edits::with_tail;
+use field::edits::with_zone;
+use field::edits::without_head;
+use field::zones::AT_2000;
+use field::zones::BASE;
+use field::zones::FINAL;
+use field::zones::INTERMEDIATE;
+use field::zones::LATERAL;
+use field::zones::MISSED;
+use field::zones::RUNWAY;
+use needs::base_free;
+use needs::may_approach;
+use needs::zone_before;
+use questions::counts::is_empty;
+use questions::find::aircraft_at;
+use request::Request;
+use tick::ticked;
+ghost use mathlib.Core.Path.{_≡_};
+ghost use mathlib.Core.Bool.{cond, _&&_};
+ghost use Rattle.field.specs.Boxes.{at2000, base};
+ghost use Rattle.rules.specs.Kinds.{zoneBefore, mayApproach, baseFree, headGone, tailPut, moved, outOfSequence, fixTaken, entered, approached, landed, exited, fixAfterMiss, missedApproach, held, heldAlong};
+ghost use Rattle.rules.specs.Step.{effectOf};
+
+// The field with the head of a zone taken off it.
+fn head_gone(f: Field, zone: usize) -> Field
+    ensures { λ r. ⌜ r ≡ headGone f zone ⌝ }
+{
+    with_zone(f, zone, without_head(zone_of(f, zone)))
+}
+
+// The field with an aircraft put at the tail of a zone.
+fn tail_put(f: Field, zone: usize, a: Aircraft) -> Field
+    ensures { λ r. ⌜ r ≡ tailPut f zone a ⌝ }
+{
+    with_zone(f, zone, with_tail(zone_of(f, zone), a))
+}
+
+// The field with the head of a zone moved to the tail of another.
+fn moved(f: Field, from: usize, to: usize) -> Field
+    ensures { λ r. ⌜ r ≡ moved f from to ⌝ }
+{
+    let a = with_progress(aircraft_at(f, from, 1), progress_into(to));
+    tail_put(head_gone(f, from), to, a)
+}
+
+// The field with a number out of the landing sequence.
+fn out_of_sequence(f: Field, number: u16) -> Field
+    ensures { λ r. ⌜ r ≡ outOfSequence f number ⌝ }
+{
+    let s = f.sequence;
+    with_sequence(f, removed(s, number), f.next)
+}
+
+// The fix that an entry from a side takes.
+fn fix_taken(f: Field, side: u8) -> u8
+    ensures { λ r. ⌜ r ≡ fixTaken f side ⌝ }
+{
+    let s = f.sequence;
+    if order_length(s) == 0 { side } else { f.next }
+}
+
+// Kinds 1 and 2: the field with the request's aircraft entered into a zone.
+fn entered(f: Field, r: Request, zone: usize) -> Field
+    ensures { λ g. ⌜ g ≡ entered f r zone ⌝ }
+{
+    let fix = fix_taken(f, r.side);
+    let g = tail_put(f, zone, entering(r.number, fix, r.amount));
+    let s = f.sequence;
+    with_sequence(g, appended(s, r.number), opposite(fix))
+}
+
+// Kind 3: the field with the request's aircraft moved from 3000 to 2000, two zones on.
+fn descended(f: Field, r: Request) -> Field
+    ensures { λ g. ⌜ g ≡ moved f (zoneBefore f r) (at2000 (zoneBefore f r)) ⌝ }
+{
+    let zone = zone_before(f, r);
+    moved(f, zone, AT_2000 + zone)
+}
+
+// Kind 4: the zone that an approach of the aircraft with a number leads to: base, or 2000 where a need is not met.
+fn approach_zone(f: Field, number: u16, side: u8) -> usize
+    ensures { λ z. ⌜ z ≡ cond (mayApproach f number && baseFree f side) (base side) (at2000 side) ⌝ }
+{
+    if !may_approach(f, number) {
+        return AT_2000 + side as usize;
+    }
+    if !base_free(f, side) {
+        return AT_2000 + side as usize;
+    }
+    BASE + side as usize
+}
+
+// Kind 4: the field with the request's aircraft moved to base, or to 2000 where a need of the approach is not met.
+fn approached(f: Field, r: Request) -> Field
+    ensures { λ g. ⌜ g ≡ approached f r ⌝ }
+{
+    let zone = zone_before(f, r);
+    moved(f, zone, approach_zone(f, r.number, side_of(zone)))
+}
+
+// Kind 7: the field with the head of final on the runway and the request's aircraft out of the sequence.
+fn landed(f: Field, r: Request) -> Field
+    ensures { λ g. ⌜ g ≡ landed f r ⌝ }
+{
+    out_of_sequence(moved(f, FINAL, RUNWAY), r.number)
+}
+
+// Kind 9: the field with the head of intermediate gone and the request's aircraft out of the sequence.
+fn exited(f: Field, r: Request) -> Field
+    ensures { λ g. ⌜ g ≡ exited f r ⌝ }
+{
+    out_of_sequence(head_gone(f, INTERMEDIATE), r.number)
+}
+
+// The fix of an aircraft after its missed approach.
+fn fix_after_miss(f: Field, a: Aircraft) -> u8
+    ensures { λ r. ⌜ r ≡ fixAfterMiss f a ⌝ }
+{
+    let s = f.sequence;
+    if order_length(s) == 1 { a.fix } else { f.next }
+}
+
+// Kind 10: the field with the head of final in the missed zone of its old fix, last in the sequence.
+fn missed_approach(f: Field, r: Request) -> Field
+    ensures { λ g. ⌜ g ≡ missedApproach f r ⌝ }
+{
+    let a = aircraft_at(f, FINAL, 1);
+    let zone = MISSED + a.fix as usize;
+    let fix = fix_after_miss(f, a);
+    let b = with_fix(with_progress(a, progress_into(zone)), fix);
+    let g = tail_put(head_gone(f, FINAL), zone, b);
+    let s = f.sequence;
+    with_sequence(g, appended(removed(s, r.number), r.number), opposite(fix))
+}
+
+// Kind 11: the field with the request's aircraft held at 2000 or 3000, and the one at 3000 moved to 2000 where both are needed.
+fn held(f: Field, r: Request) -> Field
+    ensures { λ g. ⌜ g ≡ held f r ⌝ }
+{
+    let zone = zone_before(f, r);
+    let side = side_of(zone) as usize;
+    if !is_empty(f, side) {
+        return moved(moved(f, side, AT_2000 + side), zone, side);
+    }
+    if is_empty(f, AT_2000 + side) {
+        return moved(f, zone, AT_2000 + side);
+    }
+    moved(f, zone, side)
+}
+
+// The other aircraft that a hold moves; 0 where there is none.
+pub fn held_along(f: Field, r: Request) -> u16
+    ensures { λ n. ⌜ n ≡ heldAlong f r ⌝ }
+{
+    let a = aircraft_at(f, side_of(zone_before(f, r)) as usize, 1);
+    a.number
+}
+
+// The field after a request whose needs are met, by its kind; any other number than 1 to 11 is a tick.
+pub fn effect(f: Field, r: Request) -> Field
+    ensures { λ g. ⌜ g ≡ effectOf f r ⌝ }
+{
+    let kind = r.kind;
+    match kind {
+        1 => entered(f, r, r.side as usize),
+        2 => entered(f, r, LATERAL + r.side as usize),
+        3 => descended(f, r),
+        4 => approached(f, r),
+        5 => moved(f, zone_before(f, r), INTERMEDIATE),
+        6 => moved(f, INTERMEDIATE, FINAL),
+        7 => landed(f, r),
+        8 => head_gone(f, RUNWAY),
+        9 => exited(f, r),
+        10 => missed_approach(f, r),
+        11 => held(f, r),
+        _ => ticked(f, r.amount),
+    }
+}

@@ -1,0 +1,20 @@
+-- Tests of lists: of the numbers of aircraft, of zones, and of what else a list holds.
+use mathlib.Core.Bool.{Bool, true, false, not, _&&_, _||_}
+use mathlib.Core.List.{List, [], _∷_}
+use Prim.Native.Nat.{ℕ}
+use lib.Dec.{eqb}
+
+-- a test of every listed number, zone or aircraft
+abbrev pub every {ℓ} : {A : Type ℓ} → (A → Bool) → List A → Bool
+every p [] = true
+every p (x ∷ xs) = p x && every p xs
+
+-- whether a number is one of the listed ones
+abbrev pub isIn : ℕ → List ℕ → Bool
+isIn n [] = false
+isIn n (m ∷ ms) = eqb m n || isIn n ms
+
+-- whether no number is listed twice
+abbrev pub allDifferent : List ℕ → Bool
+allDifferent [] = true
+allDifferent (n ∷ ns) = not (isIn n ns) && allDifferent ns

@@ -1,0 +1,266 @@
+-- Laws of a tick: what it does to every queue, and that it keeps the bounds. Assumes nothing.
+use mathlib.Core.Path.{_≡_, refl, sym, ap, _∙_, subst, fun-ext}
+use mathlib.Core.Logic.{_⊎_, inl, inr}
+use mathlib.Core.Bool.{Bool, true, false, cond, not, _&&_}
+use mathlib.Core.List.{List, [], _∷_, map, map-map, map-id}
+use Prim.Native.Nat.{ℕ, zero, suc}
+use native.Mathlib.Numerals.{add-one}
+use native.Mathlib.Omega.{arith}
+use borrow.Author.Tests.{ltb-true, ltb-false}
+use lib.Dec.{T, eqb, leb, ltb, leb→le}
+use lib.Ieee.{Float}
+use lib.Ieee.Fits.{and-i, and-l, and-r}
+use lib.ListN.{length, getD, take, drop, List·getD-eq-default}
+use Rattle.leg.specs.Progress.{legalLeg, withinLeg, progressAfter}
+use Rattle.leg.specs.Ticks.{Between, flying}
+use Rattle.leg.specs.declared.Progress.{Progress}
+use Rattle.leg.specs.declared.Progress.the-variants.{Waiting, Flying}
+use Rattle.leg.proofs.Theorems.{within-kept, flying-kept}
+use Rattle.field.specs.declared.Aircraft.{Aircraft}
+use Rattle.field.specs.declared.Zone.{Zone}
+use Rattle.field.specs.declared.Legs.{Legs}
+use Rattle.field.specs.declared.Field.{Field}
+use Rattle.field.specs.Boxes.{isSide, everywhere, isFlyingZone, emptyZone, zoneOf, queueOf, inZone, withProgress, legOf}
+use Rattle.field.specs.Lists.{every}
+use Rattle.bounds.specs.Bounds.{isWaiting, isNobody, zoneKept, sequenceKept, boundE, fitsZone, legalLegs, boundG, withinBounds}
+use Rattle.tick.specs.Tick.{tickedAircraft, tickedZone, tickedFrom, ticked}
+use Rattle.field.proofs.Tests.{pass, decided, if-true, either-way, each-from}
+use Rattle.questions.proofs.Listed.{numberOf}
+use Rattle.tick.proofs.Tick.{tickedIn, length-ticked, getD-ticked}
+use Rattle.laws.proofs.Alike.{fixOfOne, Alike, a-alike, b-alike, c-alike, d-alike, differ-alike, exact-alike, first-alike, f-alike}
+use Rattle.laws.proofs.BoundLaws.{within-each, each-within}
+
+-- ---- lists
+
+-- a part of a list of which each is made anew
+module _ {A B : Type 0} (g : A → B) where
+  take-map : (n : ℕ) (l : List A) → take n (map g l) ≡ map g (take n l)
+  take-map zero l = refl
+  take-map (suc n) [] = refl
+  take-map (suc n) (x ∷ l) = ap (λ (r : List B). g x ∷ r) (take-map n l)
+
+  drop-map : (n : ℕ) (l : List A) → drop n (map g l) ≡ map g (drop n l)
+  drop-map zero l = refl
+  drop-map (suc n) [] = refl
+  drop-map (suc n) (x ∷ l) = drop-map n l
+
+-- what g keeps of each element it keeps of each list
+map-kept : {A B : Type 0} (part : A → B) (g : A → A) → ((a : A) → part (g a) ≡ part a) → (l : List A) → map part (map g l) ≡ map part l
+map-kept {A} {B} part g h l = map-map part g l ∙ ap (λ (k : A → B). map k l) (fun-ext h)
+
+every-kept : {A : Type 0} (p : A → Bool) (g : A → A) → ((a : A) → p (g a) ≡ p a) → (l : List A) → every p (map g l) ≡ every p l
+every-kept p g h [] = refl
+every-kept p g h (x ∷ l) = ap (λ (b : Bool). b && every p (map g l)) (h x) ∙ ap (λ (b : Bool). p x && b) (every-kept p g h l)
+
+-- a test that follows from another, of each element
+every-then : {A B : Type 0} (p : A → Bool) (q : B → Bool) (g : A → B) → ((a : A) → T (p a) → T (q (g a))) → (l : List A) → T (every p l) → T (every q (map g l))
+every-then p q g h [] t = tt
+every-then p q g h (x ∷ l) t = and-i (q (g x)) (every q (map g l)) (h x (and-l (p x) (every p l) t)) (every-then p q g h l (and-r (p x) (every p l) t))
+
+-- ---- an aircraft of zone z after a tick
+
+-- A tick makes nobody wait and nobody fly.
+pub waiting-kept : (p : Progress) (speed amount : ℕ) (leg : Float) → isWaiting (progressAfter p speed amount leg) ≡ isWaiting p
+waiting-kept p speed amount leg = waits (progressAfter p speed amount leg) ∙ ap not (flying-kept p speed amount leg) ∙ sym (waits p)
+  where
+    waits : (p : Progress) → isWaiting p ≡ not (flying p)
+    waits Waiting = refl
+    waits (Flying miles) = refl
+
+abbrev pub tickedAt : Legs → ℕ → ℕ → Aircraft → Aircraft
+tickedAt legs amount z a = cond (isFlyingZone z) (tickedAircraft (legOf legs z) amount a) a
+
+module _ (legs : Legs) (amount z : ℕ) where
+  -- What a tick keeps of every aircraft that flies it keeps of each in the zone: ..
+  tick-keeps {ℓ} : {B : Type ℓ} (part : Aircraft → B) → ((leg : Float) (a : Aircraft) → part (tickedAircraft leg amount a) ≡ part a) → (a : Aircraft) → part (tickedAt legs amount z a) ≡ part a
+  tick-keeps part h a = either-way (λ x. part x ≡ part a) (isFlyingZone z) (tickedAircraft (legOf legs z) amount a) a (λ e. h (legOf legs z) a) (λ e. refl)
+
+  -- .. its number, ..
+  pub number-kept : (a : Aircraft) → tickedAt legs amount z a .number ≡ a .number
+  unfolding tickedAircraft withProgress
+  number-kept = tick-keeps numberOf (λ leg a. refl)
+
+  -- .. its fix, ..
+  pub fix-kept : (a : Aircraft) → tickedAt legs amount z a .fix ≡ a .fix
+  unfolding tickedAircraft withProgress
+  fix-kept = tick-keeps fixOfOne (λ leg a. refl)
+
+  -- .. and whether it is nobody.
+  pub nobody-kept : (a : Aircraft) → isNobody (tickedAt legs amount z a) ≡ isNobody a
+  unfolding isNobody tickedAircraft withProgress
+  nobody-kept =
+      tick-keeps isNobody
+      (λ leg a. ap (λ (b : Bool). eqb (a .number) 0 && eqb (a .fix) 0 && eqb (a .speed) 0 && b) (waiting-kept (a .progress) (a .speed) amount leg))
+
+  -- ---- a zone after a tick
+  empty-ticked : tickedIn legs amount z emptyZone ≡ emptyZone
+  unfolding tickedZone tickedAircraft withProgress
+  empty-ticked = either-way (λ q. q ≡ emptyZone) (isFlyingZone z) (tickedZone (legOf legs z) amount emptyZone) emptyZone (λ e. refl) (λ e. refl)
+
+  -- its places, one by one
+  places-ticked : (q : Zone) → tickedIn legs amount z q .aircraft ≡ map (tickedAt legs amount z) (q .aircraft)
+  unfolding tickedZone
+  places-ticked q = go (isFlyingZone z)
+    where
+      go : (b : Bool) → cond b (tickedZone (legOf legs z) amount q) q .aircraft ≡ map (λ a. cond b (tickedAircraft (legOf legs z) amount a) a) (q .aircraft)
+      go true = refl
+      go false = sym (map-id (q .aircraft))
+
+  length-kept : (q : Zone) → tickedIn legs amount z q .length ≡ q .length
+  unfolding tickedZone
+  length-kept q = either-way (λ r. r .length ≡ q .length) (isFlyingZone z) (tickedZone (legOf legs z) amount q) q (λ e. refl) (λ e. refl)
+
+  -- Its queue is that of before, each after a tick.
+  pub queue-of-ticked : (q : Zone) → queueOf (tickedIn legs amount z q) ≡ map (tickedAt legs amount z) (queueOf q)
+  unfolding queueOf
+  queue-of-ticked q = rw (length-kept q, places-ticked q) (take-map (tickedAt legs amount z) (q .length) (q .aircraft))
+
+  -- Its length fits and its places past it are as said, exactly where they were.
+  pub zone-kept-ticked : (q : Zone) → zoneKept (tickedIn legs amount z q) ≡ zoneKept q
+  unfolding zoneKept
+  zone-kept-ticked q =
+      rw (length-kept q, places-ticked q)
+      (ap (λ (b : Bool). leb (q .length) 4 && b)
+      (ap (every isNobody) (drop-map (tickedAt legs amount z) (q .length) (q .aircraft)) ∙ every-kept isNobody (tickedAt legs amount z) nobody-kept (drop (q .length) (q .aircraft))))
+
+-- ---- the field after a tick
+module _ (f : Field) (amount : ℕ) where
+  -- Zone z after a tick; ..
+  pub zone-ticked : (z : ℕ) → zoneOf (ticked f amount) z ≡ tickedIn (f .legs) amount z (zoneOf f z)
+  unfolding zoneOf ticked
+  zone-ticked zero = sym (empty-ticked (f .legs) amount 0)
+  zone-ticked (suc i) = go (decided (ltb i (length (f .zones))))
+    where
+      go : (ltb i (length (f .zones)) ≡ true) ⊎ (ltb i (length (f .zones)) ≡ false) → zoneOf (ticked f amount) (suc i) ≡ tickedIn (f .legs) amount (suc i) (zoneOf f (suc i))
+      go (inl e) =
+          getD-ticked (f .legs) amount 1 (f .zones) i emptyZone (ltb-true i (length (f .zones)) e)
+          ∙ ap (λ (z : ℕ). tickedIn (f .legs) amount z (getD (f .zones) i emptyZone)) (add-one i)
+      go (inr e) =
+          let past = ltb-false i (length (f .zones)) e in
+          let long = length-ticked (f .legs) amount 1 (f .zones) in
+          List·getD-eq-default (tickedFrom (f .legs) amount 1 (f .zones)) emptyZone (omega arith)
+          ∙ sym (ap (tickedIn (f .legs) amount (suc i)) (List·getD-eq-default (f .zones) emptyZone past) ∙ empty-ticked (f .legs) amount (suc i))
+
+  -- .. and its queue, each after a tick.
+  pub queue-ticked : (z : ℕ) → inZone (ticked f amount) z ≡ map (tickedAt (f .legs) amount z) (inZone f z)
+  unfolding inZone
+  queue-ticked z = ap queueOf (zone-ticked z) ∙ queue-of-ticked (f .legs) amount z (zoneOf f z)
+
+  -- A tick changes no number, no fix, neither the sequence nor the next fix, ..
+  pub alike-ticked : Alike (ticked f amount) f
+  unfolding ticked
+  alike-ticked =
+      record {
+        numbers = λ z. ap (map numberOf) (queue-ticked z) ∙ map-kept numberOf (tickedAt (f .legs) amount z) (number-kept (f .legs) amount z) (inZone f z);
+        fixes = λ z. ap (map fixOfOne) (queue-ticked z) ∙ map-kept fixOfOne (tickedAt (f .legs) amount z) (fix-kept (f .legs) amount z) (inZone f z);
+        sequence = refl;
+        next = refl;
+      }
+
+  zones-kept-ticked : every (λ z. zoneKept (zoneOf (ticked f amount) z)) everywhere ≡ every (λ z. zoneKept (zoneOf f z)) everywhere
+  zones-kept-ticked =
+      ap (λ (p : ℕ → Bool). every p everywhere)
+      (fun-ext (λ z. ap zoneKept (zone-ticked z) ∙ zone-kept-ticked (f .legs) amount z (zoneOf f z)))
+
+  -- .. nor bound e, ..
+  pub e-ticked : boundE (ticked f amount) ≡ boundE f
+  unfolding boundE
+  e-ticked =
+      let a = differ-alike (ticked f amount) f alike-ticked in
+      let b = exact-alike (ticked f amount) f alike-ticked in
+      let c = first-alike (ticked f amount) f alike-ticked in
+      let d = zones-kept-ticked in
+      let e = ap sequenceKept (alike-ticked .sequence) in
+      cc (a, b, c, d, e)
+
+-- The leg of a flying zone is legal where all legs are.
+pub leg-legal : (legs : Legs) → T (legalLegs legs) → (z : ℕ) → T (isFlyingZone z) → T (legalLeg (legOf legs z))
+unfolding legalLegs isFlyingZone legOf
+leg-legal legs t z u =
+    let m = legalLeg (legs .missed) in
+    let b = legalLeg (legs .base) in
+    let i = legalLeg (legs .intermediate) in
+    let l = legalLeg (legs .«final_approach») in
+    let three = and-l (m && b && i) l t in
+    let tm = and-l m b (and-l (m && b) i three) in
+    let tb = and-r m b (and-l (m && b) i three) in
+    let low = leb→le 7 z (and-l (leb 7 z) (leb z 12) u) in
+    let high = leb→le z 12 (and-r (leb 7 z) (leb z 12) u) in
+    each-from 7 6 (λ (z : ℕ). T (legalLeg (legOf legs z))) (tm, (tm, (tb, (tb, (and-r (m && b) i three, (and-r (m && b && i) l t, tt)))))) z low (omega arith)
+
+-- Who fits its zone fits it after a tick.
+pub fits-ticked : (legs : Legs) (amount z : ℕ) → T (legalLegs legs) → Between 1 64 amount → (a : Aircraft) → T (fitsZone legs z a) → T (fitsZone legs z (tickedAt legs amount z a))
+unfolding fitsZone tickedAircraft withProgress
+fits-ticked legs amount z l r a h =
+    either-way (λ x. T (fitsZone legs z x)) (isFlyingZone z) (tickedAircraft (legOf legs z) amount a) a flies (λ e. h)
+  where
+    leg : Float
+    leg = legOf legs z
+
+    after : Progress
+    after = progressAfter (a .progress) (a .speed) amount leg
+
+    fast : Bool
+    fast = leb 1 (a .speed) && leb (a .speed) 512
+
+    person : Bool
+    person = isSide (a .fix) && fast
+
+    -- the part of `fitsZone` that speaks of the progress
+    fits : Progress → Bool
+    fits p = cond (isFlyingZone z) (not (isWaiting p) && withinLeg p leg) (isWaiting p)
+
+    flies : isFlyingZone z ≡ true → T (fitsZone legs z (tickedAircraft leg amount a))
+    flies e =
+        let one = and-l person (fits (a .progress)) h in
+        let p = not (isWaiting (a .progress)) in
+        let w = withinLeg (a .progress) leg in
+        let there = subst T (if-true (p && w) (isWaiting (a .progress)) e) (and-r person (fits (a .progress)) h) in
+        let s = and-r (isSide (a .fix)) fast one in
+        let speed : Between 1 512 (a .speed) = record { least = leb→le 1 (a .speed) (and-l (leb 1 (a .speed)) (leb (a .speed) 512) s); most = leb→le (a .speed) 512 (and-r (leb 1 (a .speed)) (leb (a .speed) 512) s) } in
+        and-i person (fits after) one
+        (subst T (sym (if-true (not (isWaiting after) && withinLeg after leg) (isWaiting after) e))
+        (and-i (not (isWaiting after)) (withinLeg after leg)
+        (subst (λ (b : Bool). T (not b)) (sym (waiting-kept (a .progress) (a .speed) amount leg)) (and-l p w there))
+        (within-kept (a .progress) leg (leg-legal legs l z (pass e)) speed r (and-r p w there))))
+
+-- Bound g is kept.
+pub g-ticked : (f : Field) (amount : ℕ) → Between 1 64 amount → T (boundG f) → T (boundG (ticked f amount))
+unfolding boundG ticked
+g-ticked f amount r t =
+    let legal = and-r (fit f && isSide (f .next)) (legalLegs (f .legs)) t in
+    let rest = and-l (fit f && isSide (f .next)) (legalLegs (f .legs)) t in
+    and-i (fit (ticked f amount) && isSide (f .next)) (legalLegs (f .legs))
+    (and-i (fit (ticked f amount)) (isSide (f .next))
+    (every-then (fitIn f) (fitIn (ticked f amount)) (λ z. z) (fit-ticked legal) everywhere (and-l (fit f) (isSide (f .next)) rest))
+    (and-r (fit f) (isSide (f .next)) rest))
+    legal
+  where
+    -- everyone in a zone fits it
+    fitIn : Field → ℕ → Bool
+    fitIn f z = every (fitsZone (f .legs) z) (inZone f z)
+
+    fit : Field → Bool
+    fit f = every (fitIn f) everywhere
+
+    fit-ticked : T (legalLegs (f .legs)) → (z : ℕ) → T (fitIn f z) → T (fitIn (ticked f amount) z)
+    fit-ticked legal z u =
+        subst (λ (l : List Aircraft). T (every (fitsZone (f .legs) z) l)) (sym (queue-ticked f amount z))
+        (every-then (fitsZone (f .legs) z) (fitsZone (f .legs) z) (tickedAt (f .legs) amount z) (fits-ticked (f .legs) amount z legal r) (inZone f z) u)
+
+-- Advancing every flying aircraft by a tick of 1 to 64 keeps the bounds.
+pub within-ticked : (f : Field) (amount : ℕ) → Between 1 64 amount → T (withinBounds f) → T (withinBounds (ticked f amount))
+within-ticked f amount r t =
+    let w = within-each f t in
+    let g = ticked f amount in
+    let e = alike-ticked f amount in
+    each-within g
+    (record {
+      bound-a = subst T (sym (a-alike g f e)) (w .bound-a);
+      bound-b = subst T (sym (b-alike g f e)) (w .bound-b);
+      bound-c = subst T (sym (c-alike g f e)) (w .bound-c);
+      bound-d = subst T (sym (d-alike g f e)) (w .bound-d);
+      bound-e = subst T (sym (e-ticked f amount)) (w .bound-e);
+      bound-f = subst T (sym (f-alike g f e)) (w .bound-f);
+      bound-g = g-ticked f amount r (w .bound-g);
+    })

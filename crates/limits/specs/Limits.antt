@@ -1,0 +1,26 @@
+-- The limits of document 01 that several definitions and theorems speak of, each by one name. The words in quotes are those of document 01, and the section is named where the words stand in it.
+use Prim.Native.Nat.{ℕ}
+
+-- "4 amount: 1 to 64 for a tick" ("Turned away by the request or the file"): the longest tick, in 64ths of a minute
+abbrev pub longestTick : ℕ
+longestTick = 64
+
+-- "4 amount: speed 1 to 512 for kinds 1, 2", and bound g's "speeds 1 to 512": the highest speed, in 64ths of a nautical mile per minute
+abbrev pub fastest : ℕ
+fastest = 512
+
+-- "7 a leg not 1 to 4096 64ths" ("Turned away by the request or the file"): the longest leg of a practice file, in 64ths of a mile
+abbrev pub longestLeg : ℕ
+longestLeg = 4096
+
+-- bound g's "legs compare between 1/64 and 64 miles": the same length in miles, as a field holds it
+abbrev pub longestLegMiles : ℕ
+longestLegMiles = 64
+
+-- "n a multiple of 6 up to 24,576", of "6 bytes each" ("The practice file"): the most requests of a practice file
+abbrev pub mostRequests : ℕ
+mostRequests = 4096
+
+-- "The 29 holds for every list that goes on from there" ("Any list of requests"): the most moves without an accepted request of kind 1, 2 or 10
+abbrev pub mostMoves : ℕ
+mostMoves = 29

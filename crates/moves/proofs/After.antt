@@ -1,0 +1,189 @@
+-- What an accepted request leaves behind, said of the order that the field stands for; and the moves of the line that are made of it.
+-- Assumes nothing.
+use mathlib.Core.Path.{_≡_, refl, sym, ap, _∙_, subst}
+use mathlib.Core.Bool.{Bool, true, false, not, _&&_, _||_, true≢false}
+use mathlib.Core.List.{List, [], _∷_, _++_, map}
+use Prim.Native.Nat.{ℕ, _+_, _≤_}
+use native.Mathlib.Omega.{arith}
+use lib.Dec.{T, eqb}
+use lib.ListN.{length}
+use lib.Ieee.Fits.{and-l, and-r}
+use borrow.Author.Tests.{eq-eqb}
+use Rattle.request.specs.Input.{within, isEntry}
+use Rattle.request.specs.declared.Request.{Request}
+use Rattle.field.specs.declared.Aircraft.{Aircraft}
+use Rattle.field.specs.declared.Legs.{Legs}
+use Rattle.field.specs.Boxes.{isFlyingZone, progressInto, withProgress}
+use Rattle.field.specs.Lists.{isIn, every, allDifferent}
+use Rattle.order.specs.Model.{Side, free, Kind, needs, target, okay, weight, one}
+use Rattle.order.proofs.Facts.{okay-length, okay-zones, moves}
+use Rattle.rules.specs.Kinds.{moved}
+use Rattle.rules.specs.Step.{effectOf}
+use Rattle.rules.specs.Play.{addsMoves}
+use Rattle.field.proofs.Tests.{failed}
+use Rattle.field.proofs.Lists.{or-false-left, or-false-right, absent-left, Alone, alone}
+use Rattle.line.proofs.Lists.{map-append}
+use Rattle.line.proofs.Line.{Placed, zonesIn, numbersOf, inside, fieldOf}
+use Rattle.line.proofs.Counted.{free-inside}
+use Rattle.questions.proofs.FindLaws.{numbers}
+use Rattle.line.proofs.Located.{numbers-split}
+use Rattle.line.proofs.Leaders.{all-at}
+use Rattle.line.proofs.Orderly.{Orderly, length-zones}
+use Rattle.moves.proofs.Moves.{into, MayMove, moved-line, same-length}
+use Rattle.moves.proofs.Ticking.{tickPlaced}
+use Rattle.moves.proofs.Kept.{entered-fits, changed, placedFits}
+
+-- ---- what holds of each one of a line
+abbrev pub Each : (Placed → Type 0) → List Placed → Type 0
+Each P [] = Unit {0}
+Each P (e ∷ line) = P e × Each P line
+
+pub each-append : (P : Placed → Type 0) (a b : List Placed) → Each P a → Each P b → Each P (a ++ b)
+each-append P [] b p q = q
+each-append P (e ∷ a) b p q = (p .0, each-append P a b (p .1) q)
+
+pub each-left : (P : Placed → Type 0) (a b : List Placed) → Each P (a ++ b) → Each P a
+each-left P [] b p = tt
+each-left P (e ∷ a) b p = (p .0, each-left P a b (p .1))
+
+pub each-right : (P : Placed → Type 0) (a b : List Placed) → Each P (a ++ b) → Each P b
+each-right P [] b p = p
+each-right P (e ∷ a) b p = each-right P a b (p .1)
+
+-- ---- after an accepted request
+
+-- kinds 8 and 9, by which an aircraft leaves the field
+abbrev pub leaves : ℕ → Bool
+leaves kind = eqb kind 8 || eqb kind 9
+
+-- how many moves are left at the most
+abbrev pub weightOf : List Placed → List Aircraft → ℕ
+weightOf line runway = weight (zonesIn line) + length runway
+
+-- P holds of each one with another number
+abbrev pub Others : ℕ → (Placed → Type 0) → List Placed → Type 0
+Others n P line = Each (λ (e : Placed). (e .aircraft .number ≡ n → ⊥) → P e) line
+
+-- what is shown of each one after a request that names the aircraft n: of those with other numbers, which stay as they were or are in a
+-- zone that is not flown in; and of those that have just come into their zone
+pub record Carried (n : ℕ) (before line : List Placed) : Type 1 where
+  pub carry : (P : Placed → Type 0) → Others n P before → ((e : Placed) → e .aircraft .progress ≡ progressInto (e .zone) → e .aircraft .number ≡ n → P e)
+      → ((e : Placed) → isFlyingZone (e .zone) ≡ false → P e) → Each P line
+
+pub record After (f : Side) (line : List Placed) (runway : List Aircraft) (legs : Legs) (r : Request) : Type 1 where
+  pub first-after : Side
+  pub line-after : List Placed
+  pub runway-after : List Aircraft
+  pub effect : effectOf (fieldOf f line runway legs) r ≡ fieldOf first-after line-after runway-after legs
+  pub orderly : Orderly first-after line-after runway-after legs
+  pub balance : length line-after + length runway-after + one (leaves (r .kind)) ≡ length line + length runway + one (isEntry (r .kind))
+  pub lighter : addsMoves (r .kind) ≡ false → weightOf line-after runway-after + one (within 3 11 (r .kind)) ≤ weightOf line runway
+  pub carried : (r .kind ≡ 12 → ⊥) → Carried (r .number) line line-after
+  pub ticked-on : r .kind ≡ 12 → line-after ≡ map (tickPlaced legs (r .amount)) line
+
+-- those with other numbers than n, where n is not in the line
+pub others-all : (n : ℕ) (P : Placed → Type 0) (line : List Placed) → isIn n (numbersOf line) ≡ false → Others n P line → Each P line
+others-all n P [] h p = tt
+others-all n P (e ∷ line) h p =
+    let k = or-false-left (eqb (e .aircraft .number) n) (isIn n (numbersOf line)) h in
+    (p .0 (λ q. true≢false (sym (eq-eqb (e .aircraft .number) n q) ∙ k)), others-all n P line (or-false-right (eqb (e .aircraft .number) n) (isIn n (numbersOf line)) h) (p .1))
+
+-- one of a line of different numbers
+pub apart-in : (a : List Placed) (e : Placed) (b : List Placed) (runway : List Aircraft) → T (allDifferent (numbersOf (a ++ e ∷ b) ++ numbers runway)) → Alone (e .aircraft .number) (numbersOf a) (numbersOf b ++ numbers runway)
+apart-in a e b runway d = alone (numbersOf a) (e .aircraft .number) (numbersOf b ++ numbers runway) (subst (λ (l : List ℕ). T (allDifferent l)) (numbers-split a e b (numbers runway)) d)
+
+-- one of the line has come into another zone
+pub carried-one : (n : ℕ) (a : List Placed) (e g : Placed) (b : List Placed) (runway : List Aircraft) → T (allDifferent (numbersOf (a ++ e ∷ b) ++ numbers runway)) → n ≡ e .aircraft .number
+    → g .aircraft .number ≡ n → g .aircraft .progress ≡ progressInto (g .zone) → Carried n (a ++ e ∷ b) (a ++ g ∷ b)
+carried-one n a e g b runway d h k p =
+    let al = apart-in a e b runway d in
+    record {
+      carry =
+          λ P others come idle.
+          each-append P a (g ∷ b) (others-all n P a (ap (λ (m : ℕ). isIn m (numbersOf a)) h ∙ al .ahead) (each-left (λ (x : Placed). (x .aircraft .number ≡ n → ⊥) → P x) a (e ∷ b) others))
+          (come g p k, others-all n P b (ap (λ (m : ℕ). isIn m (numbersOf b)) h ∙ absent-left (e .aircraft .number) (numbersOf b) (numbers runway) (al .behind)) (each-right (λ (x : Placed). (x .aircraft .number ≡ n → ⊥) → P x) a (e ∷ b) others .1));
+    }
+
+-- a kind that moves an aircraft from zone to zone: no entry, no taxi, no exit
+abbrev pub staysOn : ℕ → Bool
+staysOn kind = not (leaves kind) && not (isEntry kind)
+
+pub one-le : (b : Bool) → one b ≤ 1
+one-le true = omega arith
+one-le false = omega arith
+
+pub not-one : (b : Bool) → T (not b) → one b ≡ 0
+not-one b t = ap one (failed {b = b} t)
+
+-- ---- the model's view of a line that is split
+pub zones-split : (a : List Placed) (e : Placed) (b : List Placed) → zonesIn (a ++ e ∷ b) ≡ zonesIn a ++ e .zone ∷ zonesIn b
+zones-split a e b = map-append (λ (p : Placed). p .zone) a (e ∷ b)
+
+pub okay-split : (f : Side) (a : List Placed) (e : Placed) (b : List Placed) → T (okay f (zonesIn (a ++ e ∷ b))) → T (okay f (zonesIn a ++ e .zone ∷ zonesIn b))
+okay-split f a e b t = subst (λ (l : List ℕ). T (okay f l)) (zones-split a e b) t
+
+pub okay-joined : (f : Side) (a : List Placed) (e : Placed) (b : List Placed) → T (okay f (zonesIn a ++ e .zone ∷ zonesIn b)) → T (okay f (zonesIn (a ++ e ∷ b)))
+okay-joined f a e b t = subst (λ (l : List ℕ). T (okay f l)) (sym (zones-split a e b)) t
+
+-- ---- one of the line, at the head of its zone, moves to another zone
+module _ (f : Side) (a : List Placed) (e : Placed) (b : List Placed) (runway : List Aircraft) (legs : Legs) (o : Orderly f (a ++ e ∷ b) runway legs) where
+  pub zone-in : T (within 1 12 (e .zone))
+  zone-in = all-at (within 1 12) (λ (p : Placed). p .zone) a e b (okay-zones f (zonesIn (a ++ e ∷ b)) (o .okay-line))
+
+  pub room-for : length (a ++ e ∷ b) ≤ 4
+  room-for = let p = okay-length f (zonesIn (a ++ e ∷ b)) (o .okay-line) in let q = length-zones (a ++ e ∷ b) in omega arith
+
+  pub fit-here : T (placedFits legs e)
+  fit-here = and-l (placedFits legs e) (every (placedFits legs) b) (Rattle.line.proofs.Lists.every-right (placedFits legs) a (e ∷ b) (o .fit-line))
+
+  -- a move that the model allows, to zone w
+  module _ (w : ℕ) (heads : T (free (zonesIn a) (e .zone))) (behind : T (free (zonesIn b) w)) (other : T (not (eqb w (e .zone)))) (in-zone : T (within 1 12 w)) (after : T (okay f (zonesIn a ++ w ∷ zonesIn b))) where
+    may-move : MayMove a e b w
+    may-move =
+        record {
+          from-zone = zone-in;
+          to-zone = in-zone;
+          other-zone = failed {b = eqb w (e .zone)} other;
+          heads = free-inside (e .zone) a heads;
+          none-behind = free-inside w b behind;
+          room = room-for;
+        }
+
+    pub moved-is : moved (fieldOf f (a ++ e ∷ b) runway legs) (e .zone) w ≡ fieldOf f (a ++ into w e ∷ b) runway legs
+    moved-is = moved-line f a e b runway legs w may-move (o .different)
+
+    pub moved-orderly : Orderly f (a ++ into w e ∷ b) runway legs
+    unfolding withProgress
+    moved-orderly = changed f a e (into w e) b runway legs o (okay-joined f a (into w e) b after) refl refl (entered-fits legs (o .legal) (e .zone) w in-zone (e .aircraft) fit-here)
+
+  -- a move of the model's, as a request's effect
+  pub line-move : (k : Kind) (r : Request) → T (free (zonesIn a) (e .zone)) → T (needs k (zonesIn a) (e .zone) (zonesIn b))
+      → effectOf (fieldOf f (a ++ e ∷ b) runway legs) r ≡ moved (fieldOf f (a ++ e ∷ b) runway legs) (e .zone) (target k (zonesIn a) (e .zone) (zonesIn b))
+      → T (staysOn (r .kind)) → (r .kind ≡ 12 → ⊥) → r .number ≡ e .aircraft .number → After f (a ++ e ∷ b) runway legs r
+  unfolding withProgress
+  line-move k r heads n eff s tick named =
+      let w = target k (zonesIn a) (e .zone) (zonesIn b) in
+      let m = moves k f (zonesIn a) (e .zone) (zonesIn b) (okay-split f a e b (o .okay-line)) heads n in
+      record {
+        first-after = f;
+        line-after = a ++ into w e ∷ b;
+        runway-after = runway;
+        effect = eff ∙ moved-is w heads (m .none-behind) (m .other) (m .inside) (m .okay-after);
+        orderly = moved-orderly w heads (m .none-behind) (m .other) (m .inside) (m .okay-after);
+        balance = stay-balance r s (same-length a (into w e) e b);
+        lighter =
+            λ h.
+            let p = ap weight (zones-split a e b) in
+            let q = ap weight (zones-split a (into w e) b) in
+            let l = m .lighter in
+            let u = one-le (within 3 11 (r .kind)) in
+            omega arith;
+        carried = λ h. carried-one (r .number) a e (into w e) b runway (o .different) named (sym named) refl;
+        ticked-on = λ h. absurd (tick h);
+      }
+    where
+      stay-balance : (r : Request) → T (staysOn (r .kind)) → {m n : ℕ} → m ≡ n → m + length runway + one (leaves (r .kind)) ≡ n + length runway + one (isEntry (r .kind))
+      stay-balance r s e =
+          let p = not-one (leaves (r .kind)) (and-l (not (leaves (r .kind))) (not (isEntry (r .kind))) s) in
+          let q = not-one (isEntry (r .kind)) (and-r (not (leaves (r .kind))) (not (isEntry (r .kind))) s) in
+          omega arith

@@ -1,0 +1,182 @@
+-- The kinds that take an aircraft out of the sequence, into it, or to its end: 7, 8, 9, 10, 1 and 2; and the tick. Assumes nothing.
+use mathlib.Core.Path.{_≡_, refl, sym, ap, _∙_, subst}
+use mathlib.Core.Bool.{Bool, true, false, not, _||_, true≢false}
+use mathlib.Core.List.{List, [], _∷_, _++_, map}
+use Prim.Native.Nat.{ℕ, suc, _+_, _≤_, _<_}
+use native.Mathlib.Omega.{arith}
+use lib.Dec.{T, eqb}
+use lib.ListN.{length, length-append}
+use lib.Ieee.Fits.{and-l}
+use Rattle.request.specs.Input.{within, isEntry}
+use Rattle.request.specs.declared.Request.{Request}
+use Rattle.field.specs.declared.Aircraft.{Aircraft}
+use Rattle.field.specs.declared.Legs.{Legs}
+use Rattle.field.specs.declared.Field.{Field}
+use Rattle.field.specs.Boxes.{isFlyingZone, missed, progressInto, entering, withProgress, withFix}
+use Rattle.field.specs.Lists.{isIn, every}
+use Rattle.order.specs.Model.{Side, opp, num, okay, firstFix, weight, one}
+use Rattle.order.proofs.Facts.{okay-length, first-leaves, misses, exit-lighter, landing-lighter}
+use Rattle.rules.specs.Step.{effectOf}
+use Rattle.rules.specs.Kinds.{entered}
+use Rattle.rules.specs.Play.{addsMoves}
+use Rattle.line.proofs.Counted.{missed-in}
+use Rattle.field.proofs.Tests.{passed, failed, fail}
+use Rattle.field.proofs.Lists.{absent-left}
+use Rattle.line.proofs.Line.{Placed, zonesIn, numbersOf, fieldOf}
+use Rattle.questions.proofs.FindLaws.{numbers}
+use Rattle.line.proofs.Leaders.{nonzero}
+use Rattle.line.proofs.Orderly.{Orderly, length-zones}
+use Rattle.moves.proofs.Leaves.{taxied, first-exits, first-lands}
+use Rattle.moves.proofs.Enters.{entryFix, entrant, enters, misser, misses-approach}
+use Rattle.moves.proofs.Ticking.{tickPlaced, ticks, zones-same}
+use Rattle.moves.proofs.Kept.{entered-fits, landed-fits, refixed-fits, entrant-fits, first-gone, landed-on, runway-left, come, ticked-orderly}
+use Rattle.moves.proofs.After.{Each, each-append, After, Carried, Others, others-all, apart-in, leaves, one-le, zone-in, room-for, fit-here}
+use Rattle.rules.proofs.Checks.{effect-at}
+
+-- ---- the first of the line leaves the sequence
+module _ (f : Side) (e : Placed) (b : List Placed) (runway : List Aircraft) (legs : Legs) (o : Orderly f (e ∷ b) runway legs) (r : Request) (named : r .number ≡ e .aircraft .number) where
+  abbrev F : Field
+  F = fieldOf f (e ∷ b) runway legs
+
+  room : length b < 4
+  room = let p = room-for f [] e b runway legs o in omega arith
+
+  rest-okay : T (okay (opp f) (zonesIn b))
+  rest-okay = first-leaves f (e .zone) (zonesIn b) (o .okay-line)
+
+  -- those behind it stay as they are
+  behind-all : (P : Placed → Type 0) → Others (r .number) P (e ∷ b) → Each P b
+  behind-all P others =
+      others-all (r .number) P b (ap (λ (m : ℕ). isIn m (numbersOf b)) named ∙ absent-left (e .aircraft .number) (numbersOf b) (numbers runway) (apart-in [] e b runway (o .different) .behind)) (others .1)
+
+  carried-behind : Carried (r .number) (e ∷ b) b
+  carried-behind = record { carry = λ P others come idle. behind-all P others }
+
+  -- kind 9
+  pub after-9 : r .kind ≡ 9 → e .zone ≡ 11 → After f (e ∷ b) runway legs r
+  after-9 h z =
+      record {
+        first-after = opp f;
+        line-after = b;
+        runway-after = runway;
+        effect = effect-at F r h ∙ first-exits f e b runway legs (zone-in f [] e b runway legs o) room z r named;
+        orderly = first-gone f e b runway legs o rest-okay;
+        balance = subst (λ (k : ℕ). length b + length runway + one (leaves k) ≡ suc (length b) + length runway + one (isEntry k)) (sym h) (omega arith);
+        lighter = λ u. let w = exit-lighter f (e .zone) (zonesIn b) z (o .okay-line) in let x = one-le (within 3 11 (r .kind)) in omega arith;
+        carried = λ u. carried-behind;
+        ticked-on = λ u. absurd (let n : 12 ≡ 9 = sym u ∙ h in omega arith);
+      }
+
+  -- kind 10
+  pub after-10 : r .kind ≡ 10 → e .zone ≡ 12 → After f (e ∷ b) runway legs r
+  unfolding withFix withProgress
+  after-10 h z =
+      let fix = o .alternates .0 in
+      let g = misser f e b runway legs r z room fix named (o .different) in
+      let al = apart-in [] e b runway (o .different) in
+      let gone = first-gone f e b runway legs o rest-okay in
+      record {
+        first-after = firstFix f (opp f) (zonesIn b);
+        line-after = b ++ (g ∷ []);
+        runway-after = runway;
+        effect = effect-at F r h ∙ misses-approach f e b runway legs r z room fix named (o .different);
+        orderly =
+            come f (opp f) b g runway legs gone (misses f (zonesIn b) (subst (λ (v : ℕ). T (okay f (v ∷ zonesIn b))) z (o .okay-line))) refl
+            (and-l (nonzero (e .aircraft .number)) (every nonzero (numbersOf b ++ numbers runway)) (o .nonzeros)) (al .behind)
+            (refixed-fits legs (missed (num f)) (entryFix f (opp f) (zonesIn b)) (withProgress (e .aircraft) (progressInto (missed (num f)))) (entered-fits legs (o .legal) (e .zone) (missed (num f)) (missed-in f) (e .aircraft) (fit-here f [] e b runway legs o)));
+        balance = let p = length-append b (g ∷ []) in subst (λ (k : ℕ). length (b ++ (g ∷ [])) + length runway + one (leaves k) ≡ suc (length b) + length runway + one (isEntry k)) (sym h) (omega arith);
+        lighter = λ u. absurd (true≢false (ap addsMoves (sym h) ∙ u));
+        carried = λ u. record { carry = λ P others arrive idle. each-append P b (g ∷ []) (behind-all P others) (arrive g refl (sym named), tt) };
+        ticked-on = λ u. absurd (let n : 12 ≡ 10 = sym u ∙ h in omega arith);
+      }
+
+-- kind 7
+pub after-7 : (f : Side) (e : Placed) (b : List Placed) (legs : Legs) (o : Orderly f (e ∷ b) [] legs) (r : Request) → r .number ≡ e .aircraft .number → r .kind ≡ 7 → e .zone ≡ 12 → After f (e ∷ b) [] legs r
+unfolding withProgress
+after-7 f e b legs o r named h z =
+    let x = withProgress (e .aircraft) (progressInto 13) in
+    let n = e .aircraft .number in
+    let al = apart-in [] e b [] (o .different) in
+    record {
+      first-after = opp f;
+      line-after = b;
+      runway-after = x ∷ [];
+      effect = effect-at (fieldOf f (e ∷ b) [] legs) r h ∙ first-lands f e b legs z (room f e b [] legs o r named) (o .different) r named;
+      orderly =
+          landed-on (opp f) b x legs (first-gone f e b [] legs o (rest-okay f e b [] legs o r named)) (and-l (nonzero n) (every nonzero (numbersOf b ++ [])) (o .nonzeros)) (absent-left n (numbersOf b) [] (al .behind))
+          (landed-fits legs (e .zone) (e .aircraft) (fit-here f [] e b [] legs o));
+      balance = subst (λ (k : ℕ). length b + 1 + one (leaves k) ≡ suc (length b) + 0 + one (isEntry k)) (sym h) (omega arith);
+      lighter = λ u. let w = landing-lighter f (e .zone) (zonesIn b) z (o .okay-line) in let y = one-le (within 3 11 (r .kind)) in omega arith;
+      carried = λ u. carried-behind f e b [] legs o r named;
+      ticked-on = λ u. absurd (let n : 12 ≡ 7 = sym u ∙ h in omega arith);
+    }
+
+-- kind 8
+pub after-8 : (f : Side) (line : List Placed) (x : Aircraft) (legs : Legs) (o : Orderly f line (x ∷ []) legs) (r : Request) → r .number ≡ x .number → r .kind ≡ 8 → After f line (x ∷ []) legs r
+after-8 f line x legs o r named h =
+    record {
+      first-after = f;
+      line-after = line;
+      runway-after = [];
+      effect = effect-at (fieldOf f line (x ∷ []) legs) r h ∙ taxied f line x legs;
+      orderly = runway-left f line (x ∷ []) legs o;
+      balance = subst (λ (k : ℕ). length line + 0 + one (leaves k) ≡ length line + 1 + one (isEntry k)) (sym h) (omega arith);
+      lighter = λ u. let y = one-le (within 3 11 (r .kind)) in omega arith;
+      carried = λ u. record { carry = λ P others arrive idle. others-all (r .number) P line (ap (λ (m : ℕ). isIn m (numbersOf line)) named ∙ not-in-line) others };
+      ticked-on = λ u. absurd (let n : 12 ≡ 8 = sym u ∙ h in omega arith);
+    }
+  where
+    not-in-line : isIn (x .number) (numbersOf line) ≡ false
+    not-in-line = Rattle.field.proofs.Lists.alone (numbersOf line) (x .number) [] (o .different) .ahead
+
+-- kinds 1 and 2, into zone w
+pub after-entry : (s f : Side) (line : List Placed) (runway : List Aircraft) (legs : Legs) (o : Orderly f line runway legs) (r : Request) (w : ℕ) → T (within 1 12 w) → T (not (isFlyingZone w)) → r .side ≡ num s
+    → T (isEntry (r .kind)) → effectOf (fieldOf f line runway legs) r ≡ entered (fieldOf f line runway legs) r w
+    → T (okay (firstFix s f (zonesIn line)) (zonesIn line ++ (w ∷ []))) → 1 ≤ r .number → isIn (r .number) (numbersOf line ++ numbers runway) ≡ false → 1 ≤ r .amount → r .amount ≤ 512
+    → (r .kind ≡ 12 → ⊥) → T (not (leaves (r .kind))) → After f line runway legs r
+unfolding entering
+after-entry s f line runway legs o r w t u side kind eff k n d l m tick stays =
+    let room = let p = okay-length (firstFix s f (zonesIn line)) (zonesIn line ++ (w ∷ [])) k in let q = length-append (zonesIn line) (w ∷ []) in let v = length-zones line in let g : length line < 4 = omega arith in g in
+    let e = entrant s f line runway legs r w t room side in
+    record {
+      first-after = firstFix s f (zonesIn line);
+      line-after = line ++ (e ∷ []);
+      runway-after = runway;
+      effect = eff ∙ enters s f line runway legs r w t room side;
+      orderly = come s f line e runway legs o k refl (fail (borrow.Author.Tests.ne-eqb (r .number) 0 (λ q. omega arith))) d (entrant-fits legs w (entryFix s f (zonesIn line)) (r .number) (r .amount) u l m);
+      balance =
+          let p = length-append line (e ∷ []) in
+          let q : one (isEntry (r .kind)) ≡ 1 = ap one (passed {b = isEntry (r .kind)} kind) in
+          let v : one (leaves (r .kind)) ≡ 0 = ap one (failed {b = leaves (r .kind)} stays) in
+          omega arith;
+      lighter = λ v. absurd (true≢false (sym (adds kind) ∙ v));
+      carried = λ v. record { carry = λ P others arrive idle. each-append P line (e ∷ []) (others-all (r .number) P line (absent-left (r .number) (numbersOf line) (numbers runway) d) others) (idle e (failed {b = isFlyingZone w} u), tt) };
+      ticked-on = λ v. absurd (tick v);
+    }
+  where
+    adds : T (isEntry (r .kind)) → addsMoves (r .kind) ≡ true
+    adds v = ap (λ (b : Bool). b || eqb (r .kind) 10) (passed {b = isEntry (r .kind)} v)
+
+-- kind 12
+pub after-12 : (f : Side) (line : List Placed) (runway : List Aircraft) (legs : Legs) (o : Orderly f line runway legs) (r : Request) → r .kind ≡ 12 → 1 ≤ r .amount → r .amount ≤ 64 → After f line runway legs r
+after-12 f line runway legs o r h l m =
+    let four = let p = okay-length f (zonesIn line) (o .okay-line) in let q = length-zones line in let g : length line ≤ 4 = omega arith in g in
+    record {
+      first-after = f;
+      line-after = map (tickPlaced legs (r .amount)) line;
+      runway-after = runway;
+      effect = effect-at (fieldOf f line runway legs) r h ∙ ticks legs (r .amount) f line runway four;
+      orderly = ticked-orderly f line runway legs (r .amount) l m o;
+      balance =
+          let p = length-zones line in
+          let q = length-zones (map (tickPlaced legs (r .amount)) line) in
+          let v = ap length (zones-same legs (r .amount) line) in
+          subst (λ (k : ℕ). length (map (tickPlaced legs (r .amount)) line) + length runway + one (leaves k) ≡ length line + length runway + one (isEntry k)) (sym h) (omega arith);
+      lighter =
+          λ u.
+          let p = ap weight (zones-same legs (r .amount) line) in
+          let q : one (within 3 11 (r .kind)) ≡ 0 = ap (λ (k : ℕ). one (within 3 11 k)) h in
+          omega arith;
+      carried = λ u. absurd (u h);
+      ticked-on = λ u. refl;
+    }

@@ -1,0 +1,116 @@
+-- An aircraft that a request of kinds 3 to 11 names and that passes 12 to 14 is one of the line, or the one on the runway, at the head of
+-- a zone that the kind starts from. Assumes nothing.
+use mathlib.Core.Path.{_≡_, refl, sym, ap, _∙_, subst}
+use mathlib.Core.Logic.{_⊎_, inl, inr}
+use mathlib.Core.Bool.{Bool, true, false, not, _||_, false≢true}
+use mathlib.Core.List.{List, [], _∷_, _++_}
+use Prim.Native.Nat.{ℕ, suc, _≤_}
+use native.Mathlib.Omega.{arith}
+use lib.Dec.{T, eqb}
+use lib.ListN.{length}
+use borrow.Author.Tests.{eqb-true, eq-eqb}
+use Rattle.request.specs.declared.Request.{Request}
+use Rattle.field.specs.declared.Aircraft.{Aircraft}
+use Rattle.field.specs.declared.Legs.{Legs}
+use Rattle.field.specs.declared.Field.{Field}
+use Rattle.questions.specs.declared.Place.{Place}
+use Rattle.field.specs.Lists.{isIn}
+use Rattle.questions.specs.Find.{placeOf}
+use Rattle.order.specs.Model.{Side, count, free}
+use Rattle.rules.specs.Kinds.{startsFrom, zoneBefore}
+use Rattle.field.proofs.Tests.{decided, pass}
+use Rattle.line.proofs.Line.{Placed, zonesIn, numbersOf, inside, fieldOf}
+use Rattle.line.proofs.Counted.{length-inside}
+use Rattle.questions.proofs.FindLaws.{at}
+use Rattle.line.proofs.Located.{located, located-runway, not-located}
+use Rattle.line.proofs.Orderly.{Orderly}
+use Rattle.moves.proofs.After.{zone-in}
+
+-- ---- a number in a line
+pub record InLine (n : ℕ) (line : List Placed) : Type 0 where
+  pub ahead : List Placed
+  pub here : Placed
+  pub behind : List Placed
+  pub whole : line ≡ ahead ++ here ∷ behind
+  pub named : n ≡ here .aircraft .number
+
+pub find-line : (n : ℕ) (line : List Placed) → InLine n line ⊎ (isIn n (numbersOf line) ≡ false)
+find-line n [] = inr refl
+find-line n (e ∷ line) = go (decided (eqb (e .aircraft .number) n)) (find-line n line)
+  where
+    go : (eqb (e .aircraft .number) n ≡ true) ⊎ (eqb (e .aircraft .number) n ≡ false) → InLine n line ⊎ (isIn n (numbersOf line) ≡ false) → InLine n (e ∷ line) ⊎ (isIn n (numbersOf (e ∷ line)) ≡ false)
+    go (inl b) rest = inl (record { ahead = []; here = e; behind = line; whole = refl; named = sym (eqb-true (e .aircraft .number) n b) })
+    go (inr b) (inl i) = inl (record { ahead = e ∷ i .ahead; here = i .here; behind = i .behind; whole = ap (λ (l : List Placed). e ∷ l) (i .whole); named = i .named })
+    go (inr b) (inr h) = inr (ap (λ (t : Bool). t || isIn n (numbersOf line)) b ∙ h)
+
+-- ---- at the head of its zone
+pub record Heading (f : Side) (line : List Placed) (runway : List Aircraft) (legs : Legs) (r : Request) : Type 0 where
+  pub ahead : List Placed
+  pub here : Placed
+  pub behind : List Placed
+  pub whole : line ≡ ahead ++ here ∷ behind
+  pub named : r .number ≡ here .aircraft .number
+  pub heads : T (free (zonesIn ahead) (here .zone))
+  pub place-is : placeOf (fieldOf f (ahead ++ here ∷ behind) runway legs) (r .number) ≡ at (here .zone) 1
+  pub starts : T (startsFrom (r .kind) (here .zone))
+
+-- the one on the runway
+pub record Landed (f : Side) (line : List Placed) (runway : List Aircraft) (legs : Legs) (r : Request) : Type 0 where
+  pub one : Aircraft
+  pub whole : runway ≡ one ∷ []
+  pub named : r .number ≡ one .number
+  pub place-is : placeOf (fieldOf f line (one ∷ []) legs) (r .number) ≡ at 13 1
+  pub starts : T (startsFrom (r .kind) 13)
+
+module _ (f : Side) (line : List Placed) (runway : List Aircraft) (legs : Legs) (o : Orderly f line runway legs) (r : Request) where
+  abbrev F : Field
+  F = fieldOf f line runway legs
+
+  abbrev n : ℕ
+  n = r .number
+
+  module _ (known : not (eqb (zoneBefore F r) 0) ≡ true) (from : startsFrom (r .kind) (zoneBefore F r) ≡ true) (first : eqb (placeOf F n .place) 1 ≡ true) where
+    in-the-line : InLine n line → Heading f line runway legs r
+    in-the-line i =
+        let a = i .ahead in
+        let e = i .here in
+        let b = i .behind in
+        let o₂ = subst (λ (l : List Placed). Orderly f l runway legs) (i .whole) o in
+        let G = fieldOf f (a ++ e ∷ b) runway legs in
+        let p : placeOf G n ≡ at (e .zone) (suc (length (inside (e .zone) a))) = ap (placeOf G) (i .named) ∙ located f a e b runway legs (o₂ .different) (zone-in f a e b runway legs o₂) in
+        let q : placeOf F n ≡ placeOf G n = ap (λ (l : List Placed). placeOf (fieldOf f l runway legs) n) (i .whole) in
+        let k : suc (length (inside (e .zone) a)) ≡ 1 = eqb-true (suc (length (inside (e .zone) a))) 1 (ap (λ (x : Place). eqb (x .place) 1) (sym (q ∙ p)) ∙ first) in
+        let m = length-inside (e .zone) a in
+        record {
+          ahead = a;
+          here = e;
+          behind = b;
+          whole = i .whole;
+          named = i .named;
+          heads = pass (eq-eqb (count (zonesIn a) (e .zone)) 0 (omega arith));
+          place-is = p ∙ ap (at (e .zone)) k;
+          starts = pass (ap (λ (x : Place). startsFrom (r .kind) (x .zone)) (sym (q ∙ p)) ∙ from);
+        }
+
+    on-the-runway : (rw : List Aircraft) → runway ≡ rw → length rw ≤ 1 → isIn n (numbersOf line) ≡ false → Landed f line runway legs r
+    on-the-runway [] e h d =
+        absurd
+        (false≢true
+        (ap (λ (x : Place). not (eqb (x .zone) 0)) (sym (ap (λ (l : List Aircraft). placeOf (fieldOf f line l legs) n) e ∙ not-located f line [] legs n d refl)) ∙ known))
+    on-the-runway (x ∷ []) e h d =
+        let q : placeOf F n ≡ placeOf (fieldOf f line (x ∷ []) legs) n = ap (λ (l : List Aircraft). placeOf (fieldOf f line l legs) n) e in
+        elim (decided (eqb (x .number) n)) [
+          | inl b ↦
+              let c : n ≡ x .number = sym (eqb-true (x .number) n b) in
+              let p : placeOf (fieldOf f line (x ∷ []) legs) n ≡ at 13 1 = ap (placeOf (fieldOf f line (x ∷ []) legs)) c ∙ located-runway f line x legs (ap (λ (m : ℕ). isIn m (numbersOf line)) (sym c) ∙ d) in
+              record { one = x; whole = e; named = c; place-is = p; starts = pass (ap (λ (y : Place). startsFrom (r .kind) (y .zone)) (sym (q ∙ p)) ∙ from) }
+          | inr b ↦ absurd (false≢true (ap (λ (y : Place). not (eqb (y .zone) 0)) (sym (q ∙ not-located f line (x ∷ []) legs n d (ap (λ (t : Bool). t || false) b))) ∙ known))
+        ]
+    on-the-runway (x ∷ y ∷ rest) e h d = absurd (omega arith)
+
+    pub heading : Heading f line runway legs r ⊎ Landed f line runway legs r
+    heading =
+        elim (find-line n line) [
+          | inl i ↦ inl (in-the-line i)
+          | inr d ↦ inr (on-the-runway runway refl (o .one-landed) d)
+        ]

@@ -1,0 +1,166 @@
+-- Kind 11 beside an occupied 3000: the aircraft there goes to 2000, and the one from the missed zone to 3000. Assumes nothing.
+use mathlib.Core.Path.{_≡_, refl, sym, ap, _∙_, subst}
+use mathlib.Core.Bool.{false, not, _||_}
+use mathlib.Core.List.{List, _∷_, _++_, append-assoc}
+use Prim.Native.Nat.{ℕ, _+_}
+use native.Mathlib.Omega.{arith}
+use lib.Dec.{T, eqb, eqb→eq}
+use lib.ListN.{length}
+use borrow.Author.Tests.{eq-eqb}
+use Rattle.request.specs.Input.{within}
+use Rattle.request.specs.declared.Request.{Request}
+use Rattle.field.specs.declared.Aircraft.{Aircraft}
+use Rattle.field.specs.declared.Legs.{Legs}
+use Rattle.field.specs.declared.Field.{Field}
+use Rattle.field.specs.Boxes.{isFlyingZone, sideOf, at3000, at2000, withProgress}
+use Rattle.order.specs.Model.{Side, count, free, okay, weight, one}
+use Rattle.order.proofs.Facts.{BothMoved, hold-both}
+use Rattle.rules.specs.Kinds.{moved}
+use Rattle.rules.specs.Step.{effectOf}
+use Rattle.field.proofs.Tests.{pass, failed, zones-imply}
+use Rattle.line.proofs.Line.{Placed, zonesIn, fieldOf}
+use Rattle.line.proofs.Counted.{lower}
+use Rattle.line.proofs.Members.{count-append}
+use Rattle.line.proofs.Orderly.{Orderly}
+use Rattle.moves.proofs.Moves.{into, same-length}
+use Rattle.moves.proofs.After.{Each, each-append, each-left, each-right, After, Carried, carried-one, one-le, zone-in, moved-is, moved-orderly, zones-split}
+
+-- what is nowhere in a list is nowhere in its parts
+free-left : (xs ys : List ℕ) (z : ℕ) → T (free (xs ++ ys) z) → T (free xs z)
+free-left xs ys z t = pass (eq-eqb (count xs z) 0 (let a = count-append xs ys z in let b = eqb→eq (count (xs ++ ys) z) 0 t in omega arith))
+
+-- one of a list in another zone than z
+free-changed : (xs : List ℕ) (y w : ℕ) (ys : List ℕ) (z : ℕ) → T (free (xs ++ y ∷ ys) z) → eqb w z ≡ false → T (free (xs ++ w ∷ ys) z)
+free-changed xs y w ys z t h =
+    pass
+    (eq-eqb (count (xs ++ w ∷ ys) z) 0
+    (let a = count-append xs (y ∷ ys) z in
+    let b = count-append xs (w ∷ ys) z in
+    let c = eqb→eq (count (xs ++ y ∷ ys) z) 0 t in
+    let d : one (eqb w z) ≡ 0 = ap one h in
+    omega arith))
+
+-- 2000 is not flown in
+waits : (z : ℕ) → T (within 1 13 z) → T (within 7 8 z) → isFlyingZone (at2000 (sideOf z)) ≡ false
+unfolding isFlyingZone sideOf
+waits z t u = failed {b = isFlyingZone (at2000 (sideOf z))} (zones-imply (within 7 8) (λ z. not (isFlyingZone (at2000 (sideOf z)))) tt z t u)
+
+-- ---- the line a, g, b, e, c: g at 3000 and e in the missed zone
+module _ (f : Side) (a : List Placed) (g : Placed) (b : List Placed) (e : Placed) (c : List Placed) (runway : List Aircraft) (legs : Legs) (o : Orderly f (a ++ g ∷ (b ++ e ∷ c)) runway legs) (r : Request)
+    (named : r .number ≡ e .aircraft .number) (missed-zone : T (within 7 8 (e .zone))) (above : g .zone ≡ at3000 (sideOf (e .zone))) (heads : T (free (zonesIn (a ++ g ∷ b)) (e .zone))) where
+  abbrev z : ℕ
+  z = e .zone
+
+  abbrev y : ℕ
+  y = at3000 (sideOf z)
+
+  abbrev w : ℕ
+  w = at2000 (sideOf z)
+
+  abbrev F : Field
+  F = fieldOf f (a ++ g ∷ (b ++ e ∷ c)) runway legs
+
+  zones-here : zonesIn (b ++ e ∷ c) ≡ zonesIn b ++ z ∷ zonesIn c
+  zones-here = zones-split b e c
+
+  -- the zones before the hold and after it
+  zones-before : zonesIn (a ++ g ∷ (b ++ e ∷ c)) ≡ zonesIn a ++ y ∷ (zonesIn b ++ z ∷ zonesIn c)
+  zones-before = zones-split a g (b ++ e ∷ c) ∙ ap (λ (v : ℕ). zonesIn a ++ v ∷ zonesIn (b ++ e ∷ c)) above ∙ ap (λ (l : List ℕ). zonesIn a ++ y ∷ l) zones-here
+
+  heads-here : T (free (zonesIn a ++ y ∷ zonesIn b) z)
+  heads-here = subst (λ (l : List ℕ). T (free l z)) (zones-split a g b ∙ ap (λ (v : ℕ). zonesIn a ++ v ∷ zonesIn b) above) heads
+
+  both : BothMoved f (zonesIn a) y w (zonesIn b) z (zonesIn c)
+  both =
+      hold-both f (zonesIn a) (zonesIn b) z (zonesIn c) missed-zone
+      (subst (λ (l : List ℕ). T (okay f l)) zones-before (o .okay-line))
+      heads-here
+
+  -- the first move, from 3000 to 2000
+  g-heads : T (free (zonesIn a) (g .zone))
+  g-heads = subst (λ (v : ℕ). T (free (zonesIn a) v)) (sym above) (both .head-above)
+
+  g-behind : T (free (zonesIn (b ++ e ∷ c)) w)
+  g-behind = subst (λ (l : List ℕ). T (free l w)) (sym zones-here) (both .none-below)
+
+  g-other : T (not (eqb w (g .zone)))
+  g-other = subst (λ (v : ℕ). T (not (eqb w v))) (sym above) (both .apart .0)
+
+  within-okay : T (okay f (zonesIn a ++ w ∷ zonesIn (b ++ e ∷ c)))
+  within-okay = subst (λ (l : List ℕ). T (okay f (zonesIn a ++ w ∷ l))) (sym zones-here) (both .okay-within)
+
+  moved-down : moved F y w ≡ fieldOf f (a ++ into w g ∷ (b ++ e ∷ c)) runway legs
+  moved-down = ap (λ (v : ℕ). moved F v w) (sym above) ∙ moved-is f a g (b ++ e ∷ c) runway legs o w g-heads g-behind g-other (both .inside-w) within-okay
+
+  down-orderly : Orderly f (a ++ into w g ∷ (b ++ e ∷ c)) runway legs
+  down-orderly = moved-orderly f a g (b ++ e ∷ c) runway legs o w g-heads g-behind g-other (both .inside-w) within-okay
+
+  -- the line as seen from e
+  abbrev a₂ : List Placed
+  a₂ = a ++ into w g ∷ b
+
+  regroup : (h : Placed) → a ++ into w g ∷ (b ++ h ∷ c) ≡ a₂ ++ h ∷ c
+  regroup h = sym (append-assoc a (into w g ∷ b) (h ∷ c))
+
+  orderly₂ : Orderly f (a₂ ++ e ∷ c) runway legs
+  orderly₂ = subst (λ (l : List Placed). Orderly f l runway legs) (regroup e) down-orderly
+
+  zones₂ : zonesIn a₂ ≡ zonesIn a ++ w ∷ zonesIn b
+  zones₂ = zones-split a (into w g) b
+
+  zones-after : zonesIn a₂ ++ y ∷ zonesIn c ≡ zonesIn a ++ w ∷ (zonesIn b ++ y ∷ zonesIn c)
+  zones-after = ap (λ (l : List ℕ). l ++ y ∷ zonesIn c) zones₂ ∙ append-assoc (zonesIn a) (w ∷ zonesIn b) (y ∷ zonesIn c)
+
+  e-heads : T (free (zonesIn a₂) z)
+  e-heads = subst (λ (l : List ℕ). T (free l z)) (sym zones₂) (free-changed (zonesIn a) y w (zonesIn b) z heads-here (failed {b = eqb w z} (both .apart .2)))
+
+  after-okay : T (okay f (zonesIn a₂ ++ y ∷ zonesIn c))
+  after-okay = subst (λ (l : List ℕ). T (okay f l)) (sym zones-after) (both .okay-after)
+
+  moved-up : moved (moved F y w) z y ≡ fieldOf f (a₂ ++ into y e ∷ c) runway legs
+  moved-up =
+      ap (λ (h : Field). moved h z y) (moved-down ∙ ap (λ (l : List Placed). fieldOf f l runway legs) (regroup e))
+      ∙ moved-is f a₂ e c runway legs orderly₂ y e-heads (both .none-behind) (both .apart .1) (both .inside-y) after-okay
+
+  up-orderly : Orderly f (a₂ ++ into y e ∷ c) runway legs
+  up-orderly = moved-orderly f a₂ e c runway legs orderly₂ y e-heads (both .none-behind) (both .apart .1) (both .inside-y) after-okay
+
+  -- everyone else stays, or is at 2000
+  carried-both : Carried (r .number) (a ++ g ∷ (b ++ e ∷ c)) (a₂ ++ into y e ∷ c)
+  unfolding withProgress
+  carried-both =
+      record {
+        carry =
+            λ P others come idle.
+            let Q : Placed → Type 0 = λ (x : Placed). (x .aircraft .number ≡ r .number → ⊥) → P x in
+            let rest = each-right Q a (g ∷ (b ++ e ∷ c)) others .1 in
+            let down : Each Q (a ++ into w g ∷ (b ++ e ∷ c)) = each-append Q a (into w g ∷ (b ++ e ∷ c)) (each-left Q a (g ∷ (b ++ e ∷ c)) others) ((λ k. idle (into w g) (waits z (lower z (zone-in f a₂ e c runway legs orderly₂)) missed-zone)), rest) in
+            carried-one (r .number) a₂ e (into y e) c runway (orderly₂ .different) named (sym named) refl .carry P (subst (Each Q) (regroup e) down) come idle;
+      }
+
+  pub after-both : r .kind ≡ 11 → effectOf F r ≡ moved (moved F y w) z y → After f (a ++ g ∷ (b ++ e ∷ c)) runway legs r
+  after-both h eff =
+      record {
+        first-after = f;
+        line-after = a₂ ++ into y e ∷ c;
+        runway-after = runway;
+        effect = eff ∙ moved-up;
+        orderly = up-orderly;
+        balance =
+            let p = same-length a₂ (into y e) e c in
+            let q = ap (λ (l : List Placed). length l) (regroup e) in
+            let m = same-length a (into w g) g (b ++ e ∷ c) in
+            kind-balance (r .kind) h (p ∙ sym q ∙ m);
+        lighter =
+            λ u.
+            let p = ap weight (zones-split a₂ (into y e) c ∙ zones-after) in
+            let q = ap weight zones-before in
+            let l = both .lighter in
+            let x = one-le (within 3 11 (r .kind)) in
+            omega arith;
+        carried = λ u. carried-both;
+        ticked-on = λ u. absurd (let n : 12 ≡ 11 = sym u ∙ h in omega arith);
+      }
+    where
+      kind-balance : (k : ℕ) → k ≡ 11 → {m n : ℕ} → m ≡ n → m + length runway + one (eqb k 8 || eqb k 9) ≡ n + length runway + one (within 1 2 k)
+      kind-balance k h {m} {n} q = subst (λ (j : ℕ). m + length runway + one (eqb j 8 || eqb j 9) ≡ n + length runway + one (within 1 2 j)) (sym h) (omega arith)

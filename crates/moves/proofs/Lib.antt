@@ -1,0 +1,13 @@
+pub mod Moves
+pub mod Leaves
+pub mod Enters
+pub mod Ticking
+pub mod Kept
+pub mod After
+pub mod Heads
+pub mod OnLine
+pub mod HoldBoth
+pub mod AtEnds
+pub mod Accepted
+pub mod Steps
+pub mod Outcomes

@@ -1,0 +1,85 @@
+-- The outcome of any request on a field that an orderly line stands for: accepted, with what it leaves behind, or refused by a number
+-- that is neither 10 nor 25. Assumes nothing.
+use mathlib.Core.Path.{_≡_, sym, ap, _∙_, subst}
+use mathlib.Core.Logic.{_⊎_, inl, inr}
+use mathlib.Core.Bool.{Bool, true, cond, _||_}
+use mathlib.Core.List.{List, [], _∷_, _++_}
+use Prim.Native.Nat.{ℕ}
+use native.Mathlib.Omega.{arith}
+use lib.Dec.{T, leb, eqb, leb→le}
+use lib.Ieee.Fits.{and-l}
+use borrow.Author.Tests.{eqb-true, eqb-false, eq-eqb, ne-eqb}
+use Rattle.request.specs.Input.{within, firstRefused, inputNumber}
+use Rattle.request.specs.declared.Request.{Request}
+use Rattle.field.specs.declared.Aircraft.{Aircraft}
+use Rattle.field.specs.declared.Legs.{Legs}
+use Rattle.field.specs.declared.Field.{Field}
+use Rattle.bounds.specs.Bounds.{withinBounds}
+use Rattle.order.specs.Model.{Side}
+use Rattle.rules.specs.Step.{checksOf, effectOf, numberOf}
+use Rattle.field.proofs.Tests.{passed, decided, or-left, or-right, if-true, if-false}
+use Rattle.line.proofs.Line.{Placed, fieldOf}
+use Rattle.line.proofs.Orderly.{Orderly}
+use Rattle.line.proofs.Within.{within-bounds}
+use Rattle.moves.proofs.After.{After}
+use Rattle.rules.proofs.Checks.{refused-in, refused-append, checks-numbered, checks-refuse, input-numbered}
+use Rattle.moves.proofs.Steps.{accepted-after}
+
+-- ---- the number of a refusal on an orderly field: 1 to 4, or 11 to 24
+abbrev pub refusable : ℕ → Bool
+refusable n = within 1 4 n || within 11 24 n
+
+pub record Accepted (f : Side) (line : List Placed) (runway : List Aircraft) (legs : Legs) (r : Request) : Type 1 where
+  pub number-0 : numberOf (fieldOf f line runway legs) r ≡ 0
+  pub after : After f line runway legs r
+
+module _ (f : Side) (line : List Placed) (runway : List Aircraft) (legs : Legs) (o : Orderly f line runway legs) (r : Request) where
+  abbrev F : Field
+  F = fieldOf f line runway legs
+
+  -- the checks and the field afterwards, where the input rules hold
+  number-of : inputNumber r ≡ 0 → numberOf F r ≡ firstRefused (checksOf F r ++ ((25, withinBounds (effectOf F r)) ∷ []))
+  unfolding numberOf
+  number-of e =
+      if-true (firstRefused ((10, withinBounds F) ∷ checksOf F r ++ ((25, withinBounds (effectOf F r)) ∷ []))) (inputNumber r) (eq-eqb (inputNumber r) 0 e)
+      ∙ ap (λ (b : Bool). cond b (firstRefused (checksOf F r ++ ((25, withinBounds (effectOf F r)) ∷ []))) 10) (passed {b = withinBounds F} (within-bounds f line runway legs o))
+
+  number-input : (inputNumber r ≡ 0 → ⊥) → numberOf F r ≡ inputNumber r
+  unfolding numberOf
+  number-input e = if-false (firstRefused ((10, withinBounds F) ∷ checksOf F r ++ ((25, withinBounds (effectOf F r)) ∷ []))) (inputNumber r) (ne-eqb (inputNumber r) 0 e)
+
+  -- a request that passes the input rules and its checks is accepted
+  pub accepted-by : inputNumber r ≡ 0 → firstRefused (checksOf F r) ≡ 0 → Accepted f line runway legs r
+  accepted-by i c =
+      let a = accepted-after f line runway legs o r i c in
+      let w : withinBounds (effectOf F r) ≡ true = ap withinBounds (a .effect) ∙ passed (within-bounds (a .first-after) (a .line-after) (a .runway-after) legs (a .orderly)) in
+      record {
+        number-0 =
+            number-of i
+            ∙ refused-append (checksOf F r) ((25, withinBounds (effectOf F r)) ∷ []) (checks-refuse F r)
+            ∙ if-true (cond (withinBounds (effectOf F r)) 0 25) (firstRefused (checksOf F r)) (eq-eqb (firstRefused (checksOf F r)) 0 c)
+            ∙ ap (λ (b : Bool). cond b 0 25) w;
+        after = a;
+      }
+
+  by-checks : inputNumber r ≡ 0 → Accepted f line runway legs r ⊎ T (refusable (numberOf F r))
+  by-checks i =
+      elim (decided (eqb (firstRefused (checksOf F r)) 0)) [
+        | inl e ↦ inl (accepted-by i (eqb-true (firstRefused (checksOf F r)) 0 e))
+        | inr e ↦
+            let n = eqb-false (firstRefused (checksOf F r)) 0 e in
+            let q : numberOf F r ≡ firstRefused (checksOf F r) = number-of i ∙ refused-append (checksOf F r) ((25, withinBounds (effectOf F r)) ∷ []) (checks-refuse F r) ∙ if-false (cond (withinBounds (effectOf F r)) 0 25) (firstRefused (checksOf F r)) e in
+            elim (refused-in 11 24 (checksOf F r) (checks-numbered F r)) [
+              | inl z ↦ absurd (n z)
+              | inr t ↦ inr (subst (λ (m : ℕ). T (refusable m)) (sym q) (or-right (within 1 4 (firstRefused (checksOf F r))) (within 11 24 (firstRefused (checksOf F r))) t))
+            ]
+      ]
+
+  pub outcome : Accepted f line runway legs r ⊎ T (refusable (numberOf F r))
+  outcome =
+      elim (input-numbered r) [
+        | inl i ↦ by-checks i
+        | inr t ↦
+            let q = number-input (λ z. let l = leb→le 1 (inputNumber r) (and-l (leb 1 (inputNumber r)) (leb (inputNumber r) 4) t) in omega arith) in
+            inr (subst (λ (m : ℕ). T (refusable m)) (sym q) (or-left (within 1 4 (inputNumber r)) (within 11 24 (inputNumber r)) t))
+      ]

@@ -1,0 +1,165 @@
+-- A step on a field that an orderly line stands for: what an accepted request leaves behind, and that neither 10 nor 25 is answered.
+-- Assumes nothing.
+use mathlib.Core.Path.{_≡_, refl, sym, ap, _∙_, subst}
+use mathlib.Core.Logic.{inl, inr}
+use mathlib.Core.Bool.{Bool, true, false, not, _&&_, _||_, false≢true, Bool·not-not}
+use mathlib.Core.List.{List, [], _∷_, _++_}
+use Prim.Native.Nat.{ℕ, _≤_}
+use native.Mathlib.Omega.{arith}
+use lib.Dec.{T, leb, ltb, eqb, leb→le, le→leb}
+use lib.ListN.{length}
+use lib.Ieee.Fits.{and-i, and-l}
+use borrow.Author.Tests.{eqb-true}
+use Rattle.request.specs.Input.{within, isEntry, firstRefused, inputNumber}
+use Rattle.request.specs.declared.Request.{Request}
+use Rattle.request.proofs.Tests as input
+use Rattle.request.proofs.ByKind.{EntryKnown, kind-known, entry-known, tick-known}
+use Rattle.field.specs.declared.Aircraft.{Aircraft}
+use Rattle.field.specs.declared.Legs.{Legs}
+use Rattle.field.specs.declared.Field.{Field}
+use Rattle.questions.specs.declared.Place.{Place}
+use Rattle.field.specs.Boxes.{isFlyingZone, at3000, lateral, missed, approach}
+use Rattle.field.specs.Lists.{isIn}
+use Rattle.questions.specs.Counts.{total, approachHolds, potentialOf, isEmpty}
+use Rattle.questions.specs.Find.{placeOf}
+use Rattle.field.proofs.Shapes.{one-of-two}
+use Rattle.order.specs.Model.{Side, right, left, num, countFix, free, potential, mayEnter}
+use Rattle.order.proofs.Facts.{enter, enter-lateral}
+use Rattle.rules.specs.Kinds.{zoneBefore, verticalChecks, lateralChecks, descendChecks, approachChecks, mergeChecks, flownOutChecks, landChecks, exitChecks}
+use Rattle.rules.specs.Step.{checksOf}
+use Rattle.field.proofs.Tests.{passed, pass, decided, each-zone}
+use Rattle.field.proofs.Lists.{absent-both}
+use Rattle.line.proofs.Line.{Placed, zonesIn, numbersOf, fieldOf}
+use Rattle.line.proofs.Counted.{how-many, approach-holds, potential-is}
+use Rattle.questions.proofs.FindLaws.{numbers, at}
+use Rattle.line.proofs.Located.{located, located-runway}
+use Rattle.line.proofs.Orderly.{Orderly}
+use Rattle.moves.proofs.After.{After, zone-in}
+use Rattle.moves.proofs.Heads.{find-line}
+use Rattle.rules.proofs.Checks.{checksFor, checks-at, effect-at}
+use Rattle.moves.proofs.AtEnds.{after-entry, after-12}
+use Rattle.moves.proofs.Accepted.{three, four, five, six, seven, eight, nine, ten, eleven}
+
+-- ---- a side of a request
+side-known : (n : ℕ) → 1 ≤ n → n ≤ 2 → (s : Side) × (n ≡ num s)
+side-known n l h = one-of-two (λ (m : ℕ). (s : Side) × (m ≡ num s)) 1 n l (omega arith) (right, refl) (left, refl)
+
+-- ---- kinds 1 and 2
+module _ (f : Side) (line : List Placed) (runway : List Aircraft) (legs : Legs) (o : Orderly f line runway legs) (r : Request) where
+  abbrev F : Field
+  F = fieldOf f line runway legs
+
+  abbrev zs : List ℕ
+  zs = zonesIn line
+
+  -- 11 does not apply: nobody has the number
+  not-on : (xs : List Aircraft) → runway ≡ xs → length xs ≤ 1 → eqb (zoneBefore F r) 0 ≡ true → isIn (r .number) (numbersOf line) ≡ false → isIn (r .number) (numbers xs) ≡ false
+  not-on [] e h t d = refl
+  not-on (x ∷ []) e h t d =
+      elim (decided (eqb (x .number) (r .number))) [
+        | inl b ↦
+            let n : r .number ≡ x .number = sym (eqb-true (x .number) (r .number) b) in
+            let p : placeOf F (r .number) ≡ at 13 1 = ap (λ (l : List Aircraft). placeOf (fieldOf f line l legs) (r .number)) e ∙ ap (placeOf (fieldOf f line (x ∷ []) legs)) n ∙ located-runway f line x legs (ap (λ (m : ℕ). isIn m (numbersOf line)) (sym n) ∙ d) in
+            absurd (false≢true (ap (λ (q : Place). eqb (q .zone) 0) (sym p) ∙ t))
+        | inr b ↦ ap (λ (c : Bool). c || false) b
+      ]
+  not-on (x ∷ y ∷ rest) e h t d = absurd (omega arith)
+
+  new-number : eqb (zoneBefore F r) 0 ≡ true → isIn (r .number) (numbersOf line ++ numbers runway) ≡ false
+  new-number t =
+      elim (find-line (r .number) line) [
+        | inl i ↦
+            let q = subst (λ (l : List Placed). Orderly f l runway legs) (i .whole) o in
+            let u = zone-in f (i .ahead) (i .here) (i .behind) runway legs q in
+            let p = ap (λ (l : List Placed). placeOf (fieldOf f l runway legs) (r .number) .zone) (i .whole) ∙ ap (λ (n : ℕ). placeOf (fieldOf f (i .ahead ++ i .here ∷ i .behind) runway legs) n .zone) (i .named) ∙ ap (λ (x : Place). x .zone) (located f (i .ahead) (i .here) (i .behind) runway legs (q .different) u) in
+            let z = eqb-true (zoneBefore F r) 0 t in
+            absurd (let l = leb→le 1 (i .here .zone) (and-l (leb 1 (i .here .zone)) (leb (i .here .zone) 12) u) in omega arith)
+        | inr d ↦ absent-both (r .number) (numbersOf line) (numbers runway) d (not-on runway refl (o .one-landed) t d)
+      ]
+
+  module _ (s : Side) (side : r .side ≡ num s) where
+    empty-zone : (w : ℕ → ℕ) → T (within 1 12 (w (num s))) → isEmpty F (w (r .side)) ≡ true → T (free zs (w (num s)))
+    empty-zone w t e = pass (sym (ap (λ (n : ℕ). eqb n 0) (how-many f line runway legs (w (num s)) t)) ∙ ap (λ (n : ℕ). isEmpty F (w n)) (sym side) ∙ e)
+
+    pub entry-1 : r .kind ≡ 1 → EntryKnown r → firstRefused (verticalChecks F r) ≡ 0 → T (within 1 12 (missed (num s))) → T (within 1 12 (lateral (num s))) → T (within 1 12 (at3000 (num s))) → T (not (isFlyingZone (at3000 (num s)))) → After f line runway legs r
+    unfolding verticalChecks
+    entry-1 k known c tm tl th tf =
+        let p = input.passed (verticalChecks F r) (tt, (tt, (tt, (tt, (tt, (tt, tt)))))) c in
+        let t16 : ltb (potential f zs (num s)) 2 ≡ true = ap (λ (n : ℕ). ltb n 2) (sym (potential-is f line runway legs (o .alternates) (num s)) ∙ ap (potentialOf F) (sym side)) ∙ p .1 .0 in
+        let t17 : eqb (total (countFix f zs (num s)) approach) 0 ≡ true = sym (Bool·not-not (eqb (total (countFix f zs (num s)) approach) 0)) ∙ ap not (sym (approach-holds f line runway legs (o .alternates) (num s)) ∙ ap (approachHolds F) (sym side)) ∙ p .1 .1 .0 in
+        let a = ltb (potential f zs (num s)) 2 in
+        let b = eqb (total (countFix f zs (num s)) approach) 0 in
+        let m = free zs (missed (num s)) in
+        let l = free zs (lateral (num s)) in
+        let h = free zs (at3000 (num s)) in
+        let may : T (mayEnter f zs (num s)) = and-i (a && b && m && l) h (and-i (a && b && m) l (and-i (a && b) m (and-i a b (pass t16) (pass t17)) (empty-zone missed tm (p .1 .1 .1 .0))) (empty-zone lateral tl (p .1 .1 .1 .1 .0))) (empty-zone at3000 th (p .1 .1 .1 .1 .1 .0)) in
+        after-entry s f line runway legs o r (at3000 (num s)) th tf side (subst (λ (j : ℕ). T (isEntry j)) (sym k) tt)
+        (effect-at F r k ∙ ap (λ (n : ℕ). Rattle.rules.specs.Kinds.entered F r (at3000 n)) side)
+        (enter f s zs (o .okay-line) may) (known .number) (new-number (p .0)) (known .speed-low) (known .speed-high) (λ u. let n : 12 ≡ 1 = sym u ∙ k in omega arith) (subst (λ (j : ℕ). T (not (eqb j 8 || eqb j 9))) (sym k) tt)
+
+    pub entry-2 : r .kind ≡ 2 → EntryKnown r → firstRefused (lateralChecks F r) ≡ 0 → T (within 1 12 (lateral (num s))) → T (not (isFlyingZone (lateral (num s)))) → After f line runway legs r
+    unfolding lateralChecks
+    entry-2 k known c tl tf =
+        let p = input.passed (lateralChecks F r) (tt, (tt, tt)) c in
+        let t16 : eqb (potential f zs (num s)) 0 ≡ true = ap (λ (n : ℕ). eqb n 0) (sym (potential-is f line runway legs (o .alternates) (num s)) ∙ ap (potentialOf F) (sym side)) ∙ p .1 .0 in
+        after-entry s f line runway legs o r (lateral (num s)) tl tf side (subst (λ (j : ℕ). T (isEntry j)) (sym k) tt)
+        (effect-at F r k ∙ ap (λ (n : ℕ). Rattle.rules.specs.Kinds.entered F r (lateral n)) side)
+        (enter-lateral f s zs (o .okay-line) (pass t16)) (known .number) (new-number (p .0)) (known .speed-low) (known .speed-high) (λ u. let n : 12 ≡ 2 = sym u ∙ k in omega arith) (subst (λ (j : ℕ). T (not (eqb j 8 || eqb j 9))) (sym k) tt)
+
+  one-side : (s : Side) → r .side ≡ num s → r .kind ≡ 1 → EntryKnown r → firstRefused (verticalChecks F r) ≡ 0 → After f line runway legs r
+  unfolding isFlyingZone
+  one-side right side k known c = entry-1 right side k known c tt tt tt tt
+  one-side left side k known c = entry-1 left side k known c tt tt tt tt
+
+  two-side : (s : Side) → r .side ≡ num s → r .kind ≡ 2 → EntryKnown r → firstRefused (lateralChecks F r) ≡ 0 → After f line runway legs r
+  unfolding isFlyingZone
+  two-side right side k known c = entry-2 right side k known c tt tt
+  two-side left side k known c = entry-2 left side k known c tt tt
+
+  -- ---- every kind
+  pub accepted-after : inputNumber r ≡ 0 → firstRefused (checksOf F r) ≡ 0 → After f line runway legs r
+  unfolding descendChecks approachChecks mergeChecks flownOutChecks landChecks exitChecks
+  accepted-after i c =
+      let known = kind-known r i in
+      let at-kind : (k : ℕ) → r .kind ≡ k → firstRefused (checksFor F r k) ≡ 0 = λ k h. ap firstRefused (sym (checks-at F r h)) ∙ c in
+      let side : r .kind ≤ 2 → (s : Side) × (r .side ≡ num s) = λ h. let e = entry-known r i (known .low) h in side-known (r .side) (e .side-low) (e .side-high) in
+      each-zone (λ (k : ℕ). r .kind ≡ k → After f line runway legs r) (
+        (λ h. let s = side (omega arith) in one-side (s .0) (s .1) h (entry-known r i (known .low) (omega arith)) (at-kind 1 h)),
+        (
+          (λ h. let s = side (omega arith) in two-side (s .0) (s .1) h (entry-known r i (known .low) (omega arith)) (at-kind 2 h)),
+          (
+            (λ h. three f line runway legs o r h (at-kind 3 h)),
+            (
+              (λ h. four f line runway legs o r h (at-kind 4 h)),
+              (
+                (λ h. five f line runway legs o r h (at-kind 5 h)),
+                (
+                  (λ h. six f line runway legs o r h (at-kind 6 h)),
+                  (
+                    (λ h. seven f line runway legs o r h (at-kind 7 h)),
+                    (
+                      (λ h. eight f line runway legs o r h (at-kind 8 h)),
+                      (
+                        (λ h. nine f line runway legs o r h (at-kind 9 h)),
+                        (
+                          (λ h. ten f line runway legs o r h (at-kind 10 h)),
+                          (
+                            (λ h. eleven f line runway legs o r h (at-kind 11 h)),
+                            (
+                              (λ h. let t = tick-known r i h in after-12 f line runway legs o r h (t .amount-low) (t .amount-high)),
+                              ((λ h. absurd (let u = known .high in omega arith)), tt),
+                            ),
+                          ),
+                        ),
+                      ),
+                    ),
+                  ),
+                ),
+              ),
+            ),
+          ),
+        ),
+      )
+      (r .kind)
+      (and-i (leb 1 (r .kind)) (leb (r .kind) 13) (le→leb 1 (r .kind) (known .low)) (le→leb (r .kind) 13 (let u = known .high in omega arith)))
+      refl

@@ -1,0 +1,106 @@
+-- `numbers::sequence_exact` meets its contract, part by part. Assumes nothing.
+use mathlib.Core.Path.{_≡_, refl, sym, ap, _∙_}
+use mathlib.Core.List.{List}
+use Prim.Native.Nat.{ℕ}
+use lib.ListN.{take}
+use Rattle.field.specs.declared.Sequence.{Sequence}
+use Rattle.field.specs.Boxes.{orderOf, orderLength}
+use Rattle.field.specs.Lists.{isIn, every, allDifferent}
+use Rattle.numbers.specs.Numbers.{sequenceExact}
+use Rattle.field.proofs.Parts.{and-then, and-cut, holds, fails}
+use Rattle.field.proofs.Shapes.{unmapped}
+use Rattle.field.proofs.Arrays.{part-length, part-of, part-fits}
+use borrow.Author.Needs.{needs}
+use native.Mathlib.Omega.{arith}
+use Rattle.numbers.proofs.sequence_exact.Statement.{statement}
+use Rattle.numbers.proofs.sequence_exact.Tie as tie
+
+-- the sequence's numbers are as many as it lists
+listed : (s : Sequence) {n : ℕ} → n ≡ orderLength s → take n (s .numbers) ≡ orderOf s
+unfolding orderOf orderLength
+listed s e = ap (λ (k : ℕ). take k (s .numbers)) e ∙ part-of (s .length) (s .numbers)
+
+-- whether each is among the others, of equal lists
+each : {l m r s : List ℕ} → l ≡ m → r ≡ s → every (λ (n : ℕ). isIn n r) l ≡ every (λ (n : ℕ). isIn n s) m
+each {l} {s = s} e h = ap (λ (x : List ℕ). every (λ (n : ℕ). isIn n x) l) h ∙ ap (every (λ (n : ℕ). isIn n s)) e
+
+numbers-to-requires : tie.Need-numbers-to-requires
+numbers-to-requires c κs = search needs
+
+array-share-prefix-list : tie.Need-array-share-prefix-list
+array-share-prefix-list c =
+    let all = c .before .numbers-to in
+    omega (arith, all .ensures .0, unmapped _ (all .result .list) (all .ok .1 .1 .0 .1 .0 .1))
+
+slice-aggregate-there : tie.Need-slice-aggregate-there
+slice-aggregate-there c =
+    let all = c .before .before .numbers-to in
+    part-length (all .result .list) (all .result .length) (unmapped _ (all .result .list) (all .ok .1 .1 .0 .1 .0 .1)) (all .ensures .0)
+
+order-length-requires : tie.Need-order-length-requires
+order-length-requires c κs = search needs
+
+array-share-prefix-numbers : tie.Need-array-share-prefix-numbers
+unfolding orderOf orderLength
+array-share-prefix-numbers c =
+    let s = c .before .before .before .before .before .before .args .f .sequence in
+    omega (arith, c .before .order-length .ensures, part-fits (s .length) (s .numbers))
+
+slice-aggregate-order : tie.Need-slice-aggregate-order
+unfolding orderOf orderLength
+slice-aggregate-order c =
+    let s = c .before .before .before .before .before .before .before .args .f .sequence in
+    let n = c .before .before .order-length in
+    part-length (s .numbers) (n .result) refl (omega (arith, n .ensures, part-fits (s .length) (s .numbers)))
+
+all-different-requires : tie.Need-all-different-requires
+all-different-requires c κs = search needs
+
+returns : tie.Need-returns
+unfolding sequenceExact
+returns c =
+    let s = c .before .before .before .before .before .before .before .before .before .args .f .sequence in
+    let order = listed s (c .before .before .before .before .order-length .ensures) in
+    sym (and-cut _ (and-cut _ (fails (c .before .all-different .ensures ∙ ap allDifferent order) (c .if1 .taken))))
+
+each-in-requires : tie.Need-each-in-requires
+each-in-requires c κs = search needs
+
+returns-2 : tie.Need-returns-2
+unfolding sequenceExact
+returns-2 c =
+    let s = c .before .before .before .before .before .before .before .before .before .before .before .args .f .sequence in
+    let order = listed s (c .before .before .before .before .before .before .order-length .ensures) in
+    let there = c .before .before .before .before .before .before .before .before .before .before .numbers-to .ensures .1 in
+    let different = holds (c .before .before .before .all-different .ensures ∙ ap allDifferent order) (c .before .before .if1 .left) in
+    sym (and-cut _ (and-then different (fails (c .before .each-in .ensures ∙ each order there) (c .if2 .taken))))
+
+each-in-requires-2 : tie.Need-each-in-requires-2
+each-in-requires-2 c κs = search needs
+
+returns-3 : tie.Need-returns-3
+unfolding sequenceExact
+returns-3 c =
+    let s = c .before .before .before .before .before .before .before .before .before .before .before .before .args .f .sequence in
+    let order = listed s (c .before .before .before .before .before .before .before .order-length .ensures) in
+    let there = c .before .before .before .before .before .before .before .before .before .before .before .numbers-to .ensures .1 in
+    let different = holds (c .before .before .before .before .all-different .ensures ∙ ap allDifferent order) (c .before .before .before .if1 .left) in
+    let known = holds (c .before .before .each-in .ensures ∙ each order there) (c .before .if2 .left) in
+    sym (and-then (and-then different known) (sym (c .each-in2 .ensures ∙ each there order)))
+
+pub sequence-exact-spec : {M : Type 1} → statement M
+sequence-exact-spec =
+    tie.close
+    (tie.spec
+    numbers-to-requires
+    array-share-prefix-list
+    slice-aggregate-there
+    order-length-requires
+    array-share-prefix-numbers
+    slice-aggregate-order
+    all-different-requires
+    returns
+    each-in-requires
+    returns-2
+    each-in-requires-2
+    returns-3)

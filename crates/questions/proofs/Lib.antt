@@ -1,0 +1,4 @@
+pub mod CountReads
+pub mod Totals
+pub mod Listed
+pub mod FindLaws

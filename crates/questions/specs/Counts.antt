@@ -1,0 +1,60 @@
+-- Document 01, "The boxes" and "Any list of requests": how many are where, and for whom a side must keep room.
+use mathlib.Core.Bool.{Bool, cond, not}
+use mathlib.Core.List.{List, [], _∷_}
+use Prim.Native.Nat.{ℕ, _+_}
+use lib.Dec.{eqb}
+use lib.ListN.{length}
+use Rattle.field.specs.declared.Aircraft.{Aircraft}
+use Rattle.field.specs.declared.Field.{Field}
+use Rattle.field.specs.Lists.{isIn}
+use Rattle.field.specs.Boxes.{inZone, area, approach, operation, everywhere}
+
+-- a number for each listed zone, added up
+abbrev pub total : (ℕ → ℕ) → List ℕ → ℕ
+total g [] = 0
+total g (z ∷ zs) = g z + total g zs
+
+-- those of the aircraft that have the fix
+abbrev pub haveFix : ℕ → List Aircraft → ℕ
+haveFix fix [] = 0
+haveFix fix (a ∷ rest) = cond (eqb (a .fix) fix) 1 0 + haveFix fix rest
+
+-- how many are in zone z
+unfoldable pub howMany : Field → ℕ → ℕ
+howMany f z = length (inZone f z)
+
+-- whether nobody is in zone z
+abbrev pub isEmpty : Field → ℕ → Bool
+isEmpty f z = eqb (howMany f z) 0
+
+-- how many in zone z have the side as fix
+unfoldable pub howManyWithFix : Field → ℕ → ℕ → ℕ
+howManyWithFix f side z = haveFix side (inZone f z)
+
+-- "Present: the aircraft within the lengths of all thirteen zones."
+unfoldable pub presentOn : Field → ℕ
+presentOn f = total (howMany f) everywhere
+
+-- how many are in the operation area
+unfoldable pub inOperation : Field → ℕ
+inOperation f = total (howMany f) operation
+
+-- how many are in a side's area
+unfoldable pub inArea : Field → ℕ → ℕ
+inArea f side = total (howMany f) (area side)
+
+-- "Per missed approach side means those in the operation area with that side as fix."
+unfoldable pub perFix : Field → ℕ → ℕ
+perFix f side = total (howManyWithFix f side) operation
+
+-- whether anybody on the approach has the side as fix
+unfoldable pub approachHolds : Field → ℕ → Bool
+approachHolds f side = not (eqb (total (howManyWithFix f side) approach) 0)
+
+-- "The potential number of a side counts everyone in its area, plus everyone elsewhere in the operation area whose fix is that
+-- side. Nobody is counted twice": for each zone of the operation area, all in it or those in it with that fix
+unfoldable pub countedFor : Field → ℕ → ℕ → ℕ
+countedFor f side z = cond (isIn z (area side)) (howMany f z) (howManyWithFix f side z)
+
+unfoldable pub potentialOf : Field → ℕ → ℕ
+potentialOf f side = total (countedFor f side) operation

@@ -1,0 +1,1 @@
+// Why a missed approach always finds room at its side: theorems, and no code.

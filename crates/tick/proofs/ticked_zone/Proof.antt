@@ -1,0 +1,84 @@
+-- `tick::ticked_zone` meets its contract: before place i each aircraft has advanced, and from there on each is as it was. Assumes nothing.
+use mathlib.Core.Path.{_≡_, refl, sym, ap, _∙_}
+use mathlib.Core.List.{List, map, _++_}
+use Prim.Native.Nat.{_-_, _≤_}
+use lib.ListN.{length, take, drop, length-map}
+use Rattle.field.specs.declared.Aircraft.{Aircraft}
+use Rattle.field.specs.Boxes.{nobody}
+use Rattle.tick.specs.Tick.{tickedAircraft, tickedZone}
+use Rattle.field.proofs.Arrays.{filled-at, filled-more, filled-all, getD-map}
+use Rattle.field.proofs.Shapes.{unmapped}
+use borrow.Author.Needs.{needs}
+use native.Mathlib.Omega.{arith}
+use Rattle.tick.proofs.ticked_zone.Statement.{statement}
+use Rattle.tick.proofs.ticked_zone.Tie as tie
+
+abbrev Inv-loop : tie.InvT-loop
+Inv-loop leg amount length aircraft₀ i₀ aircraft i = (i ≤ 4) × (aircraft ≡ take i (map (tickedAircraft leg amount) aircraft₀) ++ drop i aircraft₀)
+
+abbrev μ-loop : tie.MeasureT-loop
+μ-loop leg amount length aircraft₀ i₀ aircraft i = 4 - i
+
+loop-holds : tie.Need-loop-holds Inv-loop μ-loop
+loop-holds c = (omega arith, refl)
+
+mul-a : tie.Need-mul-a Inv-loop μ-loop
+mul-a c = search needs
+
+array-copy-out-a : tie.Need-array-copy-out-a Inv-loop μ-loop
+array-copy-out-a c = search needs
+
+ticked-aircraft-requires : tie.Need-ticked-aircraft-requires Inv-loop μ-loop
+ticked-aircraft-requires c κs = search needs
+
+mul-aircraft : tie.Need-mul-aircraft Inv-loop μ-loop
+mul-aircraft c = search needs
+
+array-set-from-aircraft : tie.Need-array-set-from-aircraft Inv-loop μ-loop
+array-set-from-aircraft c = search needs
+
+add-i : tie.Need-add-i Inv-loop μ-loop
+add-i c = search needs
+
+loop-less : tie.Need-loop-less Inv-loop μ-loop
+loop-less c = search needs
+
+loop-again : tie.Need-loop-again Inv-loop μ-loop
+loop-again c =
+    let s = c .before .before .before .before .before in
+    let l = c .before .before .before .loop in
+    let g = tickedAircraft (s .args .leg) (s .args .amount) in
+    let xs = s .args .q .aircraft in
+    let long : length xs ≡ 4 = unmapped _ xs (s .good .1 .1 .0 .1 .1 .0 .1 .0 .1) in
+    let here = filled-at (l .aircraft) (map g xs) xs (l .i) nobody _ (omega arith) (length-map xs g) (l .inv .1) in
+    let ticked = c .ticked-aircraft in
+    let right = ticked .ensures ∙ ap g here ∙ sym (getD-map g xs (l .i) nobody nobody (omega arith)) in
+    (omega arith, filled-more (l .aircraft) (map g xs) xs (l .i) nobody (ticked .result) (omega arith) (length-map xs g) (l .inv .1) right)
+
+returns : tie.Need-returns Inv-loop μ-loop
+unfolding tickedZone
+returns c =
+    let s = c .before .before .before in
+    let l = c .before .loop in
+    let g = tickedAircraft (s .args .leg) (s .args .amount) in
+    let xs = s .args .q .aircraft in
+    let long : length xs ≡ 4 = unmapped _ xs (s .good .1 .1 .0 .1 .1 .0 .1 .0 .1) in
+    let all = filled-all (l .aircraft) (map g xs) xs (l .i) (omega arith) (length-map xs g) (l .inv .1) in
+    ap (λ (zs : List Aircraft). record { aircraft = zs; length = s .args .q .length }) all
+
+pub ticked-zone-spec : {M : Type 1} → statement M
+ticked-zone-spec =
+    tie.close
+    (tie.spec
+    Inv-loop
+    μ-loop
+    loop-holds
+    mul-a
+    array-copy-out-a
+    ticked-aircraft-requires
+    mul-aircraft
+    array-set-from-aircraft
+    add-i
+    loop-less
+    loop-again
+    returns)
