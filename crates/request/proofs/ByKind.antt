@@ -6,6 +6,7 @@ use Prim.Native.Nat.{ℕ, _≤_}
 use native.Mathlib.Omega.{arith}
 use lib.Dec.{eqb}
 use borrow.Author.Tests.{eqb-true}
+use Rattle.limits.specs.Limits.{longestTick, fastest}
 use Rattle.request.specs.declared.Request.{Request}
 use Rattle.request.specs.declared.KindRule.{KindRule}
 use Rattle.request.specs.Input.{inRange, ruleOf, kindAllowed, sideAllowed, numberAllowed, amountAllowed, inputNumber}
@@ -40,7 +41,7 @@ pub record EntryKnown (r : Request) : Type 0 where
   pub side-high : r .side ≤ 2
   pub number : 1 ≤ r .number
   pub speed-low : 1 ≤ r .amount
-  pub speed-high : r .amount ≤ 512
+  pub speed-high : r .amount ≤ fastest
 
 pub record MoveKnown (r : Request) : Type 0 where
   pub side : r .side ≡ 0
@@ -51,7 +52,7 @@ pub record TickKnown (r : Request) : Type 0 where
   pub side : r .side ≡ 0
   pub number : r .number ≡ 0
   pub amount-low : 1 ≤ r .amount
-  pub amount-high : r .amount ≤ 64
+  pub amount-high : r .amount ≤ longestTick
 
 pub kind-known : (r : Request) → inputNumber r ≡ 0 → KindKnown r
 kind-known r e = let k = keeps r e in record { low = within-low 1 12 (r .kind) (k .kind); high = within-high 1 12 (r .kind) (k .kind) }
@@ -63,8 +64,8 @@ entry-known r e l h =
       side-low = within-low 1 2 (r .side) (k .side);
       side-high = within-high 1 2 (r .side) (k .side);
       number = nonzero-known (r .number) (k .number);
-      speed-low = within-low 1 512 (r .amount) (k .amount);
-      speed-high = within-high 1 512 (r .amount) (k .amount);
+      speed-low = within-low 1 fastest (r .amount) (k .amount);
+      speed-high = within-high 1 fastest (r .amount) (k .amount);
     }
 
 pub tick-known : (r : Request) → inputNumber r ≡ 0 → r .kind ≡ 12 → TickKnown r
@@ -74,8 +75,8 @@ tick-known r e h =
     record {
       side = omega arith;
       number = eqb-true (r .number) 0 (k .number);
-      amount-low = within-low 1 64 (r .amount) (k .amount);
-      amount-high = within-high 1 64 (r .amount) (k .amount);
+      amount-low = within-low 1 longestTick (r .amount) (k .amount);
+      amount-high = within-high 1 longestTick (r .amount) (k .amount);
     }
 
 -- ---- a request for a move of an aircraft keeps the rule of its kind

@@ -5,6 +5,7 @@ use mathlib.Core.List.{List, [], _∷_}
 use mathlib.Core.Bool.{Bool, cond, not, _&&_, _||_}
 use lib.Dec.{leb, eqb}
 use lib.ListN.{getD}
+use Rattle.limits.specs.Limits.{longestTick, fastest}
 use Rattle.request.specs.declared.Request.{Request}
 use Rattle.request.specs.declared.Range.{Range}
 use Rattle.request.specs.declared.KindRule.{KindRule}
@@ -77,7 +78,7 @@ ruleOf kind =
       -- "an aircraft is meant (kinds 1 to 11)"
       aircraft = not (isTick kind);
       -- "4 amount: speed 1 to 512 for kinds 1, 2; 1 to 64 for a tick; else 0"
-      amounts = cond (isEntry kind) (range 1 512) (cond (isTick kind) (range 1 64) (range 0 0));
+      amounts = cond (isEntry kind) (range 1 fastest) (cond (isTick kind) (range 1 longestTick) (range 0 0));
       -- "13 not in a zone the kind starts from"
       zones = startingZones kind;
     }

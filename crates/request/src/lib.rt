@@ -1,4 +1,6 @@
 // A request, as six bytes and by its parts, the rule of each kind, and the rules that turn a request away by itself: refusals 1 to 4.
+use limits::FASTEST;
+use limits::LONGEST_TICK;
 ghost use mathlib.Core.Path.{_≡_};
 ghost use mathlib.Core.Bool.{true};
 ghost use Rattle.request.specs.Input.{word, requestOf, range, inRange, ruleOf, inputNumber};
@@ -12,7 +14,7 @@ pub struct Request {
 }
 
 // The numbers from the first to the second, both included; none where the second is the smaller.
-pub struct Range(pub usize, pub usize);
+pub struct Range(pub u16, pub u16);
 
 // What a kind of request asks: that it is one of 1 to 12, its side, whether it means an aircraft, its amount, and the zones that it starts from.
 pub struct KindRule {
@@ -46,11 +48,13 @@ pub fn request_of(bytes: [u8; 6]) -> Request
 pub fn in_range(range: Range, n: usize) -> bool
     ensures { λ r. ⌜ r ≡ inRange range n ⌝ }
 {
-    if range.0 <= n { n <= range.1 } else { false }
+    let low = range.0 as usize;
+    let high = range.1 as usize;
+    if low <= n { n <= high } else { false }
 }
 
 // The rule of a kind that takes an aircraft from one of the zones first to last: side 0, an aircraft's number, amount 0.
-fn move_rule(first: usize, last: usize) -> KindRule
+fn move_rule(first: u16, last: u16) -> KindRule
     ensures { λ r. ⌜ r ≡ record { known = true; sides = range 0 0; aircraft = true; amounts = range 0 0; zones = range first last } ⌝ }
 {
     KindRule {
@@ -71,7 +75,7 @@ pub fn rule_of(kind: u8) -> KindRule
             known: true,
             sides: Range(1, 2),
             aircraft: true,
-            amounts: Range(1, 512),
+            amounts: Range(1, FASTEST),
             zones: Range(1, 0),
         },
         3 => move_rule(1, 2),
@@ -85,7 +89,7 @@ pub fn rule_of(kind: u8) -> KindRule
             known: true,
             sides: Range(0, 0),
             aircraft: false,
-            amounts: Range(1, 64),
+            amounts: Range(1, LONGEST_TICK),
             zones: Range(1, 0),
         },
         _ => KindRule {
