@@ -25,7 +25,7 @@ use Rattle.field.specs.Lists.{every}
 use Rattle.order.specs.Model as model
 use Rattle.order.specs.Model.{Side, count, free, needs}
 use Rattle.order.proofs.Facts.{headKind, head-moves}
-use Rattle.rules.specs.Kinds.{zoneBefore, startsFrom, headChecks, mayApproach, baseFree, descendChecks, approachChecks, mergeChecks, flownOutChecks, landChecks}
+use Rattle.rules.specs.Kinds.{placeBefore, zoneBefore, startsFrom, headChecks, mayApproach, mayMerge, baseFree}
 use Rattle.rules.specs.Step.{checksOf}
 use Rattle.demand.specs.Demand.{allFlownOut, movesOn, MovesOn}
 use Rattle.field.proofs.Tests.{passed, failed, each-zone, every-from}
@@ -63,7 +63,7 @@ module _ (f : Side) (line : List Placed) (runway : List Aircraft) (legs : Legs) 
       }
 
   -- 12, 13 and 14 pass for one at the head of a zone that the kind starts from
-  head-checks : (z : ℕ) → placeOf F n ≡ at z 1 → T (not (eqb z 0)) → T (startsFrom k z) → (rest : List (ℕ × Bool)) → firstRefused rest ≡ 0 → firstRefused (headChecks F (move k n) ++ rest) ≡ 0
+  head-checks : (z : ℕ) → placeOf F n ≡ at z 1 → T (not (eqb z 0)) → T (startsFrom k z) → (rest : List (ℕ × Bool)) → firstRefused rest ≡ 0 → firstRefused (headChecks k (placeBefore F (move k n)) ++ rest) ≡ 0
   head-checks z p t u rest e =
       ap (λ (q : Place). firstRefused ((12, not (eqb (q .zone) 0)) ∷ (13, startsFrom k (q .zone)) ∷ (14, eqb (q .place) 1) ∷ rest)) p
       ∙ ap (λ (b : Bool). cond b (firstRefused ((13, startsFrom k z) ∷ rest)) 12) (passed {b = not (eqb z 0)} t)
@@ -129,7 +129,7 @@ module _ (f : Side) (e : Placed) (b : List Placed) (legs : Legs) (o : Orderly f 
   free-empty w t u = ap (λ (c : ℕ). eqb c 0) (how-many f (e ∷ b) [] legs w t) ∙ passed u
 
   -- a kind whose other checks pass
-  by-kind : (k : ℕ) → 3 ≤ k → k ≤ 11 → T (movesOn k) → T (startsFrom k z) → checksOf G (move k m) ≡ headChecks G (move k m) ++ besides G (move k m) k → firstRefused (besides G (move k m) k) ≡ 0 → MovesOn G
+  by-kind : (k : ℕ) → 3 ≤ k → k ≤ 11 → T (movesOn k) → T (startsFrom k z) → checksOf G (move k m) ≡ headChecks k (placeBefore G (move k m)) ++ besides G (move k m) k → firstRefused (besides G (move k m) k) ≡ 0 → MovesOn G
   by-kind k l h t s c d =
       accept f (e ∷ b) [] legs o k m l h t named
       (ap firstRefused c ∙ head-checks f (e ∷ b) [] legs o k m z place (not-zero z z-in) s (besides G (move k m) k) d)
@@ -138,7 +138,7 @@ module _ (f : Side) (e : Placed) (b : List Placed) (legs : Legs) (o : Orderly f 
       not-zero y t = Rattle.field.proofs.Tests.fail (borrow.Author.Tests.ne-eqb y 0 (λ q. let l = leb→le 1 y (and-l (leb 1 y) (leb y 12) t) in omega arith))
 
   pub first-moves : MovesOn G
-  unfolding startsFrom isFlyingZone descendChecks approachChecks mergeChecks flownOutChecks landChecks mayApproach baseFree sideOf opposite
+  unfolding startsFrom isFlyingZone mayApproach mayMerge baseFree sideOf opposite
   first-moves =
       let hm = head-moves f z (zonesIn b) (o .okay-line) in
       let holds = each-zone (λ (y : ℕ). z ≡ y → T (eqb y 12 || needs (headKind y) [] y (zonesIn b)) → MovesOn G) in

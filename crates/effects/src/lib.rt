@@ -24,7 +24,6 @@ use field::zones::MISSED;
 use field::zones::RUNWAY;
 use needs::base_free;
 use needs::may_approach;
-use needs::zone_before;
 use questions::counts::is_empty;
 use questions::find::aircraft_at;
 use request::Request;
@@ -32,8 +31,8 @@ use tick::ticked;
 ghost use mathlib.Core.Path.{_≡_};
 ghost use mathlib.Core.Bool.{cond, _&&_};
 ghost use Rattle.field.specs.Boxes.{at2000, base};
-ghost use Rattle.rules.specs.Kinds.{zoneBefore, mayApproach, baseFree, headGone, tailPut, moved, outOfSequence, fixTaken, entered, approached, landed, exited, fixAfterMiss, missedApproach, held, heldAlong};
-ghost use Rattle.rules.specs.Step.{effectOf};
+ghost use Rattle.rules.specs.Kinds.{mayApproach, baseFree, headGone, tailPut, moved, outOfSequence, fixTaken, entered, approached, landed, exited, fixAfterMiss, missedApproach, held, heldAlong};
+ghost use Rattle.rules.specs.Step.{effectFor};
 
 // The field with the head of a zone taken off it.
 fn head_gone(f: Field, zone: usize) -> Field
@@ -83,14 +82,6 @@ fn entered(f: Field, r: Request, zone: usize) -> Field
     with_sequence(g, appended(s, r.number), opposite(fix))
 }
 
-// Kind 3: the field with the request's aircraft moved from 3000 to 2000, two zones on.
-fn descended(f: Field, r: Request) -> Field
-    ensures { λ g. ⌜ g ≡ moved f (zoneBefore f r) (at2000 (zoneBefore f r)) ⌝ }
-{
-    let zone = zone_before(f, r);
-    moved(f, zone, AT_2000 + zone)
-}
-
 // Kind 4: the zone that an approach of the aircraft with a number leads to: base, or 2000 where a need is not met.
 fn approach_zone(f: Field, number: u16, side: u8) -> usize
     ensures { λ z. ⌜ z ≡ cond (mayApproach f number && baseFree f side) (base side) (at2000 side) ⌝ }
@@ -104,12 +95,11 @@ fn approach_zone(f: Field, number: u16, side: u8) -> usize
     BASE + side as usize
 }
 
-// Kind 4: the field with the request's aircraft moved to base, or to 2000 where a need of the approach is not met.
-fn approached(f: Field, r: Request) -> Field
-    ensures { λ g. ⌜ g ≡ approached f r ⌝ }
+// Kind 4: the field with the head of a zone moved to base, or to 2000 where a need of the approach is not met.
+fn approached(f: Field, number: u16, zone: usize) -> Field
+    ensures { λ g. ⌜ g ≡ approached f number zone ⌝ }
 {
-    let zone = zone_before(f, r);
-    moved(f, zone, approach_zone(f, r.number, side_of(zone)))
+    moved(f, zone, approach_zone(f, number, side_of(zone)))
 }
 
 // Kind 7: the field with the head of final on the runway and the request's aircraft out of the sequence.
@@ -147,11 +137,10 @@ fn missed_approach(f: Field, r: Request) -> Field
     with_sequence(g, appended(removed(s, r.number), r.number), opposite(fix))
 }
 
-// Kind 11: the field with the request's aircraft held at 2000 or 3000, and the one at 3000 moved to 2000 where both are needed.
-fn held(f: Field, r: Request) -> Field
-    ensures { λ g. ⌜ g ≡ held f r ⌝ }
+// Kind 11: the field with the head of a zone held at 2000 or 3000, and the one at 3000 moved to 2000 where both are needed.
+fn held(f: Field, zone: usize) -> Field
+    ensures { λ g. ⌜ g ≡ held f zone ⌝ }
 {
-    let zone = zone_before(f, r);
     let side = side_of(zone) as usize;
     if !is_empty(f, side) {
         return moved(moved(f, side, AT_2000 + side), zone, side);
@@ -162,31 +151,32 @@ fn held(f: Field, r: Request) -> Field
     moved(f, zone, side)
 }
 
-// The other aircraft that a hold moves; 0 where there is none.
-pub fn held_along(f: Field, r: Request) -> u16
-    ensures { λ n. ⌜ n ≡ heldAlong f r ⌝ }
+// The other aircraft that a hold from a zone moves; 0 where there is none.
+pub fn held_along(f: Field, zone: u8) -> u16
+    ensures { λ n. ⌜ n ≡ heldAlong f zone ⌝ }
 {
-    let a = aircraft_at(f, side_of(zone_before(f, r)) as usize, 1);
+    let a = aircraft_at(f, side_of(zone as usize) as usize, 1);
     a.number
 }
 
-// The field after a request whose needs are met, by its kind; any other number than 1 to 11 is a tick.
-pub fn effect(f: Field, r: Request) -> Field
-    ensures { λ g. ⌜ g ≡ effectOf f r ⌝ }
+// The field after a request whose needs are met and whose aircraft is in a zone, by its kind; any other number than 1 to 11 is a tick.
+pub fn effect(f: Field, r: Request, zone: u8) -> Field
+    ensures { λ g. ⌜ g ≡ effectFor (r .kind) f r zone ⌝ }
 {
     let kind = r.kind;
+    let z = zone as usize;
     match kind {
         1 => entered(f, r, r.side as usize),
         2 => entered(f, r, LATERAL + r.side as usize),
-        3 => descended(f, r),
-        4 => approached(f, r),
-        5 => moved(f, zone_before(f, r), INTERMEDIATE),
+        3 => moved(f, z, AT_2000 + z),
+        4 => approached(f, r.number, z),
+        5 => moved(f, z, INTERMEDIATE),
         6 => moved(f, INTERMEDIATE, FINAL),
         7 => landed(f, r),
         8 => head_gone(f, RUNWAY),
         9 => exited(f, r),
         10 => missed_approach(f, r),
-        11 => held(f, r),
+        11 => held(f, z),
         _ => ticked(f, r.amount),
     }
 }

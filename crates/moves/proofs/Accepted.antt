@@ -21,7 +21,7 @@ use Rattle.questions.specs.Counts.{howMany, isEmpty}
 use Rattle.questions.specs.Find.{placeOf, isFirst}
 use Rattle.order.specs.Model.{Side, count, free, isNil, okay, one}
 use Rattle.order.proofs.Facts.{final-first, hold-ahead}
-use Rattle.rules.specs.Kinds.{startsFrom, headChecks, moved, held}
+use Rattle.rules.specs.Kinds.{placeBefore, zoneBefore, startsFrom, headChecks, moved, held}
 use Rattle.rules.specs.Step.{effectOf}
 use Rattle.field.proofs.Tests.{passed, failed, decided, if-false, zones-imply}
 use Rattle.line.proofs.Line.{Placed, zonesIn, fieldOf}
@@ -122,12 +122,13 @@ module _ (f : Side) (line : List Placed) (runway : List Aircraft) (legs : Legs) 
   G = fieldOf f line runway legs
 
   -- the aircraft of a request whose kind starts from a zone of the line
-  moving : (k : ℕ) → r .kind ≡ k → T (within 1 13 k) → (k ≡ 8 → ⊥) → firstRefused (headChecks G r ++ besides G r k) ≡ 0
+  moving : (k : ℕ) → r .kind ≡ k → T (within 1 13 k) → (k ≡ 8 → ⊥) → firstRefused (headChecks k (placeBefore G r) ++ besides G r k) ≡ 0
       → ((h : Heading f line runway legs r) → Orderly f (h .ahead ++ h .here ∷ h .behind) runway legs → firstRefused (besides (fieldOf f (h .ahead ++ h .here ∷ h .behind) runway legs) r k) ≡ 0 → After f (h .ahead ++ h .here ∷ h .behind) runway legs r)
       → After f line runway legs r
   moving k h t n c go =
-      let p = head-passed G r (besides G r k) c in
-      elim (heading f line runway legs o r (p .known) (p .starts) (p .first)) [
+      let p = head-passed k (placeBefore G r) (besides G r k) c in
+      let starts = ap (λ (j : ℕ). startsFrom j (zoneBefore G r)) h ∙ p .starts in
+      elim (heading f line runway legs o r (p .known) starts (p .first)) [
         | inl d ↦
             let w = d .whole in
             subst (λ (l : List Placed). After f l runway legs r) (sym w)
@@ -148,7 +149,7 @@ module _ (f : Side) (line : List Placed) (runway : List Aircraft) (legs : Legs) 
   zone-13 h q = lower (h .here .zone) (zone-in f (h .ahead) (h .here) (h .behind) runway legs q)
 
   -- kind 7
-  pub seven : r .kind ≡ 7 → firstRefused (headChecks G r ++ besides G r 7) ≡ 0 → After f line runway legs r
+  pub seven : r .kind ≡ 7 → firstRefused (headChecks 7 (placeBefore G r) ++ besides G r 7) ≡ 0 → After f line runway legs r
   seven k c =
       moving 7 k tt (λ u. omega arith) c
       (λ h q d.
@@ -162,10 +163,11 @@ module _ (f : Side) (line : List Placed) (runway : List Aircraft) (legs : Legs) 
       (after-7 f (h .here) (h .behind) legs (subst (λ (l : List Aircraft). Orderly f (h .here ∷ h .behind) l legs) n (subst (λ (l : List Placed). Orderly f l runway legs) w q)) r (h .named) k z)))
 
   -- kind 8
-  pub eight : r .kind ≡ 8 → firstRefused (headChecks G r ++ []) ≡ 0 → After f line runway legs r
+  pub eight : r .kind ≡ 8 → firstRefused (headChecks 8 (placeBefore G r) ++ []) ≡ 0 → After f line runway legs r
   eight k c =
-      let p = head-passed G r [] c in
-      elim (heading f line runway legs o r (p .known) (p .starts) (p .first)) [
+      let p = head-passed 8 (placeBefore G r) [] c in
+      let starts = ap (λ (j : ℕ). startsFrom j (zoneBefore G r)) k ∙ p .starts in
+      elim (heading f line runway legs o r (p .known) starts (p .first)) [
         | inl h ↦
             let q = subst (λ (l : List Placed). Orderly f l runway legs) (h .whole) o in
             let t = zone-in f (h .ahead) (h .here) (h .behind) runway legs q in
@@ -175,7 +177,7 @@ module _ (f : Side) (line : List Placed) (runway : List Aircraft) (legs : Legs) 
       ]
 
   -- kind 9
-  pub nine : r .kind ≡ 9 → firstRefused (headChecks G r ++ besides G r 9) ≡ 0 → After f line runway legs r
+  pub nine : r .kind ≡ 9 → firstRefused (headChecks 9 (placeBefore G r) ++ besides G r 9) ≡ 0 → After f line runway legs r
   nine k c =
       moving 9 k tt (λ u. omega arith) c
       (λ h q d.
@@ -187,7 +189,7 @@ module _ (f : Side) (line : List Placed) (runway : List Aircraft) (legs : Legs) 
       subst (λ (l : List Placed). After f l runway legs r) (sym w) (after-9 f (h .here) (h .behind) runway legs (subst (λ (l : List Placed). Orderly f l runway legs) w q) r (h .named) k z))
 
   -- kind 10
-  pub ten : r .kind ≡ 10 → firstRefused (headChecks G r ++ []) ≡ 0 → After f line runway legs r
+  pub ten : r .kind ≡ 10 → firstRefused (headChecks 10 (placeBefore G r) ++ []) ≡ 0 → After f line runway legs r
   ten k c =
       moving 10 k tt (λ u. omega arith) c
       (λ h q d.
@@ -197,7 +199,7 @@ module _ (f : Side) (line : List Placed) (runway : List Aircraft) (legs : Legs) 
       subst (λ (l : List Placed). After f l runway legs r) (sym w) (after-10 f (h .here) (h .behind) runway legs (subst (λ (l : List Placed). Orderly f l runway legs) w q) r (h .named) k z))
 
   -- kind 11
-  pub eleven : r .kind ≡ 11 → firstRefused (headChecks G r ++ besides G r 11) ≡ 0 → After f line runway legs r
+  pub eleven : r .kind ≡ 11 → firstRefused (headChecks 11 (placeBefore G r) ++ besides G r 11) ≡ 0 → After f line runway legs r
   eleven k c =
       moving 11 k tt (λ u. omega arith) c
       (λ h q d.
@@ -207,14 +209,14 @@ module _ (f : Side) (line : List Placed) (runway : List Aircraft) (legs : Legs) 
       ])
 
   -- kinds 3 to 6
-  pub three : r .kind ≡ 3 → firstRefused (headChecks G r ++ besides G r 3) ≡ 0 → After f line runway legs r
+  pub three : r .kind ≡ 3 → firstRefused (headChecks 3 (placeBefore G r) ++ besides G r 3) ≡ 0 → After f line runway legs r
   three k c = moving 3 k tt (λ u. omega arith) c (λ h q d. after-3 f (h .ahead) (h .here) (h .behind) runway legs q r (h .named) (h .heads) (h .place-is) (h .starts) k d)
 
-  pub four : r .kind ≡ 4 → firstRefused (headChecks G r ++ besides G r 4) ≡ 0 → After f line runway legs r
+  pub four : r .kind ≡ 4 → firstRefused (headChecks 4 (placeBefore G r) ++ besides G r 4) ≡ 0 → After f line runway legs r
   four k c = moving 4 k tt (λ u. omega arith) c (λ h q d. after-4 f (h .ahead) (h .here) (h .behind) runway legs q r (h .named) (h .heads) (h .place-is) (h .starts) k d)
 
-  pub five : r .kind ≡ 5 → firstRefused (headChecks G r ++ besides G r 5) ≡ 0 → After f line runway legs r
+  pub five : r .kind ≡ 5 → firstRefused (headChecks 5 (placeBefore G r) ++ besides G r 5) ≡ 0 → After f line runway legs r
   five k c = moving 5 k tt (λ u. omega arith) c (λ h q d. after-5 f (h .ahead) (h .here) (h .behind) runway legs q r (h .named) (h .heads) (h .place-is) (h .starts) k d)
 
-  pub six : r .kind ≡ 6 → firstRefused (headChecks G r ++ besides G r 6) ≡ 0 → After f line runway legs r
+  pub six : r .kind ≡ 6 → firstRefused (headChecks 6 (placeBefore G r) ++ besides G r 6) ≡ 0 → After f line runway legs r
   six k c = moving 6 k tt (λ u. omega arith) c (λ h q d. after-6 f (h .ahead) (h .here) (h .behind) runway legs q r (h .named) (h .heads) (h .place-is) (h .starts) k)

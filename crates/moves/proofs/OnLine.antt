@@ -20,7 +20,7 @@ use Rattle.questions.specs.Find.{placeOf, isFirst, leaderZone}
 use Rattle.order.specs.Model as model
 use Rattle.order.specs.Model.{Side, count, free, isNil, lastOr, descend, approaching, merge, final, hold}
 use Rattle.order.proofs.Facts.{okay-zones}
-use Rattle.rules.specs.Kinds.{startsFrom, zoneBefore, mayApproach, baseFree, moved, approached, held}
+use Rattle.rules.specs.Kinds.{startsFrom, zoneBefore, mayApproach, mayMerge, baseFree, moved, approached, held}
 use Rattle.field.proofs.Tests.{passed, pass, if-true, zones-imply}
 use Rattle.line.proofs.Lists.{map-append, every-left}
 use Rattle.line.proofs.Line.{Placed, zonesIn, numbersOf, fieldOf}
@@ -156,6 +156,7 @@ module _ (f : Side) (a : List Placed) (e : Placed) (b : List Placed) (runway : L
 
   -- kind 5
   pub after-5 : r .kind ≡ 5 → firstRefused (besides F r 5) ≡ 0 → After f (a ++ e ∷ b) runway legs r
+  unfolding mayMerge
   after-5 h c =
       let q = five-from z in-13 (from-kind h) in
       let p = input.passed (besides F r 5) (tt, (tt, tt)) c in

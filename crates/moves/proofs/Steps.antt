@@ -25,7 +25,7 @@ use Rattle.questions.specs.Find.{placeOf}
 use Rattle.field.proofs.Shapes.{one-of-two}
 use Rattle.order.specs.Model.{Side, right, left, num, countFix, free, potential, mayEnter}
 use Rattle.order.proofs.Facts.{enter, enter-lateral}
-use Rattle.rules.specs.Kinds.{zoneBefore, verticalChecks, lateralChecks, descendChecks, approachChecks, mergeChecks, flownOutChecks, landChecks, exitChecks}
+use Rattle.rules.specs.Kinds.{placeBefore, zoneBefore, absentChecks, presenceChecks, verticalNeeds, lateralNeeds}
 use Rattle.rules.specs.Step.{checksOf}
 use Rattle.field.proofs.Tests.{passed, pass, decided, each-zone}
 use Rattle.field.proofs.Lists.{absent-both}
@@ -36,7 +36,7 @@ use Rattle.line.proofs.Located.{located, located-runway}
 use Rattle.line.proofs.Orderly.{Orderly}
 use Rattle.moves.proofs.After.{After, zone-in}
 use Rattle.moves.proofs.Heads.{find-line}
-use Rattle.rules.proofs.Checks.{checksFor, checks-at, effect-at}
+use Rattle.rules.proofs.Checks.{besides, checks-at, effect-at}
 use Rattle.moves.proofs.AtEnds.{after-entry, after-12}
 use Rattle.moves.proofs.Accepted.{three, four, five, six, seven, eight, nine, ten, eleven}
 
@@ -81,10 +81,9 @@ module _ (f : Side) (line : List Placed) (runway : List Aircraft) (legs : Legs) 
     empty-zone : (w : ℕ → ℕ) → T (within 1 12 (w (num s))) → isEmpty F (w (r .side)) ≡ true → T (free zs (w (num s)))
     empty-zone w t e = pass (sym (ap (λ (n : ℕ). eqb n 0) (how-many f line runway legs (w (num s)) t)) ∙ ap (λ (n : ℕ). isEmpty F (w n)) (sym side) ∙ e)
 
-    pub entry-1 : r .kind ≡ 1 → EntryKnown r → firstRefused (verticalChecks F r) ≡ 0 → T (within 1 12 (missed (num s))) → T (within 1 12 (lateral (num s))) → T (within 1 12 (at3000 (num s))) → T (not (isFlyingZone (at3000 (num s)))) → After f line runway legs r
-    unfolding verticalChecks
+    pub entry-1 : r .kind ≡ 1 → EntryKnown r → firstRefused (absentChecks (placeBefore F r) ++ verticalNeeds F (r .side)) ≡ 0 → T (within 1 12 (missed (num s))) → T (within 1 12 (lateral (num s))) → T (within 1 12 (at3000 (num s))) → T (not (isFlyingZone (at3000 (num s)))) → After f line runway legs r
     entry-1 k known c tm tl th tf =
-        let p = input.passed (verticalChecks F r) (tt, (tt, (tt, (tt, (tt, (tt, tt)))))) c in
+        let p = input.passed (absentChecks (placeBefore F r) ++ verticalNeeds F (r .side)) (tt, (tt, (tt, (tt, (tt, (tt, tt)))))) c in
         let t16 : ltb (potential f zs (num s)) 2 ≡ true = ap (λ (n : ℕ). ltb n 2) (sym (potential-is f line runway legs (o .alternates) (num s)) ∙ ap (potentialOf F) (sym side)) ∙ p .1 .0 in
         let t17 : eqb (total (countFix f zs (num s)) approach) 0 ≡ true = sym (Bool·not-not (eqb (total (countFix f zs (num s)) approach) 0)) ∙ ap not (sym (approach-holds f line runway legs (o .alternates) (num s)) ∙ ap (approachHolds F) (sym side)) ∙ p .1 .1 .0 in
         let a = ltb (potential f zs (num s)) 2 in
@@ -97,31 +96,29 @@ module _ (f : Side) (line : List Placed) (runway : List Aircraft) (legs : Legs) 
         (effect-at F r k ∙ ap (λ (n : ℕ). Rattle.rules.specs.Kinds.entered F r (at3000 n)) side)
         (enter f s zs (o .okay-line) may) (known .number) (new-number (p .0)) (known .speed-low) (known .speed-high) (λ u. let n : 12 ≡ 1 = sym u ∙ k in omega arith) (subst (λ (j : ℕ). T (not (eqb j 8 || eqb j 9))) (sym k) tt)
 
-    pub entry-2 : r .kind ≡ 2 → EntryKnown r → firstRefused (lateralChecks F r) ≡ 0 → T (within 1 12 (lateral (num s))) → T (not (isFlyingZone (lateral (num s)))) → After f line runway legs r
-    unfolding lateralChecks
+    pub entry-2 : r .kind ≡ 2 → EntryKnown r → firstRefused (absentChecks (placeBefore F r) ++ lateralNeeds F (r .side)) ≡ 0 → T (within 1 12 (lateral (num s))) → T (not (isFlyingZone (lateral (num s)))) → After f line runway legs r
     entry-2 k known c tl tf =
-        let p = input.passed (lateralChecks F r) (tt, (tt, tt)) c in
+        let p = input.passed (absentChecks (placeBefore F r) ++ lateralNeeds F (r .side)) (tt, (tt, tt)) c in
         let t16 : eqb (potential f zs (num s)) 0 ≡ true = ap (λ (n : ℕ). eqb n 0) (sym (potential-is f line runway legs (o .alternates) (num s)) ∙ ap (potentialOf F) (sym side)) ∙ p .1 .0 in
         after-entry s f line runway legs o r (lateral (num s)) tl tf side (subst (λ (j : ℕ). T (isEntry j)) (sym k) tt)
         (effect-at F r k ∙ ap (λ (n : ℕ). Rattle.rules.specs.Kinds.entered F r (lateral n)) side)
         (enter-lateral f s zs (o .okay-line) (pass t16)) (known .number) (new-number (p .0)) (known .speed-low) (known .speed-high) (λ u. let n : 12 ≡ 2 = sym u ∙ k in omega arith) (subst (λ (j : ℕ). T (not (eqb j 8 || eqb j 9))) (sym k) tt)
 
-  one-side : (s : Side) → r .side ≡ num s → r .kind ≡ 1 → EntryKnown r → firstRefused (verticalChecks F r) ≡ 0 → After f line runway legs r
+  one-side : (s : Side) → r .side ≡ num s → r .kind ≡ 1 → EntryKnown r → firstRefused (absentChecks (placeBefore F r) ++ verticalNeeds F (r .side)) ≡ 0 → After f line runway legs r
   unfolding isFlyingZone
   one-side right side k known c = entry-1 right side k known c tt tt tt tt
   one-side left side k known c = entry-1 left side k known c tt tt tt tt
 
-  two-side : (s : Side) → r .side ≡ num s → r .kind ≡ 2 → EntryKnown r → firstRefused (lateralChecks F r) ≡ 0 → After f line runway legs r
+  two-side : (s : Side) → r .side ≡ num s → r .kind ≡ 2 → EntryKnown r → firstRefused (absentChecks (placeBefore F r) ++ lateralNeeds F (r .side)) ≡ 0 → After f line runway legs r
   unfolding isFlyingZone
   two-side right side k known c = entry-2 right side k known c tt tt
   two-side left side k known c = entry-2 left side k known c tt tt
 
   -- ---- every kind
   pub accepted-after : inputNumber r ≡ 0 → firstRefused (checksOf F r) ≡ 0 → After f line runway legs r
-  unfolding descendChecks approachChecks mergeChecks flownOutChecks landChecks exitChecks
   accepted-after i c =
       let known = kind-known r i in
-      let at-kind : (k : ℕ) → r .kind ≡ k → firstRefused (checksFor F r k) ≡ 0 = λ k h. ap firstRefused (sym (checks-at F r h)) ∙ c in
+      let at-kind : (k : ℕ) → r .kind ≡ k → firstRefused (presenceChecks k (placeBefore F r) ++ besides F r k) ≡ 0 = λ k h. ap firstRefused (sym (checks-at F r h)) ∙ c in
       let side : r .kind ≤ 2 → (s : Side) × (r .side ≡ num s) = λ h. let e = entry-known r i (known .low) h in side-known (r .side) (e .side-low) (e .side-high) in
       each-zone (λ (k : ℕ). r .kind ≡ k → After f line runway legs r) (
         (λ h. let s = side (omega arith) in one-side (s .0) (s .1) h (entry-known r i (known .low) (omega arith)) (at-kind 1 h)),

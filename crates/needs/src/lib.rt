@@ -8,6 +8,7 @@ use field::zones::BASE;
 use field::zones::LATERAL;
 use field::zones::MISSED;
 use field::zones::RUNWAY;
+use questions::Place;
 use questions::counts::approach_holds;
 use questions::counts::how_many;
 use questions::counts::is_empty;
@@ -15,35 +16,67 @@ use questions::counts::potential_of;
 use questions::find::aircraft_at;
 use questions::find::is_first;
 use questions::find::leader_zone;
-use questions::find::place_of;
+use request::Range;
 use request::Request;
 use request::in_range;
 use request::rule_of;
 ghost use mathlib.Core.Path.{_≡_};
-ghost use mathlib.Core.Bool.{cond, _||_};
+ghost use mathlib.Core.Bool.{cond};
 ghost use mathlib.Core.List.{[], _∷_};
 ghost use lib.Dec.{eqb};
 ghost use Rattle.request.specs.Input.{within, firstRefused};
 ghost use Rattle.field.specs.Boxes.{at3000, lateral, missed};
 ghost use Rattle.questions.specs.Counts.{isEmpty};
-ghost use Rattle.questions.specs.Find.{isFirst, leaderZone};
-ghost use Rattle.rules.specs.Kinds.{zoneBefore, startsFrom, headChecks, flownOutCheck, mayApproach, baseFree, verticalChecks, lateralChecks, descendChecks, approachChecks, mergeChecks, flownOutChecks, landChecks, exitChecks};
-ghost use Rattle.rules.specs.Step.{checksOf};
-
-// The zone of a request's aircraft; 0 where it is not on the field.
-pub fn zone_before(f: Field, r: Request) -> usize
-    ensures { λ z. ⌜ z ≡ zoneBefore f r ⌝ }
-{
-    let at = place_of(f, r.number);
-    at.zone
-}
+ghost use Rattle.rules.specs.Kinds.{startsFrom, headChecks, presenceChecks, flownOutCheck, mayApproach, mayMerge, baseFree, verticalNeeds, lateralNeeds, descendNeeds, approachNeeds, mergeNeeds, flownOutNeeds, landNeeds, exitNeeds};
+ghost use Rattle.rules.specs.Step.{needsFor, checksFor};
 
 // Whether a kind starts from a zone.
-fn starts_from(kind: u8, zone: usize) -> bool
+fn starts_from(kind: u8, zone: u8) -> bool
     ensures { λ r. ⌜ r ≡ startsFrom kind zone ⌝ }
 {
     let rule = rule_of(kind);
-    in_range(rule.zones, zone)
+    in_range(rule.zones, zone as usize)
+}
+
+// The number of some needs with one more behind them: that of the first that is not met; 0 where all are.
+fn with_need(before: u16, number: u16, met: bool) -> u16
+    ensures { λ n. ⌜ n ≡ cond (eqb before 0) (cond met 0 number) before ⌝ }
+{
+    if before != 0 {
+        return before;
+    }
+    if met { 0 } else { number }
+}
+
+// The first need of a request for an aircraft at the head of its zone that is not met, by its number: 12, 13 or 14; 0 where all are.
+fn head_number(kind: u8, at: Place) -> u16
+    ensures { λ n. ⌜ n ≡ firstRefused (headChecks kind at) ⌝ }
+{
+    let zone = at.zone;
+    let place = at.place;
+    if zone == 0 {
+        return 12;
+    }
+    if !starts_from(kind, zone) {
+        return 13;
+    }
+    if place != 1 {
+        return 14;
+    }
+    0
+}
+
+// What a kind asks of where its aircraft is, by the number that refuses: 11 of an entry, 12 to 14 of kinds 3 to 11; 0 where it is met.
+fn presence_number(kind: u8, at: Place) -> u16
+    ensures { λ n. ⌜ n ≡ firstRefused (presenceChecks kind at) ⌝ }
+{
+    if in_range(Range(1, 2), kind as usize) {
+        return with_need(0, 11, at.zone == 0);
+    }
+    if kind == 12 {
+        return 0;
+    }
+    head_number(kind, at)
 }
 
 // Whether the aircraft with a number is first in sequence, or its leader is on the approach.
@@ -67,33 +100,18 @@ pub fn base_free(f: Field, side: u8) -> bool
     how_many(f, BASE + opposite(side) as usize) <= 1
 }
 
-// The first need of a request for an aircraft at the head of its zone that is not met, by its number: 12, 13 or 14; 0 where all are.
-fn head_number(f: Field, r: Request) -> u16
-    ensures { λ n. ⌜ n ≡ firstRefused (headChecks f r) ⌝ }
+// Whether the aircraft with a number is first in sequence, or its leader is in intermediate or final.
+fn may_merge(f: Field, number: u16) -> bool
+    ensures { λ r. ⌜ r ≡ mayMerge f number ⌝ }
 {
-    let at = place_of(f, r.number);
-    let zone = at.zone;
-    let place = at.place;
-    if zone == 0 {
-        return 12;
+    let s = f.sequence;
+    if is_first(s, number) {
+        return true;
     }
-    if !starts_from(r.kind, zone) {
-        return 13;
+    match leader_zone(f, number) {
+        11..=12 => true,
+        _ => false,
     }
-    if place != 1 {
-        return 14;
-    }
-    0
-}
-
-// The number of some needs with one more behind them: that of the first that is not met; 0 where all are.
-fn with_need(before: u16, number: u16, met: bool) -> u16
-    ensures { λ n. ⌜ n ≡ cond (eqb before 0) (cond met 0 number) before ⌝ }
-{
-    if before != 0 {
-        return before;
-    }
-    if met { 0 } else { number }
 }
 
 // The first zone of a side that a vertical entry needs empty and finds occupied: 18 missed, 19 lateral, 20 at 3000; 0 where none is.
@@ -113,48 +131,35 @@ fn side_number(f: Field, side: u8) -> u16
     0
 }
 
-// Kind 1: the first need of a vertical entry that is not met; 0 where all are.
-fn vertical_number(f: Field, r: Request) -> u16
-    ensures { λ n. ⌜ n ≡ firstRefused (verticalChecks f r) ⌝ }
+// Kind 1: the first need of a vertical entry from a side that is not met; 0 where all are.
+fn vertical_number(f: Field, side: u8) -> u16
+    ensures { λ n. ⌜ n ≡ firstRefused (verticalNeeds f side) ⌝ }
 {
-    if zone_before(f, r) != 0 {
-        return 11;
-    }
-    if 2 <= potential_of(f, r.side) {
+    if 2 <= potential_of(f, side) {
         return 16;
     }
-    if approach_holds(f, r.side) {
+    if approach_holds(f, side) {
         return 17;
     }
-    side_number(f, r.side)
+    side_number(f, side)
 }
 
-// Kind 2: the first need of a lateral entry that is not met; 0 where both are.
-fn lateral_number(f: Field, r: Request) -> u16
-    ensures { λ n. ⌜ n ≡ firstRefused (lateralChecks f r) ⌝ }
+// Kind 2: the need of a lateral entry from a side, where it is not met; 0 where it is.
+fn lateral_number(f: Field, side: u8) -> u16
+    ensures { λ n. ⌜ n ≡ firstRefused (lateralNeeds f side) ⌝ }
 {
-    if zone_before(f, r) != 0 {
-        return 11;
-    }
-    if potential_of(f, r.side) != 0 {
-        return 16;
-    }
-    0
+    with_need(0, 16, potential_of(f, side) == 0)
 }
 
-// Kind 3: the first need of a descent that is not met; 0 where all are.
-fn descend_number(f: Field, r: Request) -> u16
-    ensures { λ n. ⌜ n ≡ firstRefused (descendChecks f r) ⌝ }
+// Kind 3: the need of a descent from a zone, where it is not met; 0 where it is.
+fn descend_number(f: Field, zone: u8) -> u16
+    ensures { λ n. ⌜ n ≡ firstRefused (descendNeeds f zone) ⌝ }
 {
-    with_need(
-        head_number(f, r),
-        21,
-        is_empty(f, AT_2000 + zone_before(f, r)),
-    )
+    with_need(0, 21, is_empty(f, AT_2000 + zone as usize))
 }
 
 // Whether a zone is a lateral zone.
-fn is_lateral(zone: usize) -> bool
+fn is_lateral(zone: u8) -> bool
     ensures { λ r. ⌜ r ≡ within 5 6 zone ⌝ }
 {
     match zone {
@@ -163,94 +168,82 @@ fn is_lateral(zone: usize) -> bool
     }
 }
 
-// Kind 4: the first need of an approach that is not met; 0 where all are, and from a lateral zone.
-fn approach_number(f: Field, r: Request) -> u16
-    ensures { λ n. ⌜ n ≡ firstRefused (approachChecks f r) ⌝ }
+// Kind 4: the first need of an approach from a zone that is not met; 0 where both are, and from a lateral zone.
+fn approach_number(f: Field, number: u16, zone: u8) -> u16
+    ensures { λ n. ⌜ n ≡ firstRefused (approachNeeds f number zone) ⌝ }
 {
-    let n = head_number(f, r);
-    if n != 0 {
-        return n;
-    }
-    let zone = zone_before(f, r);
     if is_lateral(zone) {
         return 0;
     }
-    if !may_approach(f, r.number) {
+    if !may_approach(f, number) {
         return 22;
     }
-    if !base_free(f, side_of(zone)) {
-        return 23;
-    }
-    0
+    with_need(0, 23, base_free(f, side_of(zone as usize)))
 }
 
-// Whether the head of the zone of the request's aircraft has flown its leg out.
-fn has_flown_out(f: Field, r: Request) -> bool
-    ensures { λ b. ⌜ b ≡ flownOutCheck f r .1 ⌝ }
+// Whether the head of a zone has flown its leg out.
+fn has_flown_out(f: Field, zone: u8) -> bool
+    ensures { λ b. ⌜ b ≡ flownOutCheck f zone .1 ⌝ }
 {
-    let zone = zone_before(f, r);
     let legs = f.legs;
-    flown_out_in(legs, zone, aircraft_at(f, zone, 1))
+    let z = zone as usize;
+    flown_out_in(legs, z, aircraft_at(f, z, 1))
 }
 
-// Whether the aircraft with a number is first in sequence, or its leader is in intermediate or final.
-fn may_merge(f: Field, number: u16) -> bool
-    ensures { λ r. ⌜ r ≡ (isFirst (f .sequence) number || within 11 12 (leaderZone f number)) ⌝ }
+// Kinds 6 and 11: the need of a request from the end of a leg, where it is not met; 0 where it is.
+fn flown_out_number(f: Field, zone: u8) -> u16
+    ensures { λ n. ⌜ n ≡ firstRefused (flownOutNeeds f zone) ⌝ }
+{
+    with_need(0, 15, has_flown_out(f, zone))
+}
+
+// Kind 5: the first need of a merge that is not met, the leg flown out and then the sequence; 0 where both are.
+fn merge_number(f: Field, number: u16, zone: u8) -> u16
+    ensures { λ n. ⌜ n ≡ firstRefused (mergeNeeds f number zone) ⌝ }
+{
+    with_need(flown_out_number(f, zone), 22, may_merge(f, number))
+}
+
+// Kind 7: the first need of a landing that is not met, the leg flown out and then the runway; 0 where both are.
+fn land_number(f: Field, zone: u8) -> u16
+    ensures { λ n. ⌜ n ≡ firstRefused (landNeeds f zone) ⌝ }
+{
+    with_need(flown_out_number(f, zone), 24, is_empty(f, RUNWAY))
+}
+
+// Kind 9: the need of an exit, where it is not met; 0 where it is.
+fn exit_number(f: Field, number: u16) -> u16
+    ensures { λ n. ⌜ n ≡ firstRefused (exitNeeds f number) ⌝ }
 {
     let s = f.sequence;
-    if is_first(s, number) {
-        return true;
-    }
-    match leader_zone(f, number) {
-        11..=12 => true,
-        _ => false,
-    }
+    with_need(0, 22, is_first(s, number))
 }
 
-// Kinds 6 and 11: the first need of a request from the end of a leg that is not met; 0 where all are.
-fn flown_out_number(f: Field, r: Request) -> u16
-    ensures { λ n. ⌜ n ≡ firstRefused (flownOutChecks f r) ⌝ }
-{
-    with_need(head_number(f, r), 15, has_flown_out(f, r))
-}
-
-// Kind 5: the first need of a merge that is not met, the leg flown out and then the sequence; 0 where all are.
-fn merge_number(f: Field, r: Request) -> u16
-    ensures { λ n. ⌜ n ≡ firstRefused (mergeChecks f r) ⌝ }
-{
-    with_need(flown_out_number(f, r), 22, may_merge(f, r.number))
-}
-
-// Kind 7: the first need of a landing that is not met, the leg flown out and then the runway; 0 where all are.
-fn land_number(f: Field, r: Request) -> u16
-    ensures { λ n. ⌜ n ≡ firstRefused (landChecks f r) ⌝ }
-{
-    with_need(flown_out_number(f, r), 24, is_empty(f, RUNWAY))
-}
-
-// Kind 9: the first need of an exit that is not met; 0 where all are.
-fn exit_number(f: Field, r: Request) -> u16
-    ensures { λ n. ⌜ n ≡ firstRefused (exitChecks f r) ⌝ }
-{
-    let s = f.sequence;
-    with_need(head_number(f, r), 22, is_first(s, r.number))
-}
-
-// The first need of a request that its kind has and the field does not meet; 0 where all are met.
-pub fn check_number(f: Field, r: Request) -> u16
-    ensures { λ n. ⌜ n ≡ firstRefused (checksOf f r) ⌝ }
+// The first need that a kind has besides and the field does not meet, of a request whose aircraft is at a place; 0 where all are met.
+fn needs_number(f: Field, r: Request, at: Place) -> u16
+    ensures { λ n. ⌜ n ≡ firstRefused (needsFor (r .kind) f r at) ⌝ }
 {
     let kind = r.kind;
     match kind {
-        1 => vertical_number(f, r),
-        2 => lateral_number(f, r),
-        3 => descend_number(f, r),
-        4 => approach_number(f, r),
-        5 => merge_number(f, r),
-        6 | 11 => flown_out_number(f, r),
-        7 => land_number(f, r),
-        8 | 10 => head_number(f, r),
-        9 => exit_number(f, r),
+        1 => vertical_number(f, r.side),
+        2 => lateral_number(f, r.side),
+        3 => descend_number(f, at.zone),
+        4 => approach_number(f, r.number, at.zone),
+        5 => merge_number(f, r.number, at.zone),
+        6 | 11 => flown_out_number(f, at.zone),
+        7 => land_number(f, at.zone),
+        9 => exit_number(f, r.number),
         _ => 0,
     }
+}
+
+// The first need of a request whose aircraft is at a place that the field does not meet; 0 where all are met.
+pub fn check_number(f: Field, r: Request, at: Place) -> u16
+    ensures { λ n. ⌜ n ≡ firstRefused (checksFor (r .kind) f r at) ⌝ }
+{
+    let n = presence_number(r.kind, at);
+    if n != 0 {
+        return n;
+    }
+    needs_number(f, r, at)
 }

@@ -26,7 +26,7 @@ pub fn place_of(f: Field, number: u16) -> Place
             let a = q.aircraft[i];
             if a.number == number {
                 found = Place {
-                    zone: zone,
+                    zone: zone as u8,
                     place: i + 1,
                 };
                 break 'zones;
@@ -62,7 +62,7 @@ pub fn fix_of(f: Field, number: u16) -> u8
     ensures { λ r. ⌜ r ≡ fixOf f number ⌝ }
 {
     let at = place_of(f, number);
-    let zone = at.zone;
+    let zone = at.zone as usize;
     if zone == 0 {
         return 0;
     }
@@ -107,5 +107,5 @@ pub fn leader_zone(f: Field, number: u16) -> usize
         return 0;
     }
     let at = place_of(f, ahead);
-    at.zone
+    at.zone as usize
 }

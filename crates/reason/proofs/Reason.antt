@@ -20,7 +20,7 @@ use Rattle.questions.specs.Counts.{inArea}
 use Rattle.questions.specs.Find.{placeOf, fixOf}
 use Rattle.bounds.specs.Bounds.{legalLegs, withinBounds}
 use Rattle.order.specs.Model.{Side}
-use Rattle.rules.specs.Kinds.{startsFrom, headChecks, zoneBefore}
+use Rattle.rules.specs.Kinds.{placeBefore, startsFrom, headChecks, zoneBefore}
 use Rattle.rules.specs.Step.{checksOf, effectOf, numberOf, stepOf}
 use Rattle.rules.specs.Play.{fieldAfter}
 use Rattle.rules.specs.Reason.{Reason, RoomAtSide, Sound, KeptBy}
@@ -80,9 +80,9 @@ missing f r k e =
       | inl b ↦ sym (if-true (firstRefused checks) (inputNumber r) b) ∙ e
       | inr b ↦ absurd (eqb-false (inputNumber r) 0 b (sym (if-false (firstRefused checks) (inputNumber r) b) ∙ e))
     ] in
-    let q : firstRefused ((10, withinBounds f) ∷ headChecks f r ++ ((25, withinBounds (effectOf f r)) ∷ [])) ≡ 0 = ap (λ (l : List (ℕ × Bool)). firstRefused ((10, withinBounds f) ∷ l ++ ((25, withinBounds (effectOf f r)) ∷ []))) (sym (checks-at f r k)) ∙ p in
-    let known = input.passed ((10, withinBounds f) ∷ headChecks f r ++ ((25, withinBounds (effectOf f r)) ∷ [])) (tt, (tt, (tt, (tt, (tt, tt))))) q in
-    record { bounds = known .0; starts = ap (λ (j : ℕ). startsFrom j (zoneBefore f r)) (sym k) ∙ known .1 .1 .0; heads = known .1 .1 .1 .0 }
+    let q : firstRefused ((10, withinBounds f) ∷ headChecks 10 (placeBefore f r) ++ ((25, withinBounds (effectOf f r)) ∷ [])) ≡ 0 = ap (λ (l : List (ℕ × Bool)). firstRefused ((10, withinBounds f) ∷ l ++ ((25, withinBounds (effectOf f r)) ∷ []))) (sym (checks-at f r k)) ∙ p in
+    let known = input.passed ((10, withinBounds f) ∷ headChecks 10 (placeBefore f r) ++ ((25, withinBounds (effectOf f r)) ∷ [])) (tt, (tt, (tt, (tt, (tt, tt))))) q in
+    record { bounds = known .0; starts = known .1 .1 .0; heads = known .1 .1 .1 .0 }
 
 starts-final : (z : ℕ) → startsFrom 10 z ≡ true → eqb z 12 ≡ true
 unfolding startsFrom

@@ -12,7 +12,7 @@ use Rattle.bounds.specs.Bounds.{boundA, boundB, lateralRule, boundC, boundD, fi
 use Rattle.numbers.specs.Numbers.{numbersDiffer, sequenceExact}
 use Rattle.field.specs.Edits.{withoutHead, withTail, appended, removed, withZone, withSequence}
 use Rattle.tick.specs.Tick.{tickedAircraft, tickedZone, ticked}
-use Rattle.rules.specs.Kinds.{startsFrom, mayApproach, baseFree, verticalChecks, lateralChecks, descendChecks, approachChecks, mergeChecks, flownOutChecks, landChecks, exitChecks, headGone, tailPut, moved, outOfSequence, fixTaken, entered, approached, landed, exited, fixAfterMiss, missedApproach, held, heldAlong}
+use Rattle.rules.specs.Kinds.{startsFrom, mayApproach, baseFree, mayMerge, headGone, tailPut, moved, outOfSequence, fixTaken, entered, approached, landed, exited, fixAfterMiss, missedApproach, held, heldAlong}
 use Rattle.rules.specs.Step.{checksOf, effectOf, numberOf, numberAndZeros, acceptance, answerOf, stepOf}
 use Rattle.rules.specs.Reason.{along, approachOrder, areaOrder, roomToMiss, lateralEntry, QueueAgrees}
 use Rattle.rules.specs.Cases.{marked, caseHolds}
@@ -26,7 +26,7 @@ unfolding
     withProgress withFix legOf flownOutIn emptyField howMany howManyWithFix inOperation inArea perFix approachHolds countedFor potentialOf findIn placeOf
     aircraftAt fixOf isFirst leaderOf leaderZone boundA boundB lateralRule boundC boundD numbersDiffer sequenceExact finalFirst isNobody zoneKept sequenceKept
     boundE boundF fitsZone legalLegs boundG withinBounds withoutHead withTail appended removed withZone withSequence tickedAircraft tickedZone ticked sideOf
-    startsFrom mayApproach baseFree verticalChecks lateralChecks descendChecks approachChecks mergeChecks flownOutChecks landChecks exitChecks headGone tailPut moved
+    startsFrom mayApproach baseFree mayMerge headGone tailPut moved
     outOfSequence fixTaken entered approached landed exited fixAfterMiss missedApproach held heldAlong checksOf effectOf numberOf numberAndZeros acceptance
     answerOf stepOf
     add mul div ofInt round lt le eq along approachOrder areaOrder roomToMiss lateralEntry

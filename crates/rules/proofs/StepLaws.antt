@@ -1,36 +1,31 @@
 -- The step by its number, on any field: what is accepted takes effect, and what is refused leaves the field as it was. Assumes nothing.
 use mathlib.Core.Path.{_≡_, refl, sym, ap, _∙_}
 use mathlib.Core.Logic.{inl, inr}
-use mathlib.Core.Bool.{Bool, true, false, cond}
+use mathlib.Core.Bool.{cond}
 use mathlib.Core.List.{[], _∷_, _++_}
 use lib.Dec.{eqb}
 use borrow.Author.Tests.{eqb-true, eq-eqb, ne-eqb}
 use Rattle.request.specs.Input.{firstRefused, inputNumber}
 use Rattle.request.specs.declared.Request.{Request}
 use Rattle.field.specs.declared.Field.{Field}
-use Rattle.field.proofs.Tests.{decided, if-true, if-false}
+use Rattle.field.proofs.Tests.{decided, if-true, if-false, either-way}
 use Rattle.bounds.specs.Bounds.{withinBounds}
 use Rattle.rules.specs.declared.Answer.{Answer}
 use Rattle.rules.specs.declared.Stepped.{Stepped}
-use Rattle.rules.specs.Kinds.{heldAlong}
+use Rattle.rules.specs.Kinds.{zoneBefore, heldAlong}
 use Rattle.rules.specs.Step.{checksOf, effectOf, numberOf, numberAndZeros, acceptance, answerOf, stepOf}
 
+-- the answer to an accepted request has the number 0
+pub answer-number : (f : Field) (r : Request) → answerOf f r .number ≡ 0
+unfolding answerOf numberAndZeros acceptance
+answer-number f r = either-way (λ (a : Answer). a .number ≡ 0) (eqb (r .kind) 12) (numberAndZeros 0) (acceptance (effectOf f r) (r .number) (cond (eqb (r .kind) 11) (heldAlong f (zoneBefore f r)) 0)) (λ e. refl) (λ e. refl)
+
 pub number-is : (f : Field) (r : Request) → stepOf f r .answer .number ≡ numberOf f r
-unfolding stepOf answerOf numberAndZeros acceptance
-number-is f r = elim (decided (eqb (numberOf f r) 0)) [ inl e ↦ go true e (eqb-true (numberOf f r) 0 e) | inr e ↦ refused e ]
-  where
-    refused : eqb (numberOf f r) 0 ≡ false → stepOf f r .answer .number ≡ numberOf f r
-    refused e = ap (λ (s : Stepped). s .answer .number) (if-false (record { answer = answerOf f r; field = effectOf f r }) (record { answer = numberAndZeros (numberOf f r); field = f }) e)
-
-    zero-number : (b : Bool) (x : Answer) → x .number ≡ 0 → cond b (numberAndZeros 0) x .number ≡ 0
-    zero-number true x e = refl
-    zero-number false x e = e
-
-    go : (b : Bool) → eqb (numberOf f r) 0 ≡ true → numberOf f r ≡ 0 → stepOf f r .answer .number ≡ numberOf f r
-    go b e z =
-        ap (λ (s : Stepped). s .answer .number) (if-true (record { answer = answerOf f r; field = effectOf f r }) (record { answer = numberAndZeros (numberOf f r); field = f }) e)
-        ∙ zero-number (eqb (r .kind) 12) (acceptance (effectOf f r) (r .number) (cond (eqb (r .kind) 11) (heldAlong f r) 0)) refl
-        ∙ sym z
+unfolding stepOf numberAndZeros
+number-is f r =
+    either-way (λ (s : Stepped). s .answer .number ≡ numberOf f r) (eqb (numberOf f r) 0) (record { answer = answerOf f r; field = effectOf f r }) (record { answer = numberAndZeros (numberOf f r); field = f })
+    (λ e. answer-number f r ∙ sym (eqb-true (numberOf f r) 0 e))
+    (λ e. refl)
 
 pub field-accepted : (f : Field) (r : Request) → numberOf f r ≡ 0 → stepOf f r .field ≡ effectOf f r
 unfolding stepOf

@@ -1,45 +1,49 @@
 -- Document 01, "The requests" and "Turned away by the field": what each kind of request needs and does.
 use mathlib.Core.Bool.{Bool, cond, not, _&&_, _||_}
-use mathlib.Core.List.{List, [], _∷_, _++_}
+use mathlib.Core.List.{List, [], _∷_}
 use Prim.Native.Nat.{ℕ}
 use lib.Dec.{eqb, leb, ltb}
 use lib.ListN.{length}
-use Rattle.request.specs.Input.{within, inRange, ruleOf}
+use Rattle.request.specs.Input.{within, inRange, isEntry, isTick, ruleOf}
 use Rattle.request.specs.declared.Request.{Request}
 use Rattle.field.specs.declared.Aircraft.{Aircraft}
 use Rattle.field.specs.declared.Field.{Field}
 use Rattle.field.specs.Boxes.{opposite, sideOf, at3000, at2000, lateral, missed, base, intermediate, finalApproach, runway, zoneOf, orderOf, progressInto, entering, withProgress, withFix, flownOutIn}
+use Rattle.questions.specs.declared.Place.{Place}
 use Rattle.questions.specs.Counts.{howMany, approachHolds, potentialOf, isEmpty}
 use Rattle.questions.specs.Find.{placeOf, aircraftAt, isFirst, leaderZone}
 use Rattle.field.specs.Edits.{withoutHead, withTail, appended, removed, withZone, withSequence}
 
 -- ---- where an aircraft is
 
--- the zone of a request's aircraft; 0 where it is not on the field
+-- where a request's aircraft is: its zone and its place there from 1; 0 and 0 where it is not on the field
+abbrev pub placeBefore : Field → Request → Place
+placeBefore f r = placeOf f (r .number)
+
 abbrev pub zoneBefore : Field → Request → ℕ
-zoneBefore f r = placeOf f (r .number) .zone
+zoneBefore f r = placeBefore f r .zone
 
 -- a zone that the kind starts from, by the rule of the kind
 unfoldable pub startsFrom : ℕ → ℕ → Bool
 startsFrom kind z = inRange (ruleOf kind .zones) z
 
--- ---- needs
+-- ---- needs, each a refusal number beside a test, of a request whose aircraft is at the place
 
 -- "11 entry number already present, runway included"
-abbrev pub absentCheck : Field → Request → ℕ × Bool
-absentCheck f r = (11, eqb (zoneBefore f r) 0)
+abbrev pub absentChecks : Place → List (ℕ × Bool)
+absentChecks at = (11, eqb (at .zone) 0) ∷ []
 
 -- "12 number not on the field. 13 not in a zone the kind starts from. 14 not at its head."
-abbrev pub headChecks : Field → Request → List (ℕ × Bool)
-headChecks f r =
-    (12, not (eqb (zoneBefore f r) 0))
-    ∷ (13, startsFrom (r .kind) (zoneBefore f r))
-    ∷ (14, eqb (placeOf f (r .number) .place) 1)
-    ∷ []
+abbrev pub headChecks : ℕ → Place → List (ℕ × Bool)
+headChecks kind at = (12, not (eqb (at .zone) 0)) ∷ (13, startsFrom kind (at .zone)) ∷ (14, eqb (at .place) 1) ∷ []
 
--- "15 leg not flown out"
-abbrev pub flownOutCheck : Field → Request → ℕ × Bool
-flownOutCheck f r = (15, flownOutIn (f .legs) (zoneBefore f r) (aircraftAt f (zoneBefore f r) 1))
+-- "Every kind but 1, 2 and 12 needs the aircraft at the head of its zone", and an entry that nobody has its number
+abbrev pub presenceChecks : ℕ → Place → List (ℕ × Bool)
+presenceChecks kind at = cond (isEntry kind) (absentChecks at) (cond (isTick kind) [] (headChecks kind at))
+
+-- "15 leg not flown out", of the head of zone z
+abbrev pub flownOutCheck : Field → ℕ → ℕ × Bool
+flownOutCheck f z = (15, flownOutIn (f .legs) z (aircraftAt f z 1))
 
 -- "first in sequence or leader on the approach"
 unfoldable pub mayApproach : Field → ℕ → Bool
@@ -49,52 +53,49 @@ mayApproach f number = isFirst (f .sequence) number || within 9 12 (leaderZone f
 unfoldable pub baseFree : Field → ℕ → Bool
 baseFree f side = leb (howMany f (base (opposite side))) 1
 
+-- "first in sequence, or leader in 11 or 12"
+unfoldable pub mayMerge : Field → ℕ → Bool
+mayMerge f number = isFirst (f .sequence) number || within 11 12 (leaderZone f number)
+
 -- "1 vertical entry to 3000. Needs, in order: potential under 2; nobody on the approach with that fix; missed, lateral and 3000
 -- zones of the side empty."
-unfoldable pub verticalChecks : Field → Request → List (ℕ × Bool)
-verticalChecks f r =
-    absentCheck f r
-    ∷ (16, ltb (potentialOf f (r .side)) 2)
-    ∷ (17, not (approachHolds f (r .side)))
-    ∷ (18, isEmpty f (missed (r .side)))
-    ∷ (19, isEmpty f (lateral (r .side)))
-    ∷ (20, isEmpty f (at3000 (r .side)))
+abbrev pub verticalNeeds : Field → ℕ → List (ℕ × Bool)
+verticalNeeds f side =
+    (16, ltb (potentialOf f side) 2)
+    ∷ (17, not (approachHolds f side))
+    ∷ (18, isEmpty f (missed side))
+    ∷ (19, isEmpty f (lateral side))
+    ∷ (20, isEmpty f (at3000 side))
     ∷ []
 
 -- "2 lateral entry. Needs potential 0."
-unfoldable pub lateralChecks : Field → Request → List (ℕ × Bool)
-lateralChecks f r = absentCheck f r ∷ (16, eqb (potentialOf f (r .side)) 0) ∷ []
+abbrev pub lateralNeeds : Field → ℕ → List (ℕ × Bool)
+lateralNeeds f side = (16, eqb (potentialOf f side) 0) ∷ []
 
--- "3 descend, 3000 to 2000, which must be empty."
-unfoldable pub descendChecks : Field → Request → List (ℕ × Bool)
-descendChecks f r = headChecks f r ++ ((21, isEmpty f (at2000 (zoneBefore f r))) ∷ [])
+-- "3 descend, 3000 to 2000, which must be empty.", from zone z
+abbrev pub descendNeeds : Field → ℕ → List (ℕ × Bool)
+descendNeeds f z = (21, isEmpty f (at2000 z)) ∷ []
 
 -- "4 approach, from 2000 or lateral to base of the same side. Needs: first in sequence or leader on the approach; then at most one
 -- aircraft on the opposite base. From lateral, an unmet need is no refusal"
-unfoldable pub approachChecks : Field → Request → List (ℕ × Bool)
-approachChecks f r =
-    headChecks f r
-    ++ ((22, within 5 6 (zoneBefore f r) || mayApproach f (r .number))
-    ∷ (23, within 5 6 (zoneBefore f r) || baseFree f (sideOf (zoneBefore f r)))
-    ∷ [])
+abbrev pub approachNeeds : Field → ℕ → ℕ → List (ℕ × Bool)
+approachNeeds f number z = (22, within 5 6 z || mayApproach f number) ∷ (23, within 5 6 z || baseFree f (sideOf z)) ∷ []
 
--- "5 merge, base to intermediate: first in sequence, or leader in 11 or 12"
-unfoldable pub mergeChecks : Field → Request → List (ℕ × Bool)
-mergeChecks f r =
-    headChecks f r
-    ++ (flownOutCheck f r ∷ (22, isFirst (f .sequence) (r .number) || within 11 12 (leaderZone f (r .number))) ∷ [])
+-- "5 merge, base to intermediate", the leg flown out: "first in sequence, or leader in 11 or 12"
+abbrev pub mergeNeeds : Field → ℕ → ℕ → List (ℕ × Bool)
+mergeNeeds f number z = flownOutCheck f z ∷ (22, mayMerge f number) ∷ []
 
 -- "6 intermediate to final"; "11 hold, from the missed zone": they need the leg flown out
-unfoldable pub flownOutChecks : Field → Request → List (ℕ × Bool)
-flownOutChecks f r = headChecks f r ++ (flownOutCheck f r ∷ [])
+abbrev pub flownOutNeeds : Field → ℕ → List (ℕ × Bool)
+flownOutNeeds f z = flownOutCheck f z ∷ []
 
--- "7 land, final to an empty runway"
-unfoldable pub landChecks : Field → Request → List (ℕ × Bool)
-landChecks f r = headChecks f r ++ (flownOutCheck f r ∷ (24, isEmpty f runway) ∷ [])
+-- "7 land, final to an empty runway", the leg flown out
+abbrev pub landNeeds : Field → ℕ → List (ℕ × Bool)
+landNeeds f z = flownOutCheck f z ∷ (24, isEmpty f runway) ∷ []
 
 -- "9 exit, intermediate to 0, if first in sequence. No flown-out check."
-unfoldable pub exitChecks : Field → Request → List (ℕ × Bool)
-exitChecks f r = headChecks f r ++ ((22, isFirst (f .sequence) (r .number)) ∷ [])
+abbrev pub exitNeeds : Field → ℕ → List (ℕ × Bool)
+exitNeeds f number = (22, isFirst (f .sequence) number) ∷ []
 
 -- ---- what they do
 
@@ -125,11 +126,10 @@ entered f r z =
     let g = tailPut f z (entering (r .number) fix (r .amount)) in
     withSequence g (appended (f .sequence) (r .number)) (opposite fix)
 
--- kind 4: to base; "From lateral, an unmet need is no refusal: the aircraft goes to 2000 of its side and is accepted."
-unfoldable pub approached : Field → Request → Field
-approached f r =
-    let z = zoneBefore f r in
-    cond (mayApproach f (r .number) && baseFree f (sideOf z)) (moved f z (base (sideOf z))) (moved f z (at2000 (sideOf z)))
+-- kind 4, from zone z: to base; "From lateral, an unmet need is no refusal: the aircraft goes to 2000 of its side and is accepted."
+unfoldable pub approached : Field → ℕ → ℕ → Field
+approached f number z =
+    cond (mayApproach f number && baseFree f (sideOf z)) (moved f z (base (sideOf z))) (moved f z (at2000 (sideOf z)))
 
 -- kind 7: "It leaves the sequence, keeps its fix, and has no leader."
 unfoldable pub landed : Field → Request → Field
@@ -152,16 +152,15 @@ missedApproach f r =
     let g = tailPut (headGone f finalApproach) w (withFix (withProgress a (progressInto w)) fix) in
     withSequence g (appended (removed (f .sequence) (r .number)) (r .number)) (opposite fix)
 
--- kind 11: "If 3000 and 2000 of the side are empty, to 2000. Else if 3000 is empty, to 3000. Else the aircraft at 3000 goes to 2000
+-- kind 11, from zone z: "If 3000 and 2000 of the side are empty, to 2000. Else if 3000 is empty, to 3000. Else the aircraft at 3000 goes to 2000
 -- and this one to 3000, in one step."
-unfoldable pub held : Field → Request → Field
-held f r =
-    let z = zoneBefore f r in
+unfoldable pub held : Field → ℕ → Field
+held f z =
     let side = sideOf z in
     cond (isEmpty f (at3000 side))
     (cond (isEmpty f (at2000 side)) (moved f z (at2000 side)) (moved f z (at3000 side)))
     (moved (moved f (at3000 side) (at2000 side)) z (at3000 side))
 
 -- "in `along` the other aircraft that a hold moved (0 if none)": the one at 3000
-unfoldable pub heldAlong : Field → Request → ℕ
-heldAlong f r = aircraftAt f (at3000 (sideOf (zoneBefore f r))) 1 .number
+unfoldable pub heldAlong : Field → ℕ → ℕ
+heldAlong f z = aircraftAt f (at3000 (sideOf z)) 1 .number

@@ -8,12 +8,13 @@ use Rattle.request.specs.Input.{firstRefused, inputNumber}
 use Rattle.request.specs.declared.Request.{Request}
 use Rattle.field.specs.declared.Field.{Field}
 use Rattle.field.specs.Boxes.{at3000, at2000, lateral, intermediate, finalApproach, runway}
+use Rattle.questions.specs.declared.Place.{Place}
 use Rattle.questions.specs.Find.{placeOf, fixOf, leaderOf}
 use Rattle.bounds.specs.Bounds.{withinBounds}
 use Rattle.tick.specs.Tick.{ticked}
 use Rattle.rules.specs.declared.Answer.{Answer}
 use Rattle.rules.specs.declared.Stepped.{Stepped}
-use Rattle.rules.specs.Kinds.{zoneBefore, headChecks, verticalChecks, lateralChecks, descendChecks, approachChecks, mergeChecks, flownOutChecks, landChecks, exitChecks, moved, headGone, entered, approached, landed, exited, missedApproach, held, heldAlong}
+use Rattle.rules.specs.Kinds.{placeBefore, zoneBefore, presenceChecks, verticalNeeds, lateralNeeds, descendNeeds, approachNeeds, mergeNeeds, flownOutNeeds, landNeeds, exitNeeds, moved, headGone, entered, approached, landed, exited, missedApproach, held, heldAlong}
 
 -- the entry of the twelve, for kinds 1 to 12, that belongs to the kind; the last for any other number
 abbrev pub byKind {ℓ} : {A : Type ℓ} → ℕ → A → A → A → A → A → A → A → A → A → A → A → A → A
@@ -21,39 +22,50 @@ byKind kind k1 k2 k3 k4 k5 k6 k7 k8 k9 k10 k11 k12 =
     cond (eqb kind 1) k1 (cond (eqb kind 2) k2 (cond (eqb kind 3) k3 (cond (eqb kind 4) k4 (cond (eqb kind 5) k5 (cond (eqb kind 6) k6
     (cond (eqb kind 7) k7 (cond (eqb kind 8) k8 (cond (eqb kind 9) k9 (cond (eqb kind 10) k10 (cond (eqb kind 11) k11 k12))))))))))
 
--- what each kind needs of the field, in order
-unfoldable pub checksOf : Field → Request → List (ℕ × Bool)
-checksOf f r =
-    byKind (r .kind)
-    (verticalChecks f r)
-    (lateralChecks f r)
-    (descendChecks f r)
-    (approachChecks f r)
-    (mergeChecks f r)
-    (flownOutChecks f r)
-    (landChecks f r)
-    (headChecks f r)
-    (exitChecks f r)
-    (headChecks f r)
-    (flownOutChecks f r)
+-- what each kind needs of the field besides, in order, of a request whose aircraft is at the place
+abbrev pub needsFor : ℕ → Field → Request → Place → List (ℕ × Bool)
+needsFor kind f r at =
+    byKind kind
+    (verticalNeeds f (r .side))
+    (lateralNeeds f (r .side))
+    (descendNeeds f (at .zone))
+    (approachNeeds f (r .number) (at .zone))
+    (mergeNeeds f (r .number) (at .zone))
+    (flownOutNeeds f (at .zone))
+    (landNeeds f (at .zone))
+    []
+    (exitNeeds f (r .number))
+    []
+    (flownOutNeeds f (at .zone))
     []
 
--- what each kind does to the field
-unfoldable pub effectOf : Field → Request → Field
-effectOf f r =
-    byKind (r .kind)
+-- all that a kind needs of the field, in order
+abbrev pub checksFor : ℕ → Field → Request → Place → List (ℕ × Bool)
+checksFor kind f r at = presenceChecks kind at ++ needsFor kind f r at
+
+-- what each kind does to the field, of a request whose aircraft is in zone z
+abbrev pub effectFor : ℕ → Field → Request → ℕ → Field
+effectFor kind f r z =
+    byKind kind
     (entered f r (at3000 (r .side)))
     (entered f r (lateral (r .side)))
-    (moved f (zoneBefore f r) (at2000 (zoneBefore f r)))
-    (approached f r)
-    (moved f (zoneBefore f r) intermediate)
+    (moved f z (at2000 z))
+    (approached f (r .number) z)
+    (moved f z intermediate)
     (moved f intermediate finalApproach)
     (landed f r)
     (headGone f runway)
     (exited f r)
     (missedApproach f r)
-    (held f r)
+    (held f z)
     (ticked f (r .amount))
+
+-- the same of a request on a field, its aircraft where it is
+unfoldable pub checksOf : Field → Request → List (ℕ × Bool)
+checksOf f r = checksFor (r .kind) f r (placeBefore f r)
+
+unfoldable pub effectOf : Field → Request → Field
+effectOf f r = effectFor (r .kind) f r (zoneBefore f r)
 
 -- the number of a request on a field: 0 where it is accepted, else the first of "Turned away by the request" and then of "Turned away
 -- by the field", in order: "10 the field handed in breaks a bound", what the kind needs, "25 the field after the step would break a bound"
@@ -84,7 +96,7 @@ acceptance f number along =
 unfoldable pub answerOf : Field → Request → Answer
 answerOf f r =
     cond (eqb (r .kind) 12) (numberAndZeros 0)
-    (acceptance (effectOf f r) (r .number) (cond (eqb (r .kind) 11) (heldAlong f r) 0))
+    (acceptance (effectOf f r) (r .number) (cond (eqb (r .kind) 11) (heldAlong f (zoneBefore f r)) 0))
 
 -- the step: "A refusal answers its number and zeros; the field is the one handed in."
 unfoldable pub stepOf : Field → Request → Stepped

@@ -14,8 +14,9 @@ use rules::Stepped;
 ghost use mathlib.Core.Path.{_≡_};
 ghost use mathlib.Core.Bool.{cond};
 ghost use lib.Dec.{eqb};
+ghost use Rattle.request.specs.Input.{firstRefused};
 ghost use Rattle.rules.specs.Kinds.{heldAlong};
-ghost use Rattle.rules.specs.Step.{numberAndZeros, acceptance, stepOf};
+ghost use Rattle.rules.specs.Step.{checksOf, effectOf, numberOf, numberAndZeros, acceptance, answerOf, stepOf};
 
 // The answer that has a number, and zeros.
 fn number_and_zeros(number: u16) -> Answer
@@ -36,25 +37,25 @@ fn acceptance(f: Field, number: u16, along: u16) -> Answer
     ensures { λ a. ⌜ a ≡ acceptance f number along ⌝ }
 {
     let at = place_of(f, number);
-    let a = aircraft_at(f, at.zone, at.place);
+    let a = aircraft_at(f, at.zone as usize, at.place);
     let s = f.sequence;
     Answer {
         number: 0,
         aircraft: number,
-        zone: at.zone,
+        zone: at.zone as usize,
         fix: a.fix,
         leader: leader_of(s, number),
         along: along,
     }
 }
 
-// The answer to an accepted request, from the field before the step and the field `g` after it.
-fn answer(f: Field, r: Request, g: Field) -> Answer
-    ensures { λ a. ⌜ a ≡ cond (eqb (r .kind) 12) (numberAndZeros 0) (acceptance g (r .number) (cond (eqb (r .kind) 11) (heldAlong f r) 0)) ⌝ }
+// The answer to an accepted request whose aircraft was in a zone, from the field before the step and the field `g` after it.
+fn answer(f: Field, r: Request, zone: u8, g: Field) -> Answer
+    ensures { λ a. ⌜ a ≡ cond (eqb (r .kind) 12) (numberAndZeros 0) (acceptance g (r .number) (cond (eqb (r .kind) 11) (heldAlong f zone) 0)) ⌝ }
 {
     let kind = r.kind;
     match kind {
-        11 => acceptance(g, r.number, held_along(f, r)),
+        11 => acceptance(g, r.number, held_along(f, zone)),
         12 => number_and_zeros(0),
         _ => acceptance(g, r.number, 0),
     }
@@ -70,7 +71,24 @@ fn turned_away(f: Field, number: u16) -> Stepped
     }
 }
 
-// The step: the answer to a request and the field after it.
+// What a request that keeps the input rules does to a field that is judged: the first need that is not met refuses it, else it takes effect.
+fn unjudged(f: Field, r: Request) -> Stepped
+    ensures { λ s. ⌜ s ≡ cond (eqb (firstRefused (checksOf f r)) 0) (record { answer = answerOf f r; field = effectOf f r }) (record { answer = numberAndZeros (firstRefused (checksOf f r)); field = f }) ⌝ }
+{
+    let at = place_of(f, r.number);
+    let need = check_number(f, r, at);
+    if need != 0 {
+        return turned_away(f, need);
+    }
+    let zone = at.zone;
+    let g = effect(f, r, zone);
+    Stepped {
+        answer: answer(f, r, zone, g),
+        field: g,
+    }
+}
+
+// The step: the answer to a request and the field after it. The field is judged before and after.
 pub fn step(f: Field, r: Request) -> Stepped
     ensures { λ s. ⌜ s ≡ stepOf f r ⌝ }
 {
@@ -81,16 +99,26 @@ pub fn step(f: Field, r: Request) -> Stepped
     if !within_bounds(f) {
         return turned_away(f, 10);
     }
-    let need = check_number(f, r);
-    if need != 0 {
-        return turned_away(f, need);
+    let s = unjudged(f, r);
+    let a = s.answer;
+    if a.number != 0 {
+        return s;
     }
-    let g = effect(f, r);
+    let g = s.field;
     if !within_bounds(g) {
         return turned_away(f, 25);
     }
-    Stepped {
-        answer: answer(f, r, g),
-        field: g,
+    s
+}
+
+// The same step, for a caller who has shown that neither 10 nor 25 is its number: the field is not judged.
+pub fn step_unjudged(f: Field, r: Request) -> Stepped
+    requires { ⌜ (numberOf f r ≡ 10 → ⊥) × (numberOf f r ≡ 25 → ⊥) ⌝ }
+    ensures { λ s. ⌜ s ≡ stepOf f r ⌝ }
+{
+    let input = input_number(r);
+    if input != 0 {
+        return turned_away(f, input);
     }
+    unjudged(f, r)
 }

@@ -2,10 +2,9 @@
 use mathlib.Core.Path.{_≡_, refl}
 use mathlib.Core.Bool.{Bool, true, false, cond, _&&_}
 use Prim.Native.Nat.{ℕ}
-use Rattle.request.specs.declared.Request.{Request}
 use Rattle.field.specs.declared.Field.{Field}
 use Rattle.field.specs.Boxes.{at2000, base, sideOf}
-use Rattle.rules.specs.Kinds.{zoneBefore, mayApproach, baseFree, moved, approached}
+use Rattle.rules.specs.Kinds.{mayApproach, baseFree, moved, approached}
 use borrow.Author.Needs.{needs}
 use Rattle.effects.proofs.approached.Statement.{statement}
 use Rattle.effects.proofs.approached.Tie as tie
@@ -15,13 +14,10 @@ chosen : (f : Field) (z x y : ℕ) (t : Bool) → moved f z (cond t x y) ≡ con
 chosen f z x y true = refl
 chosen f z x y false = refl
 
-by-zone : (f : Field) (r : Request) {z side w : ℕ} {g : Field} → z ≡ zoneBefore f r → side ≡ sideOf z
-    → w ≡ cond (mayApproach f (r .number) && baseFree f side) (base side) (at2000 side) → g ≡ moved f z w → g ≡ approached f r
+by-zone : (f : Field) (number z : ℕ) {side w : ℕ} {g : Field} → side ≡ sideOf z
+    → w ≡ cond (mayApproach f number && baseFree f side) (base side) (at2000 side) → g ≡ moved f z w → g ≡ approached f number z
 unfolding approached
-by-zone f r {z} {side} ez es ew eg = cc (chosen f z (base side) (at2000 side) (mayApproach f (r .number) && baseFree f side))
-
-zone-before-requires : tie.Need-zone-before-requires
-zone-before-requires c κs = search needs
+by-zone f number z {side} es ew eg = cc (chosen f z (base side) (at2000 side) (mayApproach f number && baseFree f side))
 
 side-of-requires : tie.Need-side-of-requires
 side-of-requires c κs = search needs
@@ -34,14 +30,8 @@ moved-requires c κs = search needs
 
 returns : tie.Need-returns
 returns c =
-    let a = c .before .before .before .before .args in
-    by-zone (a .f) (a .r)
-    (c .before .before .before .zone-before .ensures)
-    (c .before .before .side-of .ensures)
-    (c .before .approach-zone .ensures)
-    (c .moved .ensures)
+    let a = c .before .before .before .args in
+    by-zone (a .f) (a .number) (a .zone) (c .before .before .side-of .ensures) (c .before .approach-zone .ensures) (c .moved .ensures)
 
 pub approached-spec : {M : Type 1} → statement M
-approached-spec =
-    tie.close
-    (tie.spec zone-before-requires side-of-requires approach-zone-requires moved-requires returns)
+approached-spec = tie.close (tie.spec side-of-requires approach-zone-requires moved-requires returns)

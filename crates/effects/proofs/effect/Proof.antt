@@ -1,9 +1,6 @@
 -- `effects::effect` meets its contract, kind by kind. Assumes nothing.
-use mathlib.Core.Path.{sym, ap, _∙_}
-use Prim.Native.Nat.{ℕ}
+use mathlib.Core.Path.{sym, _∙_}
 use borrow.Author.Tests.{ne-eqb}
-use Rattle.rules.specs.Kinds.{moved}
-use Rattle.rules.specs.Step.{effectOf}
 use borrow.Author.Needs.{needs}
 use Rattle.effects.proofs.effect.Statement.{statement}
 use Rattle.effects.proofs.effect.Tie as tie
@@ -23,20 +20,20 @@ add-entered c = search needs
 entered-requires-2 : tie.Need-entered-requires-2
 entered-requires-2 c κs = search needs
 
-descended-requires : tie.Need-descended-requires
-descended-requires c κs = search needs
-
-approached-requires : tie.Need-approached-requires
-approached-requires c κs = search needs
-
-zone-before-requires : tie.Need-zone-before-requires
-zone-before-requires c κs = search needs
+add-moved : tie.Need-add-moved
+add-moved c = search needs
 
 moved-requires : tie.Need-moved-requires
 moved-requires c κs = search needs
 
+approached-requires : tie.Need-approached-requires
+approached-requires c κs = search needs
+
 moved-requires-2 : tie.Need-moved-requires-2
 moved-requires-2 c κs = search needs
+
+moved-requires-3 : tie.Need-moved-requires-3
+moved-requires-3 c κs = search needs
 
 landed-requires : tie.Need-landed-requires
 landed-requires c κs = search needs
@@ -57,54 +54,39 @@ ticked-requires : tie.Need-ticked-requires
 ticked-requires c κs = search needs
 
 returns : tie.Need-returns
-unfolding effectOf
 returns c = c .entered .ensures ∙ sym (simp (c .before .before .match .keys1))
 
 returns-2 : tie.Need-returns-2
-unfolding effectOf
 returns-2 c = c .entered2 .ensures ∙ sym (simp (c .before .before .match .keys2))
 
 returns-3 : tie.Need-returns-3
-unfolding effectOf
-returns-3 c = c .descended .ensures ∙ sym (simp (c .before .match .keys3))
+returns-3 c = c .moved .ensures ∙ sym (simp (c .before .match .keys3))
 
 returns-4 : tie.Need-returns-4
-unfolding effectOf
 returns-4 c = c .approached .ensures ∙ sym (simp (c .before .match .keys4))
 
 returns-5 : tie.Need-returns-5
-unfolding effectOf
-returns-5 c =
-    c .moved .ensures
-    ∙ ap (λ (z : ℕ). moved (c .before .before .before .args .f) z 11) (c .before .zone-before .ensures)
-    ∙ sym (simp (c .before .before .match .keys5))
+returns-5 c = c .moved2 .ensures ∙ sym (simp (c .before .match .keys5))
 
 returns-6 : tie.Need-returns-6
-unfolding effectOf
-returns-6 c = c .moved2 .ensures ∙ sym (simp (c .before .match .keys6))
+returns-6 c = c .moved3 .ensures ∙ sym (simp (c .before .match .keys6))
 
 returns-7 : tie.Need-returns-7
-unfolding effectOf
 returns-7 c = c .landed .ensures ∙ sym (simp (c .before .match .keys7))
 
 returns-8 : tie.Need-returns-8
-unfolding effectOf
 returns-8 c = c .head-gone .ensures ∙ sym (simp (c .before .match .keys8))
 
 returns-9 : tie.Need-returns-9
-unfolding effectOf
 returns-9 c = c .exited .ensures ∙ sym (simp (c .before .match .keys9))
 
 returns-10 : tie.Need-returns-10
-unfolding effectOf
 returns-10 c = c .missed-approach .ensures ∙ sym (simp (c .before .match .keys10))
 
 returns-11 : tie.Need-returns-11
-unfolding effectOf
 returns-11 c = c .held .ensures ∙ sym (simp (c .before .match .keys11))
 
 returns-12 : tie.Need-returns-12
-unfolding effectOf
 returns-12 c =
     let k = c .before .before .args .r .kind in
     let rest = c .before .match .rest in
@@ -133,11 +115,11 @@ effect-spec =
     cast-entered-2
     add-entered
     entered-requires-2
-    descended-requires
-    approached-requires
-    zone-before-requires
+    add-moved
     moved-requires
+    approached-requires
     moved-requires-2
+    moved-requires-3
     landed-requires
     head-gone-requires
     exited-requires

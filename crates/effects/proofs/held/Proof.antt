@@ -2,12 +2,11 @@
 use mathlib.Core.Path.{_≡_, sym, ap, _∙_}
 use mathlib.Core.Bool.{cond}
 use Prim.Native.Nat.{ℕ}
-use Rattle.request.specs.declared.Request.{Request}
 use Rattle.field.specs.declared.Field.{Field}
 use Rattle.field.specs.Boxes.{at3000, at2000, sideOf}
 use Rattle.questions.specs.Counts.{isEmpty}
 use Rattle.field.proofs.Parts.{holds, fails}
-use Rattle.rules.specs.Kinds.{zoneBefore, moved, held}
+use Rattle.rules.specs.Kinds.{moved, held}
 use Rattle.field.proofs.Tests.{if-true, if-false}
 use borrow.Author.Needs.{needs}
 use Rattle.effects.proofs.held.Statement.{statement}
@@ -20,12 +19,9 @@ heldFrom f z side =
     (cond (isEmpty f (at2000 side)) (moved f z (at2000 side)) (moved f z (at3000 side)))
     (moved (moved f (at3000 side) (at2000 side)) z (at3000 side))
 
-held-from : (f : Field) (r : Request) {z side : ℕ} → z ≡ zoneBefore f r → side ≡ sideOf z → heldFrom f z side ≡ held f r
+held-from : (f : Field) (z : ℕ) {side : ℕ} → side ≡ sideOf z → heldFrom f z side ≡ held f z
 unfolding held
-held-from f r ez es = simp (es, ez)
-
-zone-before-requires : tie.Need-zone-before-requires
-zone-before-requires c κs = search needs
+held-from f z es = simp es
 
 side-of-requires : tie.Need-side-of-requires
 side-of-requires c κs = search needs
@@ -50,9 +46,9 @@ returns c =
     let b = c .before .before .before in
     let side = b .before .side-of .result in
     c .moved2 .ensures
-    ∙ ap (λ (g : Field). moved g (b .before .before .zone-before .result) side) (c .before .moved .ensures)
+    ∙ ap (λ (g : Field). moved g (b .before .before .args .zone) side) (c .before .moved .ensures)
     ∙ sym (if-false _ _ (fails (b .is-empty .ensures) (c .before .before .if1 .taken)))
-    ∙ held-from _ _ (b .before .before .zone-before .ensures) (b .before .side-of .ensures)
+    ∙ held-from _ _ (b .before .side-of .ensures)
 
 add-is-empty : tie.Need-add-is-empty
 add-is-empty c = search needs
@@ -72,7 +68,7 @@ returns-2 c =
     let high = holds (b .is-empty .ensures) (c .before .before .before .if1 .left) in
     c .moved3 .ensures
     ∙ sym (if-true _ _ high ∙ if-true _ _ (sym (c .before .before .is-empty2 .ensures) ∙ c .before .if2 .taken))
-    ∙ held-from _ _ (b .before .before .zone-before .ensures) (b .before .side-of .ensures)
+    ∙ held-from _ _ (b .before .side-of .ensures)
 
 moved-requires-4 : tie.Need-moved-requires-4
 moved-requires-4 c κs = search needs
@@ -83,13 +79,12 @@ returns-3 c =
     let high = holds (b .is-empty .ensures) (c .before .before .before .if1 .left) in
     c .moved4 .ensures
     ∙ sym (if-true _ _ high ∙ if-false _ _ (sym (c .before .before .is-empty2 .ensures) ∙ c .before .if2 .left))
-    ∙ held-from _ _ (b .before .before .zone-before .ensures) (b .before .side-of .ensures)
+    ∙ held-from _ _ (b .before .side-of .ensures)
 
 pub held-spec : {M : Type 1} → statement M
 held-spec =
     tie.close
     (tie.spec
-    zone-before-requires
     side-of-requires
     cast-side
     is-empty-requires

@@ -2,15 +2,11 @@
 use mathlib.Core.Path.{ap, _∙_}
 use Prim.Native.Nat.{ℕ}
 use Rattle.field.specs.declared.Aircraft.{Aircraft}
-use Rattle.field.specs.Boxes.{sideOf}
 use Rattle.questions.specs.Find.{aircraftAt}
 use Rattle.rules.specs.Kinds.{heldAlong}
 use borrow.Author.Needs.{needs}
 use Rattle.effects.proofs.held_along.Statement.{statement}
 use Rattle.effects.proofs.held_along.Tie as tie
-
-zone-before-requires : tie.Need-zone-before-requires
-zone-before-requires c κs = search needs
 
 side-of-requires : tie.Need-side-of-requires
 side-of-requires c κs = search needs
@@ -24,10 +20,9 @@ aircraft-at-requires c κs = search needs
 returns : tie.Need-returns
 unfolding heldAlong
 returns c =
-    let side = c .before .side-of .ensures ∙ ap sideOf (c .before .before .zone-before .ensures) in
-    ap (λ (a : Aircraft). a .number) (c .aircraft-at .ensures ∙ ap (λ (z : ℕ). aircraftAt (c .before .before .before .args .f) z 1) side)
+    ap (λ (a : Aircraft). a .number) (c .aircraft-at .ensures ∙ ap (λ (z : ℕ). aircraftAt (c .before .before .args .f) z 1) (c .before .side-of .ensures))
 
 pub held-along-spec : {M : Type 1} → statement M
 held-along-spec =
     tie.close
-    (tie.spec zone-before-requires side-of-requires cast-aircraft-at aircraft-at-requires returns)
+    (tie.spec side-of-requires cast-aircraft-at aircraft-at-requires returns)

@@ -3,9 +3,6 @@ use borrow.Author.Needs.{needs}
 use Rattle.needs.proofs.has_flown_out.Statement.{statement}
 use Rattle.needs.proofs.has_flown_out.Tie as tie
 
-zone-before-requires : tie.Need-zone-before-requires
-zone-before-requires c κs = search needs
-
 aircraft-at-requires : tie.Need-aircraft-at-requires
 aircraft-at-requires c κs = search needs
 
@@ -16,5 +13,4 @@ returns : tie.Need-returns
 returns c = cc
 
 pub has-flown-out-spec : {M : Type 1} → statement M
-has-flown-out-spec =
-    tie.close (tie.spec zone-before-requires aircraft-at-requires flown-out-in-requires returns)
+has-flown-out-spec = tie.close (tie.spec aircraft-at-requires flown-out-in-requires returns)

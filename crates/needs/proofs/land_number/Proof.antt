@@ -1,7 +1,7 @@
 -- `needs::land_number` meets its contract, by those of what it calls. Assumes nothing.
-use mathlib.Core.Path.{_∙_}
-use Rattle.rules.specs.Kinds.{landChecks, flownOutChecks}
-use Rattle.needs.proofs.Refused.{leg-with}
+use mathlib.Core.Path.{refl}
+use Rattle.rules.specs.Kinds.{flownOutCheck}
+use Rattle.needs.proofs.Unmet.{two-needs}
 use borrow.Author.Needs.{needs}
 use Rattle.needs.proofs.land_number.Statement.{statement}
 use Rattle.needs.proofs.land_number.Tie as tie
@@ -16,10 +16,9 @@ with-need-requires : tie.Need-with-need-requires
 with-need-requires c κs = search needs
 
 returns : tie.Need-returns
-unfolding landChecks flownOutChecks
 returns c =
     let a = c .before .before .before .args in
-    c .with-need .ensures ∙ leg-with (a .f) (a .r) (c .before .before .flown-out-number .ensures) 24 (c .before .is-empty .ensures)
+    two-needs 15 24 (flownOutCheck (a .f) (a .zone) .1) refl (c .with-need .ensures) (c .before .before .flown-out-number .ensures) (c .before .is-empty .ensures)
 
 pub land-number-spec : {M : Type 1} → statement M
 land-number-spec = tie.close (tie.spec flown-out-number-requires is-empty-requires with-need-requires returns)

@@ -1,34 +1,20 @@
--- `needs::lateral_number` meets its contract, need by need. Assumes nothing.
-use mathlib.Core.Path.{sym, _∙_}
-use Rattle.field.proofs.Parts.{is, is-not}
-use Rattle.rules.specs.Kinds.{lateralChecks}
-use Rattle.field.proofs.Tests.{if-true, if-false}
+-- `needs::lateral_number` meets its contract. Assumes nothing.
+use mathlib.Core.Path.{ap}
+use Prim.Native.Nat.{ℕ}
+use lib.Dec.{eqb}
+use Rattle.needs.proofs.Unmet.{one-need}
 use borrow.Author.Needs.{needs}
 use Rattle.needs.proofs.lateral_number.Statement.{statement}
 use Rattle.needs.proofs.lateral_number.Tie as tie
 
-zone-before-requires : tie.Need-zone-before-requires
-zone-before-requires c κs = search needs
-
-returns : tie.Need-returns
-unfolding lateralChecks
-returns c = sym (if-false _ _ (is-not (c .before .zone-before .ensures) (c .if1 .taken)))
-
 potential-of-requires : tie.Need-potential-of-requires
 potential-of-requires c κs = search needs
 
-returns-2 : tie.Need-returns-2
-unfolding lateralChecks
-returns-2 c =
-    let absent = is (c .before .before .before .zone-before .ensures) (c .before .before .if1 .left) in
-    sym (if-true _ _ absent ∙ if-false _ _ (is-not (c .before .potential-of .ensures) (c .if2 .taken)))
+with-need-requires : tie.Need-with-need-requires
+with-need-requires c κs = search needs
 
-returns-3 : tie.Need-returns-3
-unfolding lateralChecks
-returns-3 c =
-    let absent = is (c .before .before .before .zone-before .ensures) (c .before .before .if1 .left) in
-    sym (if-true _ _ absent ∙ if-true _ _ (is (c .before .potential-of .ensures) (c .if2 .left)))
+returns : tie.Need-returns
+returns c = one-need 16 (c .with-need .ensures) (ap (λ (n : ℕ). eqb n 0) (c .before .potential-of .ensures))
 
 pub lateral-number-spec : {M : Type 1} → statement M
-lateral-number-spec =
-    tie.close (tie.spec zone-before-requires returns potential-of-requires returns-2 returns-3)
+lateral-number-spec = tie.close (tie.spec potential-of-requires with-need-requires returns)

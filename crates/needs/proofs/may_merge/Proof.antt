@@ -4,6 +4,7 @@ use Rattle.request.specs.Input.{within}
 use Rattle.request.proofs.Tests.{within-yes, within-below, within-above}
 use Rattle.field.proofs.Parts.{or-first, or-else}
 use native.Mathlib.Omega.{arith}
+use Rattle.rules.specs.Kinds.{mayMerge}
 use borrow.Author.Needs.{needs}
 use Rattle.needs.proofs.may_merge.Statement.{statement}
 use Rattle.needs.proofs.may_merge.Tie as tie
@@ -12,22 +13,26 @@ is-first-requires : tie.Need-is-first-requires
 is-first-requires c κs = search needs
 
 returns : tie.Need-returns
+unfolding mayMerge
 returns c = sym (or-first _ (sym (c .before .is-first .ensures) ∙ c .if1 .taken))
 
 leader-zone-requires : tie.Need-leader-zone-requires
 leader-zone-requires c κs = search needs
 
 returns-2 : tie.Need-returns-2
+unfolding mayMerge
 returns-2 c =
     let behind = sym (c .before .before .before .before .is-first .ensures) ∙ c .before .before .before .if1 .left in
     sym (or-else behind (sym (ap (within 11 12) (c .before .before .leader-zone .ensures)) ∙ within-yes 11 12 _ (c .before .if2 .left) (omega arith)))
 
 returns-3 : tie.Need-returns-3
+unfolding mayMerge
 returns-3 c =
     let behind = sym (c .before .before .before .is-first .ensures) ∙ c .before .before .if1 .left in
     sym (or-else behind (sym (ap (within 11 12) (c .before .leader-zone .ensures)) ∙ within-below 11 12 _ (c .if2 .taken)))
 
 returns-4 : tie.Need-returns-4
+unfolding mayMerge
 returns-4 c =
     let behind = sym (c .before .before .before .before .is-first .ensures) ∙ c .before .before .before .if1 .left in
     sym (or-else behind (sym (ap (within 11 12) (c .before .before .leader-zone .ensures)) ∙ within-above 11 12 _ (c .if3 .left)))

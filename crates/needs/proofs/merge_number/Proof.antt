@@ -1,7 +1,7 @@
 -- `needs::merge_number` meets its contract, by those of what it calls. Assumes nothing.
-use mathlib.Core.Path.{_∙_}
-use Rattle.rules.specs.Kinds.{mergeChecks, flownOutChecks}
-use Rattle.needs.proofs.Refused.{leg-with}
+use mathlib.Core.Path.{refl}
+use Rattle.rules.specs.Kinds.{flownOutCheck}
+use Rattle.needs.proofs.Unmet.{two-needs}
 use borrow.Author.Needs.{needs}
 use Rattle.needs.proofs.merge_number.Statement.{statement}
 use Rattle.needs.proofs.merge_number.Tie as tie
@@ -16,10 +16,9 @@ with-need-requires : tie.Need-with-need-requires
 with-need-requires c κs = search needs
 
 returns : tie.Need-returns
-unfolding mergeChecks flownOutChecks
 returns c =
     let a = c .before .before .before .args in
-    c .with-need .ensures ∙ leg-with (a .f) (a .r) (c .before .before .flown-out-number .ensures) 22 (c .before .may-merge .ensures)
+    two-needs 15 22 (flownOutCheck (a .f) (a .zone) .1) refl (c .with-need .ensures) (c .before .before .flown-out-number .ensures) (c .before .may-merge .ensures)
 
 pub merge-number-spec : {M : Type 1} → statement M
 merge-number-spec = tie.close (tie.spec flown-out-number-requires may-merge-requires with-need-requires returns)

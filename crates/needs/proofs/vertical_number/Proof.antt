@@ -3,11 +3,9 @@ use mathlib.Core.Path.{_≡_, sym, ap, _∙_}
 use mathlib.Core.Bool.{true, false, not}
 use Prim.Native.Nat.{ℕ, _≤_, _<_}
 use native.Mathlib.Omega.{arith}
-use lib.Dec.{eqb, ltb}
+use lib.Dec.{ltb}
 use borrow.Author.Tests.{lt-ltb, le-ltb}
 use Rattle.questions.specs.Counts.{potentialOf}
-use Rattle.field.proofs.Parts.{is, is-not}
-use Rattle.rules.specs.Kinds.{zoneBefore, verticalChecks}
 use Rattle.field.proofs.Tests.{if-true, if-false}
 use borrow.Author.Needs.{needs}
 use Rattle.needs.proofs.vertical_number.Statement.{statement}
@@ -20,55 +18,40 @@ under {n} e h = lt-ltb n 2 (omega arith)
 full : {n p : ℕ} → p ≡ n → 2 ≤ p → ltb n 2 ≡ false
 full {n} e h = le-ltb n 2 (omega arith)
 
--- the needs that are met on the way
-absent : (c : tie.Else1) → eqb (zoneBefore (c .before .before .args .f) (c .before .before .args .r)) 0 ≡ true
-absent c = is (c .before .zone-before .ensures) (c .if1 .left)
-
-room : (c : tie.Else2) → ltb (potentialOf (c .before .before .before .before .args .f) (c .before .before .before .before .args .r .side)) 2 ≡ true
-room c = under (c .before .potential-of .ensures) (c .if2 .left)
-
-zone-before-requires : tie.Need-zone-before-requires
-zone-before-requires c κs = search needs
-
-returns : tie.Need-returns
-unfolding verticalChecks
-returns c = sym (if-false _ _ (is-not (c .before .zone-before .ensures) (c .if1 .taken)))
+-- the first need is met
+room : (c : tie.Else1) → ltb (potentialOf (c .before .before .args .f) (c .before .before .args .side)) 2 ≡ true
+room c = under (c .before .potential-of .ensures) (c .if1 .left)
 
 potential-of-requires : tie.Need-potential-of-requires
 potential-of-requires c κs = search needs
 
-returns-2 : tie.Need-returns-2
-unfolding verticalChecks
-returns-2 c = sym (if-true _ _ (absent (c .before .before)) ∙ if-false _ _ (full (c .before .potential-of .ensures) (c .if2 .taken)))
+returns : tie.Need-returns
+returns c = sym (if-false _ _ (full (c .before .potential-of .ensures) (c .if1 .taken)))
 
 approach-holds-requires : tie.Need-approach-holds-requires
 approach-holds-requires c κs = search needs
 
-returns-3 : tie.Need-returns-3
-unfolding verticalChecks
-returns-3 c =
-    let kept = ap not (sym (c .before .approach-holds .ensures) ∙ c .if3 .taken) in
-    sym (if-true _ _ (absent (c .before .before .before .before)) ∙ if-true _ _ (room (c .before .before)) ∙ if-false _ _ kept)
+returns-2 : tie.Need-returns-2
+returns-2 c =
+    let kept = ap not (sym (c .before .approach-holds .ensures) ∙ c .if2 .taken) in
+    sym (if-true _ _ (room (c .before .before)) ∙ if-false _ _ kept)
 
 side-number-requires : tie.Need-side-number-requires
 side-number-requires c κs = search needs
 
-returns-4 : tie.Need-returns-4
-unfolding verticalChecks
-returns-4 c =
+returns-3 : tie.Need-returns-3
+returns-3 c =
     let b = c .before .before in
-    let unkept = ap not (sym (b .approach-holds .ensures) ∙ c .before .if3 .left) in
-    c .side-number .ensures ∙ sym (if-true _ _ (absent (b .before .before .before)) ∙ if-true _ _ (room (b .before)) ∙ if-true _ _ unkept)
+    let unkept = ap not (sym (b .approach-holds .ensures) ∙ c .before .if2 .left) in
+    c .side-number .ensures ∙ sym (if-true _ _ (room (b .before)) ∙ if-true _ _ unkept)
 
 pub vertical-number-spec : {M : Type 1} → statement M
 vertical-number-spec =
     tie.close
     (tie.spec
-    zone-before-requires
-    returns
     potential-of-requires
-    returns-2
+    returns
     approach-holds-requires
-    returns-3
+    returns-2
     side-number-requires
-    returns-4)
+    returns-3)

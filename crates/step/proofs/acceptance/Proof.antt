@@ -27,16 +27,24 @@ made f number along {at} {a} {leader} ep ea el =
 place-of-requires : tie.Need-place-of-requires
 place-of-requires c κs = search needs
 
+cast-aircraft-at : tie.Need-cast-aircraft-at
+cast-aircraft-at c = search needs
+
 aircraft-at-requires : tie.Need-aircraft-at-requires
 aircraft-at-requires c κs = search needs
+
+cast-t7 : tie.Need-cast-t7
+cast-t7 c = search needs
 
 leader-of-requires : tie.Need-leader-of-requires
 leader-of-requires c κs = search needs
 
 returns : tie.Need-returns
 returns c =
-    let a = c .before .before .before .before .args in
-    made (a .f) (a .number) (a .along) (c .before .before .before .place-of .ensures) (c .before .before .aircraft-at .ensures) (c .leader-of .ensures)
+    let found = c .before .before .before in
+    let placed = found .before .before in
+    let a = placed .before .args in
+    made (a .f) (a .number) (a .along) (placed .place-of .ensures) (found .aircraft-at .ensures) (c .leader-of .ensures)
 
 pub acceptance-spec : {M : Type 1} → statement M
-acceptance-spec = tie.close (tie.spec place-of-requires aircraft-at-requires leader-of-requires returns)
+acceptance-spec = tie.close (tie.spec place-of-requires cast-aircraft-at aircraft-at-requires cast-t7 leader-of-requires returns)

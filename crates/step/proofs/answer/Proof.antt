@@ -4,7 +4,6 @@ use mathlib.Core.Bool.{cond}
 use Prim.Native.Nat.{ℕ}
 use lib.Dec.{eqb}
 use borrow.Author.Tests.{ne-eqb}
-use Rattle.request.specs.declared.Request.{Request}
 use Rattle.field.specs.declared.Field.{Field}
 use Rattle.rules.specs.declared.Answer.{Answer}
 use Rattle.rules.specs.Kinds.{heldAlong}
@@ -15,8 +14,8 @@ use Rattle.step.proofs.answer.Statement.{statement}
 use Rattle.step.proofs.answer.Tie as tie
 
 -- the answer to an accepted request of kind k
-abbrev answerFor : Field → Request → Field → ℕ → Answer
-answerFor f r g k = cond (eqb k 12) (numberAndZeros 0) (acceptance g (r .number) (cond (eqb k 11) (heldAlong f r) 0))
+abbrev answerFor : Field → ℕ → ℕ → Field → ℕ → Answer
+answerFor f number zone g k = cond (eqb k 12) (numberAndZeros 0) (acceptance g number (cond (eqb k 11) (heldAlong f zone) 0))
 
 held-along-requires : tie.Need-held-along-requires
 held-along-requires c κs = search needs
@@ -35,12 +34,12 @@ returns c =
     let a = c .before .before .before .args in
     c .acceptance .ensures
     ∙ ap (acceptance (a .g) (a .r .number)) (c .before .held-along .ensures)
-    ∙ sym (ap (answerFor (a .f) (a .r) (a .g)) (c .before .before .match .keys1))
+    ∙ sym (ap (answerFor (a .f) (a .r .number) (a .zone) (a .g)) (c .before .before .match .keys1))
 
 returns-2 : tie.Need-returns-2
 returns-2 c =
     let a = c .before .before .args in
-    c .number-and-zeros .ensures ∙ sym (ap (answerFor (a .f) (a .r) (a .g)) (c .before .match .keys2))
+    c .number-and-zeros .ensures ∙ sym (ap (answerFor (a .f) (a .r .number) (a .zone) (a .g)) (c .before .match .keys2))
 
 returns-3 : tie.Need-returns-3
 returns-3 c =

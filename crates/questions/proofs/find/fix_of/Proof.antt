@@ -22,22 +22,26 @@ within c = subst⁻¹ (λ (p : Place). p .zone ≤ 13) (c .place-of .ensures) (p
 place-of-requires : tie.Need-place-of-requires
 place-of-requires c κs = search needs
 
+cast-zone : tie.Need-cast-zone
+cast-zone c = search needs
+
 returns : tie.Need-returns
 unfolding fixOf
 returns c =
-    let f = c .before .before .args .t1 in
-    let at = placeOf f (c .before .before .args .number) in
-    let zone : at .zone ≡ 0 = ap (λ (p : Place). p .zone) (sym (c .before .place-of .ensures)) ∙ c .if1 .taken in
+    let k = c .before .before in
+    let f = k .before .args .t1 in
+    let at = placeOf f (k .before .args .number) in
+    let zone : at .zone ≡ 0 = ap (λ (p : Place). p .zone) (sym (k .place-of .ensures)) ∙ c .if1 .taken in
     sym (ap (λ (z : ℕ). aircraftAt f z (at .place) .fix) zone ∙ ap (λ (a : Aircraft). a .fix) (nobody-nowhere f (at .place)))
 
 sub-q : tie.Need-sub-q
 sub-q c = search needs
 
 mul-q : tie.Need-mul-q
-mul-q c = omega (arith, within (c .before))
+mul-q c = omega (arith, within (c .before .before))
 
 element-copy-out-q : tie.Need-element-copy-out-q
-element-copy-out-q c = omega (arith, within (c .before))
+element-copy-out-q c = omega (arith, within (c .before .before))
 
 aircraft-in-requires : tie.Need-aircraft-in-requires
 aircraft-in-requires c κs = search needs
@@ -45,7 +49,7 @@ aircraft-in-requires c κs = search needs
 returns-2 : tie.Need-returns-2
 unfolding fixOf aircraftAt inZone
 returns-2 c =
-    let k = c .before .before .before in
+    let k = c .before .before .before .before in
     let s = k .before in
     let f = s .args .t1 in
     let thirteen = unmapped _ (f .zones) (s .good .0 .1 .1 .0 .1 .0 .1) in
@@ -61,6 +65,7 @@ fix-of-spec =
     tie.close
     (tie.spec
     place-of-requires
+    cast-zone
     returns
     sub-q
     mul-q

@@ -29,12 +29,16 @@ returns c =
 place-of-requires : tie.Need-place-of-requires
 place-of-requires c κs = search needs
 
+cast-result : tie.Need-cast-result
+cast-result c = search needs
+
 returns-2 : tie.Need-returns-2
 returns-2 c =
-    let a = c .before .before .before .before .args in
-    let some = ne-eqb _ _ (c .before .if1 .left) in
-    ap (λ (p : Place). p .zone) (c .place-of .ensures)
-    ∙ sym (ahead (a .f) (a .number) (c .before .before .leader-of .ensures) some)
+    let k = c .before in
+    let a = k .before .before .before .before .args in
+    let some = ne-eqb _ _ (k .before .if1 .left) in
+    ap (λ (p : Place). p .zone) (k .place-of .ensures)
+    ∙ sym (ahead (a .f) (a .number) (k .before .before .leader-of .ensures) some)
 
 pub leader-zone-spec : {M : Type 1} → statement M
-leader-zone-spec = tie.close (tie.spec leader-of-requires returns place-of-requires returns-2)
+leader-zone-spec = tie.close (tie.spec leader-of-requires returns place-of-requires cast-result returns-2)

@@ -151,8 +151,11 @@ mul-a c = record { fits = omega arith }
 element-copy-out-a : tie.Need-element-copy-out-a Inv-loop μ-loop Inv-zones μ-zones
 element-copy-out-a c = omega arith
 
-add-t21 : tie.Need-add-t21 Inv-loop μ-loop Inv-zones μ-zones
-add-t21 c = record { fits = omega arith }
+cast-t21 : tie.Need-cast-t21 Inv-loop μ-loop Inv-zones μ-zones
+cast-t21 c = record { fits = omega arith }
+
+add-t22 : tie.Need-add-t22 Inv-loop μ-loop Inv-zones μ-zones
+add-t22 c = record { fits = omega arith }
 
 add-i : tie.Need-add-i Inv-loop μ-loop Inv-zones μ-zones
 add-i c = record { fits = omega arith }
@@ -200,7 +203,8 @@ place-of-spec =
     loop-holds
     mul-a
     element-copy-out-a
-    add-t21
+    cast-t21
+    add-t22
     add-i
     loop-less
     loop-again
