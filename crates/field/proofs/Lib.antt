@@ -2,4 +2,5 @@ pub mod Tests
 pub mod Lists
 pub mod Arrays
 pub mod Parts
+pub mod Known
 pub mod Shapes

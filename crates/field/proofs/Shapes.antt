@@ -1,24 +1,21 @@
--- What the proofs of the field's functions share: the lengths of its arrays, an element read from one, the next of a queue, and a
+-- What the proofs of the field's functions share: an element read from an array, the next of a queue, how many a queue holds, and a
 -- number that is one of two. Assumes nothing.
 use mathlib.Core.Path.{_≡_, refl, sym, ap, _∙_, subst}
 use mathlib.Core.Bool.{Bool, true, false}
-use mathlib.Core.List.{List, [], _∷_, map}
+use mathlib.Core.List.{List, [], _∷_}
 use Prim.Native.Nat.{ℕ, zero, suc, _+_, _-_, _≤_, _<_}
 use native.Mathlib.Omega.{arith}
 use native.Mathlib.Numerals.{add-one}
 use borrow.Author.Tests.{eqb-true, eqb-false}
 use lib.Dec.{eqb}
-use lib.ListN.{length, getD, take, drop, length-map, length-take}
+use lib.ListN.{length, getD, take, drop, length-take}
 use lib.Seq.{drop-cons, getD-take}
-use mir.Val.{Val}
-use denote.Shadow.{shadow}
-use denote.Array.{each}
 use Rattle.field.specs.declared.Aircraft.{Aircraft}
 use Rattle.field.specs.declared.Zone.{Zone}
 use Rattle.field.specs.declared.Sequence.{Sequence}
 use Rattle.field.specs.declared.Field.{Field}
 use Rattle.field.specs.Boxes.{emptyZone, zoneOf, queueOf, inZone, orderOf}
-use Rattle.field.proofs.Zone.{the-field}
+use Rattle.field.proofs.Known.{FieldKnown}
 
 module _ {ℓ} {A : Type ℓ} where
   -- within the length no default matters
@@ -38,11 +35,6 @@ module _ {ℓ} {A : Type ℓ} where
       rw (add-one)
       (drop-cons (take n l) i d h
       ∙ ap (λ (a : A). a ∷ drop (suc i) (take n l)) (getD-take n l i d (omega (arith, length-take n l))))
-
-  -- an array's length by how it stands in what is known of a parameter: `c .good .0 .1 .1 .0 .1 .0 .1`, where the struct whose first
-  -- field is the array is the first parameter
-  pub unmapped {ℓ′} : {B : Type ℓ′} (g : A → B) (l : List A) {n : ℕ} → length (map g l) ≡ n → length l ≡ n
-  unmapped g l e = sym (length-map l g) ∙ e
 
 -- what holds of k and of k + 1 holds of each number from k that is below k + 2
 pub one-of-two : (P : ℕ → Type 0) (k z : ℕ) → k ≤ z → z < k + 2 → P k → P (k + 1) → P z
@@ -77,30 +69,10 @@ pub order-fits : (s : Sequence) → length (s .numbers) ≡ 4 → length (orderO
 unfolding orderOf
 order-fits s e = omega (arith, length-take (s .length) (s .numbers))
 
--- what is known of the zones of a field that is a parameter: `c .good .0 .1 .1 .0 .1 .1`, where the field is the first
-abbrev pub Known : List Zone → List Val → Type 0
-Known zones us = shadow (each (the-field .row .Denot) (the-field .row .own) (map (the-field .into) zones) us)
-
--- each zone has four places, and so has what stands for a zone that is none
-pub four-places : (zones : List Zone) (us : List Val) (i : ℕ) → Known zones us → length (getD zones i emptyZone .aircraft) ≡ 4
-four-places [] us i p = refl
-four-places (q ∷ zones) [] i p = absurd p
-four-places (q ∷ zones) (u ∷ us) zero p = unmapped _ (q .aircraft) (p .0 .1 .1 .0 .1 .0 .1)
-four-places (q ∷ zones) (u ∷ us) (suc i) p = four-places zones us i (p .1)
-
-module _ (f : Field) (us : List Val) (z : ℕ) (known : Known (f .zones) us) where
-  pub zone-places : length (zoneOf f z .aircraft) ≡ 4
-  unfolding zoneOf
-  zone-places = go z
-    where
-      go : (k : ℕ) → length (getD (emptyZone ∷ f .zones) k emptyZone .aircraft) ≡ 4
-      go zero = refl
-      go (suc i) = four-places (f .zones) us i known
-
-  -- so no zone holds more than four
-  pub at-most-four : length (inZone f z) ≤ 4
-  unfolding inZone
-  at-most-four = queue-fits (zoneOf f z) zone-places
+-- so no zone of a field holds more than four
+pub at-most-four : {f : Field} → FieldKnown f → (z : ℕ) → length (inZone f z) ≤ 4
+unfolding inZone
+at-most-four {f} known z = queue-fits (zoneOf f z) (known .places z)
 
 -- zone z read at the index before it
 pub zone-read : (f : Field) (z : ℕ) (d : Zone) → length (f .zones) ≡ 13 → 1 ≤ z → z ≤ 13 → getD (f .zones) (z - 1) d ≡ zoneOf f z

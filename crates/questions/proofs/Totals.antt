@@ -8,13 +8,13 @@ use native.Mathlib.Omega.{arith}
 use native.Mathlib.Numerals.{add-one}
 use lib.Dec.{eqb}
 use lib.ListN.{length}
-use mir.Val.{Val}
 use Rattle.field.specs.declared.Aircraft.{Aircraft}
 use Rattle.field.specs.declared.Field.{Field}
 use Rattle.field.specs.Boxes.{zonesFrom, inZone, area}
 use Rattle.questions.specs.Counts.{total, haveFix, howMany, howManyWithFix, countedFor}
 use Rattle.field.specs.Lists.{isIn}
-use Rattle.field.proofs.Shapes.{Known, at-most-four}
+use Rattle.field.proofs.Known.{FieldKnown}
+use Rattle.field.proofs.Shapes.{at-most-four}
 
 -- a loop that has added up n before zone z, no more than four for each zone
 pub record Added (g : ℕ → ℕ) (first last n z : ℕ) : Type 0 where
@@ -57,14 +57,14 @@ have-fix-fits fix (a ∷ l) =
     let one : cond (eqb (a .fix) fix) 1 0 ≤ 1 = either-fits (eqb (a .fix) fix) (omega arith) (omega arith) in
     omega (arith, have-fix-fits fix l)
 
-module _ (f : Field) (us : List Val) (known : Known (f .zones) us) where
+module _ {f : Field} (known : FieldKnown f) where
   pub how-many-fits : (z : ℕ) → howMany f z ≤ 4
   unfolding howMany
-  how-many-fits z = at-most-four f us z known
+  how-many-fits z = at-most-four known z
 
   pub with-fix-fits : (side z : ℕ) → howManyWithFix f side z ≤ 4
   unfolding howManyWithFix
-  with-fix-fits side z = omega (arith, have-fix-fits side (inZone f z), at-most-four f us z known)
+  with-fix-fits side z = omega (arith, have-fix-fits side (inZone f z), at-most-four known z)
 
   pub counted-fits : (side z : ℕ) → countedFor f side z ≤ 4
   unfolding countedFor

@@ -8,7 +8,8 @@ use Rattle.field.specs.declared.Sequence.{Sequence}
 use Rattle.field.specs.Boxes.{orderOf, orderLength}
 use Rattle.questions.specs.Find.{fixOf}
 use Rattle.field.proofs.Arrays.{getD-map}
-use Rattle.field.proofs.Shapes.{unmapped, order-fits}
+use Rattle.field.proofs.Known.{field-known}
+use Rattle.field.proofs.Shapes.{order-fits}
 use borrow.Author.Needs.{needs}
 use native.Mathlib.Omega.{arith}
 use Rattle.bounds.proofs.fix_at.Statement.{statement}
@@ -25,15 +26,16 @@ order-length-requires c κs = search needs
 mul-fix-of : tie.Need-mul-fix-of
 unfolding orderLength
 mul-fix-of c =
-    let s = c .before .before .before .args .f .sequence in
-    let long = unmapped _ (s .numbers) (c .before .before .before .good .0 .1 .1 .1 .0 .1 .1 .0 .1 .0 .1) in
-    record { fits = omega (arith, c .before .order-length .ensures, order-fits s long) }
+    let f = c .before .before .before .args .f in
+    let known = field-known f (c .before .before .before .good .0) in
+    record { fits = omega (arith, c .before .order-length .ensures, order-fits (f .sequence) (known .numbers)) }
 
 element-copy-out-fix-of : tie.Need-element-copy-out-fix-of
 unfolding orderLength
 element-copy-out-fix-of c =
-    let s = c .before .before .before .args .f .sequence in
-    omega (arith, c .before .order-length .ensures, order-fits s (unmapped _ (s .numbers) (c .before .before .before .good .0 .1 .1 .1 .0 .1 .1 .0 .1 .0 .1)))
+    let f = c .before .before .before .args .f in
+    let known = field-known f (c .before .before .before .good .0) in
+    omega (arith, c .before .order-length .ensures, order-fits (f .sequence) (known .numbers))
 
 fix-of-requires : tie.Need-fix-of-requires
 fix-of-requires c κs = search needs

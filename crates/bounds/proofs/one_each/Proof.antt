@@ -5,7 +5,7 @@ use Prim.Native.Nat.{ℕ, _-_}
 use lib.Dec.{leb}
 use Rattle.field.specs.declared.Field.{Field}
 use Rattle.questions.specs.Counts.{howMany}
-use Rattle.field.proofs.Shapes.{unmapped}
+use Rattle.field.proofs.Known.{field-known}
 use Rattle.questions.proofs.CountReads.{length-read}
 use Rattle.field.proofs.Parts.{at-most, over, Passed, passed-none, passed-more, passed-not, passed-all}
 use borrow.Author.Needs.{needs}
@@ -43,7 +43,7 @@ returns c =
     let start = c .before .before .before .before .before in
     let f = start .args .t1 in
     let l = c .before .before .before .before .loop in
-    let thirteen = unmapped _ (f .zones) (start .good .0 .1 .1 .0 .1 .0 .1) in
+    let thirteen = field-known f (start .good .0) .zones in
     let same = c .before .queue-length .ensures ∙ length-read f (l .zone) _ thirteen (omega arith) (omega arith) in
     sym (passed-not (one f) 1 6 (l .zone) (l .inv) (omega arith) (over same (c .if1 .taken)))
 
@@ -58,7 +58,7 @@ loop-again c =
     let start = c .before .before .before .before .before in
     let f = start .args .t1 in
     let l = c .before .before .before .before .loop in
-    let thirteen = unmapped _ (f .zones) (start .good .0 .1 .1 .0 .1 .0 .1) in
+    let thirteen = field-known f (start .good .0) .zones in
     let same = c .before .queue-length .ensures ∙ length-read f (l .zone) _ thirteen (omega arith) (omega arith) in
     passed-more (one f) 1 6 (l .zone) (l .inv) (omega arith) (at-most same (c .if1 .left))
 

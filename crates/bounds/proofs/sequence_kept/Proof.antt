@@ -6,7 +6,7 @@ use borrow.Author.Tests.{lt-leb, eq-eqb, ne-eqb}
 use lib.Dec.{eqb}
 use Rattle.bounds.specs.Bounds.{sequenceKept}
 use Rattle.field.proofs.Parts.{and-cut, Kept, kept-none, kept-more, kept-not, kept-all}
-use Rattle.field.proofs.Shapes.{unmapped}
+use Rattle.field.proofs.Known.{sequence-known}
 use borrow.Author.Needs.{needs}
 use native.Mathlib.Omega.{arith}
 use Rattle.bounds.proofs.sequence_kept.Statement.{statement}
@@ -28,7 +28,7 @@ returns c = sym (and-cut _ (lt-leb _ _ (c .if1 .taken)))
 loop-holds : tie.Need-loop-holds Inv-loop μ-loop
 loop-holds c =
     let a = c .before .args .t1 in
-    kept-none isZero (a .numbers) (a .length) (unmapped _ (a .numbers) (c .before .good .0 .1 .1 .0 .1 .0 .1)) (omega arith)
+    kept-none isZero (a .numbers) (a .length) (sequence-known a (c .before .good .0) .places) (omega arith)
 
 mul-if2 : tie.Need-mul-if2 Inv-loop μ-loop
 mul-if2 c = search needs

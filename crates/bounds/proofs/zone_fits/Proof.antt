@@ -7,7 +7,8 @@ use Rattle.field.specs.Lists.{every}
 use Rattle.bounds.specs.Bounds.{fitsZone}
 use Rattle.field.proofs.Parts.{holds, fails, each-more, each-not}
 use Rattle.field.proofs.Arrays.{Walked, walked-none, walked-all}
-use Rattle.field.proofs.Shapes.{unmapped, queue-next, queue-fits}
+use Rattle.field.proofs.Known.{zone-known}
+use Rattle.field.proofs.Shapes.{queue-next, queue-fits}
 use borrow.Author.Needs.{needs}
 use native.Mathlib.Omega.{arith}
 use Rattle.bounds.proofs.zone_fits.Statement.{statement}
@@ -26,7 +27,7 @@ loop-holds : tie.Need-loop-holds Inv-loop μ-loop
 unfolding queueLength
 loop-holds c =
     let q = c .before .args .t3 in
-    let fits = queue-fits q (unmapped _ (q .aircraft) (c .before .good .1 .1 .0 .1 .1 .0 .1 .0 .1)) in
+    let fits = queue-fits q (zone-known q (c .before .good .1 .1 .0) .places) in
     (omega (arith, c .queue-length .ensures), (c .queue-length .ensures, walked-none _ _ 0 (omega arith)))
 
 mul-a : tie.Need-mul-a Inv-loop μ-loop

@@ -5,7 +5,7 @@ use borrow.Author.Tests.{lt-leb}
 use Rattle.field.specs.Boxes.{nobody}
 use Rattle.bounds.specs.Bounds.{isNobody, zoneKept}
 use Rattle.field.proofs.Parts.{and-cut, holds, fails, Kept, kept-none, kept-more, kept-not, kept-all}
-use Rattle.field.proofs.Shapes.{unmapped}
+use Rattle.field.proofs.Known.{zone-known}
 use borrow.Author.Needs.{needs}
 use native.Mathlib.Omega.{arith}
 use Rattle.bounds.proofs.zone_kept.Statement.{statement}
@@ -24,7 +24,7 @@ returns c = sym (and-cut _ (lt-leb _ _ (c .if1 .taken)))
 loop-holds : tie.Need-loop-holds Inv-loop μ-loop
 loop-holds c =
     let a = c .before .args .t1 in
-    kept-none isNobody (a .aircraft) (a .length) (unmapped _ (a .aircraft) (c .before .good .0 .1 .1 .0 .1 .0 .1)) (omega arith)
+    kept-none isNobody (a .aircraft) (a .length) (zone-known a (c .before .good .0) .places) (omega arith)
 
 mul-a : tie.Need-mul-a Inv-loop μ-loop
 mul-a c = search needs

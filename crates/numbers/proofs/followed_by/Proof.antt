@@ -9,7 +9,9 @@ use lib.Seq.{take-suc, take-suc-set, take-all}
 use Rattle.field.specs.declared.Aircraft.{Aircraft}
 use Rattle.field.specs.declared.Zone.{Zone}
 use Rattle.field.specs.Boxes.{queueOf, queueLength}
-use Rattle.field.proofs.Shapes.{unmapped, queue-fits, queue-read}
+use Rattle.field.proofs.Known.{zone-known}
+use Rattle.field.proofs.Shapes.{queue-fits, queue-read}
+use Rattle.numbers.proofs.Known.{numbers-known}
 use borrow.Author.Needs.{needs}
 use native.Mathlib.Omega.{arith}
 use Rattle.numbers.proofs.followed_by.Statement.{statement}
@@ -61,9 +63,9 @@ loop-holds c =
     let s = c .before .before in
     let q = s .args .t2 in
     let n = s .args .n in
-    let fits = queue-fits q (unmapped _ (q .aircraft) (s .good .1 .0 .1 .1 .0 .1 .0 .1)) in
+    let fits = queue-fits q (zone-known q (s .good .1 .0) .places) in
     let all = c .before .queue-length .ensures in
-    let long = unmapped _ (n .list) (s .good .0 .1 .1 .0 .1 .0 .1) in
+    let long = numbers-known n (s .good .0) .places in
     let made = ap (λ (k : ℕ). take k (n .list)) (add-zero (n .length)) ∙ sym (append-nil (take (n .length) (n .list))) in
     record { within = omega arith; all = all; few = omega (arith, all); room = s .pre; long = long; made = made }
 

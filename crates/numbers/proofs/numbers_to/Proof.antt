@@ -8,7 +8,8 @@ use Rattle.field.specs.declared.Zone.{Zone}
 use Rattle.field.specs.declared.Field.{Field}
 use Rattle.field.specs.Boxes.{zonesFrom, emptyZone, zoneOf, queueOf, inZone}
 use Rattle.questions.specs.Find.{numbersIn}
-use Rattle.field.proofs.Shapes.{read, unmapped}
+use Rattle.field.proofs.Known.{field-known}
+use Rattle.field.proofs.Shapes.{read}
 use Rattle.questions.proofs.Listed.{numberOf, one-zone-more}
 use borrow.Author.Needs.{needs}
 use native.Mathlib.Omega.{arith}
@@ -54,7 +55,7 @@ loop-again c =
     let start = c .before .before .before .before in
     let f = start .args .t1 in
     let l = c .before .before .before .loop in
-    let thirteen = unmapped _ (f .zones) (start .good .0 .1 .1 .0 .1 .0 .1) in
+    let thirteen = field-known f (start .good .0) .zones in
     let z = l .zone in
     let w = l .inv .1 .1 in
     let made = c .followed-by .ensures .1

@@ -8,7 +8,7 @@ use Rattle.field.specs.Boxes.{emptyZone}
 use Rattle.tick.specs.Tick.{tickedFrom, ticked}
 use Rattle.tick.proofs.Tick.{tickedIn, length-ticked, getD-ticked}
 use Rattle.field.proofs.Arrays.{filled-at, filled-more, filled-all}
-use Rattle.field.proofs.Shapes.{unmapped}
+use Rattle.field.proofs.Known.{field-known}
 use borrow.Author.Needs.{needs}
 use native.Mathlib.Omega.{arith}
 use Rattle.tick.proofs.ticked.Statement.{statement}
@@ -51,10 +51,11 @@ loop-again : tie.Need-loop-again Inv-loop μ-loop
 loop-again c =
     let s = c .before .before .before .before .before .before in
     let l = c .before .before .before .loop in
-    let xs = s .args .f .zones in
-    let legs = s .args .f .legs in
+    let f = s .args .f in
+    let xs = f .zones in
+    let legs = f .legs in
     let amount = s .args .amount in
-    let long : length xs ≡ 13 = unmapped _ xs (s .good .0 .1 .1 .0 .1 .0 .1) in
+    let long : length xs ≡ 13 = field-known f (s .good .0) .zones in
     let ys = tickedFrom legs amount 1 xs in
     let here = filled-at (l .zones) ys xs (l .i) emptyZone _ (omega arith) (length-ticked legs amount 1 xs) (l .inv .1) in
     let right = c .ticked-in .ensures ∙ ap (tickedIn legs amount (l .i + 1)) here ∙ sym (getD-ticked legs amount 1 xs (l .i) emptyZone (omega arith)) in
@@ -66,7 +67,7 @@ returns c =
     let s = c .before .before .before .before .before in
     let l = c .before .before .loop in
     let f = s .args .f in
-    let long : length (f .zones) ≡ 13 = unmapped _ (f .zones) (s .good .0 .1 .1 .0 .1 .0 .1) in
+    let long : length (f .zones) ≡ 13 = field-known f (s .good .0) .zones in
     let ys = tickedFrom (f .legs) (s .args .amount) 1 (f .zones) in
     let all = filled-all (l .zones) ys (f .zones) (l .i) (omega arith) (length-ticked (f .legs) (s .args .amount) 1 (f .zones)) (l .inv .1) in
     ap (λ (zs : List Zone). record { zones = zs; sequence = f .sequence; next = f .next; legs = f .legs }) all

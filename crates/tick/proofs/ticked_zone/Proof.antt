@@ -7,7 +7,7 @@ use Rattle.field.specs.declared.Aircraft.{Aircraft}
 use Rattle.field.specs.Boxes.{nobody}
 use Rattle.tick.specs.Tick.{tickedAircraft, tickedZone}
 use Rattle.field.proofs.Arrays.{filled-at, filled-more, filled-all, getD-map}
-use Rattle.field.proofs.Shapes.{unmapped}
+use Rattle.field.proofs.Known.{zone-known}
 use borrow.Author.Needs.{needs}
 use native.Mathlib.Omega.{arith}
 use Rattle.tick.proofs.ticked_zone.Statement.{statement}
@@ -48,8 +48,9 @@ loop-again c =
     let s = c .before .before .before .before .before in
     let l = c .before .before .before .loop in
     let g = tickedAircraft (s .args .leg) (s .args .amount) in
-    let xs = s .args .q .aircraft in
-    let long : length xs ≡ 4 = unmapped _ xs (s .good .1 .1 .0 .1 .1 .0 .1 .0 .1) in
+    let q = s .args .q in
+    let xs = q .aircraft in
+    let long : length xs ≡ 4 = zone-known q (s .good .1 .1 .0) .places in
     let here = filled-at (l .aircraft) (map g xs) xs (l .i) nobody _ (omega arith) (length-map xs g) (l .inv .1) in
     let ticked = c .ticked-aircraft in
     let right = ticked .ensures ∙ ap g here ∙ sym (getD-map g xs (l .i) nobody nobody (omega arith)) in
@@ -61,10 +62,11 @@ returns c =
     let s = c .before .before .before in
     let l = c .before .loop in
     let g = tickedAircraft (s .args .leg) (s .args .amount) in
-    let xs = s .args .q .aircraft in
-    let long : length xs ≡ 4 = unmapped _ xs (s .good .1 .1 .0 .1 .1 .0 .1 .0 .1) in
+    let q = s .args .q in
+    let xs = q .aircraft in
+    let long : length xs ≡ 4 = zone-known q (s .good .1 .1 .0) .places in
     let all = filled-all (l .aircraft) (map g xs) xs (l .i) (omega arith) (length-map xs g) (l .inv .1) in
-    ap (λ (zs : List Aircraft). record { aircraft = zs; length = s .args .q .length }) all
+    ap (λ (zs : List Aircraft). record { aircraft = zs; length = q .length }) all
 
 pub ticked-zone-spec : {M : Type 1} → statement M
 ticked-zone-spec =

@@ -2,20 +2,20 @@
 use native.Mathlib.Omega.{arith}
 use lib.ListN.{length-take}
 use Rattle.field.specs.Boxes.{orderLength, orderOf}
-use Rattle.field.proofs.Shapes.{unmapped}
+use Rattle.field.proofs.Known.{sequence-known}
 use Rattle.field.proofs.boxes.order_length.Statement.{statement}
 use Rattle.field.proofs.boxes.order_length.Tie as tie
 
 returns : tie.Need-returns
 unfolding orderLength orderOf
 returns c =
-    let four = unmapped _ (c .before .before .args .s .numbers) (c .before .before .good .0 .1 .1 .0 .1 .0 .1) in
+    let four = sequence-known (c .before .before .args .s) (c .before .before .good .0) .places in
     simp length-take (omega arith)
 
 returns-2 : tie.Need-returns-2
 unfolding orderLength orderOf
 returns-2 c =
-    let four = unmapped _ (c .before .before .args .s .numbers) (c .before .before .good .0 .1 .1 .0 .1 .0 .1) in
+    let four = sequence-known (c .before .before .args .s) (c .before .before .good .0) .places in
     simp length-take (omega arith)
 
 pub order-length-spec : {M : Type 1} → statement M

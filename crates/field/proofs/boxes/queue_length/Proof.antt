@@ -2,20 +2,20 @@
 use native.Mathlib.Omega.{arith}
 use lib.ListN.{length-take}
 use Rattle.field.specs.Boxes.{queueLength, queueOf}
-use Rattle.field.proofs.Shapes.{unmapped}
+use Rattle.field.proofs.Known.{zone-known}
 use Rattle.field.proofs.boxes.queue_length.Statement.{statement}
 use Rattle.field.proofs.boxes.queue_length.Tie as tie
 
 returns : tie.Need-returns
 unfolding queueLength queueOf
 returns c =
-    let four = unmapped _ (c .before .before .args .q .aircraft) (c .before .before .good .0 .1 .1 .0 .1 .0 .1) in
+    let four = zone-known (c .before .before .args .q) (c .before .before .good .0) .places in
     simp length-take (omega arith)
 
 returns-2 : tie.Need-returns-2
 unfolding queueLength queueOf
 returns-2 c =
-    let four = unmapped _ (c .before .before .args .q .aircraft) (c .before .before .good .0 .1 .1 .0 .1 .0 .1) in
+    let four = zone-known (c .before .before .args .q) (c .before .before .good .0) .places in
     simp length-take (omega arith)
 
 pub queue-length-spec : {M : Type 1} → statement M

@@ -6,7 +6,8 @@ use native.Mathlib.Omega.{arith}
 use borrow.Author.Needs.{needs}
 use lib.ListN.{length, List·getD-eq-default}
 use Rattle.field.specs.Boxes.{zoneOf, emptyZone}
-use Rattle.field.proofs.Shapes.{read, from-one, unmapped}
+use Rattle.field.proofs.Known.{field-known}
+use Rattle.field.proofs.Shapes.{read, from-one}
 use Rattle.field.proofs.boxes.zone_of.Statement.{statement}
 use Rattle.field.proofs.boxes.zone_of.Tie as tie
 
@@ -34,14 +35,14 @@ unfolding zoneOf
 returns-2 c =
     let f = c .before .before .before .args .t1 in
     let z = c .before .before .before .args .zone in
-    let thirteen = unmapped _ (f .zones) (c .before .before .before .good .0 .1 .1 .0 .1 .0 .1) in
+    let thirteen = field-known f (c .before .before .before .good .0) .zones in
     read (f .zones) (z - 1) _ emptyZone (omega arith) ∙ sym (from-one emptyZone (f .zones) z emptyZone (omega arith))
 
 returns-3 : tie.Need-returns-3
 unfolding zoneOf
 returns-3 c =
     let f = c .before .before .before .args .t1 in
-    let thirteen = unmapped _ (f .zones) (c .before .before .before .good .0 .1 .1 .0 .1 .0 .1) in
+    let thirteen = field-known f (c .before .before .before .good .0) .zones in
     let past : length (emptyZone ∷ f .zones) ≤ c .before .before .before .args .zone = omega arith in
     c .empty-zone2 .ensures ∙ sym (List·getD-eq-default (emptyZone ∷ f .zones) emptyZone past)
 

@@ -5,7 +5,8 @@ use lib.ListN.{length, drop, drop-of-length-le}
 use borrow.Author.Tests.{eq-eqb, ne-eqb}
 use Rattle.field.specs.Boxes.{orderOf, orderLength}
 use Rattle.field.specs.Edits.{before}
-use Rattle.field.proofs.Shapes.{unmapped, order-next, order-fits}
+use Rattle.field.proofs.Known.{sequence-known}
+use Rattle.field.proofs.Shapes.{order-next, order-fits}
 use borrow.Author.Needs.{needs}
 use native.Mathlib.Omega.{arith}
 use Rattle.field.proofs.edits.before.Statement.{statement}
@@ -24,7 +25,7 @@ loop-holds : tie.Need-loop-holds Inv-loop μ-loop
 unfolding orderLength
 loop-holds c =
     let s = c .before .args .t1 in
-    let fits = order-fits s (unmapped _ (s .numbers) (c .before .good .0 .1 .1 .0 .1 .0 .1)) in
+    let fits = order-fits s (sequence-known s (c .before .good .0) .places) in
     (omega arith, (omega (arith, c .order-length .ensures), (c .order-length .ensures, omega arith)))
 
 mul-if1 : tie.Need-mul-if1 Inv-loop μ-loop

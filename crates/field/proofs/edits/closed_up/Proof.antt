@@ -3,6 +3,7 @@ use mathlib.Core.Path.{_≡_, sym, ap, _∙_}
 use mathlib.Core.List.{List, [], _∷_, _++_}
 use Prim.Native.Nat.{ℕ, suc}
 use lib.ListN.{length, getD, take, drop}
+use Rattle.field.proofs.Known.{numbers-known}
 use Rattle.field.proofs.Arrays.{four}
 use borrow.Author.Needs.{needs}
 use native.Mathlib.Omega.{arith}
@@ -28,7 +29,9 @@ array-read-t13 : tie.Need-array-read-t13
 array-read-t13 c = search needs
 
 returns : tie.Need-returns
-returns c = closed 0 (c .before .args .t1) (c .before .good .0 .1 .0 .1) (c .if1 .taken)
+returns c =
+    let s = c .before in
+    closed 0 (s .args .t1) (numbers-known 4 (s .args .t1) (s .good .0)) (c .if1 .taken)
 
 array-read-t16 : tie.Need-array-read-t16
 array-read-t16 c = search needs
@@ -40,7 +43,9 @@ array-read-t22 : tie.Need-array-read-t22
 array-read-t22 c = search needs
 
 returns-2 : tie.Need-returns-2
-returns-2 c = closed 1 (c .before .before .args .t1) (c .before .before .good .0 .1 .0 .1) (c .if2 .taken)
+returns-2 c =
+    let s = c .before .before in
+    closed 1 (s .args .t1) (numbers-known 4 (s .args .t1) (s .good .0)) (c .if2 .taken)
 
 array-read-t25 : tie.Need-array-read-t25
 array-read-t25 c = search needs
@@ -52,7 +57,9 @@ array-read-t31 : tie.Need-array-read-t31
 array-read-t31 c = search needs
 
 returns-3 : tie.Need-returns-3
-returns-3 c = closed 2 (c .before .before .before .args .t1) (c .before .before .before .good .0 .1 .0 .1) (c .if3 .taken)
+returns-3 c =
+    let s = c .before .before .before in
+    closed 2 (s .args .t1) (numbers-known 4 (s .args .t1) (s .good .0)) (c .if3 .taken)
 
 array-read-t34 : tie.Need-array-read-t34
 array-read-t34 c = search needs
@@ -64,7 +71,9 @@ array-read-t40 : tie.Need-array-read-t40
 array-read-t40 c = search needs
 
 returns-4 : tie.Need-returns-4
-returns-4 c = closed 3 {j = c .before .before .before .args .k} (c .before .before .before .args .t1) (c .before .before .before .good .0 .1 .0 .1) (omega arith)
+returns-4 c =
+    let s = c .before .before .before in
+    closed 3 {j = s .args .k} (s .args .t1) (numbers-known 4 (s .args .t1) (s .good .0)) (omega arith)
 
 pub closed-up-spec : {M : Type 1} → statement M
 closed-up-spec =

@@ -7,7 +7,8 @@ use borrow.Author.Tests.{lt-ltb, le-ltb}
 use Rattle.field.specs.declared.Sequence.{Sequence}
 use Rattle.field.specs.Boxes.{orderOf, orderLength}
 use Rattle.field.specs.Edits.{before, removed}
-use Rattle.field.proofs.Shapes.{unmapped, order-fits}
+use Rattle.field.proofs.Known.{sequence-known}
+use Rattle.field.proofs.Shapes.{order-fits}
 use borrow.Author.Needs.{needs}
 use native.Mathlib.Omega.{arith}
 use Rattle.field.proofs.edits.removed.Statement.{statement}
@@ -36,7 +37,7 @@ closed-up-requires : tie.Need-closed-up-requires
 unfolding orderLength
 closed-up-requires c κs =
     let s = c .before .before .before .before in
-    let fits = order-fits (s .args .s) (unmapped _ (s .args .s .numbers) (s .good .0 .1 .1 .0 .1 .0 .1)) in
+    let fits = order-fits (s .args .s) (sequence-known (s .args .s) (s .good .0) .places) in
     omega (arith, c .before .before .order-length .ensures)
 
 sub-t8 : tie.Need-sub-t8

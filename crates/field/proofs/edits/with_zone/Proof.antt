@@ -7,7 +7,7 @@ use Rattle.field.specs.Edits.{withZone}
 use Rattle.field.proofs.Arrays.{set-from-one}
 use borrow.Author.Needs.{needs}
 use native.Mathlib.Omega.{arith}
-use Rattle.field.proofs.Shapes.{unmapped}
+use Rattle.field.proofs.Known.{field-known}
 use Rattle.field.proofs.edits.with_zone.Statement.{statement}
 use Rattle.field.proofs.edits.with_zone.Tie as tie
 
@@ -20,7 +20,7 @@ unfolding withZone
 returns-2 c =
     let f = c .before .before .args .f in
     let z = c .before .before .args .zone in
-    let long : length (f .zones) ≡ 13 = unmapped _ (f .zones) (c .before .before .good .0 .1 .1 .0 .1 .0 .1) in
+    let long : length (f .zones) ≡ 13 = field-known f (c .before .before .good .0) .zones in
     let over : length (f .zones) ≤ z - 1 = omega arith in
     let q = c .before .before .args .q in
     simp (set-from-one (f .zones) z q (omega arith), set-out (f .zones) (z - 1) q over)

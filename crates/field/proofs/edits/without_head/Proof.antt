@@ -8,7 +8,7 @@ use Rattle.field.specs.declared.Aircraft.{Aircraft}
 use Rattle.field.specs.Boxes.{nobody}
 use Rattle.field.specs.Edits.{withoutHead}
 use Rattle.field.proofs.Arrays.{four}
-use Rattle.field.proofs.Shapes.{unmapped}
+use Rattle.field.proofs.Known.{zone-known}
 use Rattle.field.proofs.edits.without_head.Statement.{statement}
 use Rattle.field.proofs.edits.without_head.Tie as tie
 
@@ -39,7 +39,7 @@ returns-2 : tie.Need-returns-2
 unfolding withoutHead
 returns-2 c =
     let s = c .before .before .before .before .before .before in
-    let long = unmapped _ (s .args .q .aircraft) (s .good .0 .1 .1 .0 .1 .0 .1) in
+    let long = zone-known (s .args .q) (s .good .0) .places in
     simp (ne-eqb _ _ (c .before .before .before .before .before .if1 .left), c .before .before .before .nobody .ensures, shifted (s .args .q .aircraft) nobody long)
 
 pub without-head-spec : {M : Type 1} → statement M

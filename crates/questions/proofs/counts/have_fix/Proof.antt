@@ -12,7 +12,8 @@ use Rattle.field.specs.declared.Aircraft.{Aircraft}
 use Rattle.field.specs.declared.Zone.{Zone}
 use Rattle.questions.specs.Counts.{haveFix}
 use Rattle.field.specs.Boxes.{queueOf, queueLength}
-use Rattle.field.proofs.Shapes.{unmapped, queue-next, queue-fits}
+use Rattle.field.proofs.Known.{zone-known}
+use Rattle.field.proofs.Shapes.{queue-next, queue-fits}
 use Rattle.questions.proofs.counts.have_fix.Statement.{statement}
 use Rattle.questions.proofs.counts.have_fix.Tie as tie
 
@@ -35,7 +36,7 @@ loop-holds : tie.Need-loop-holds Inv-loop μ-loop
 unfolding queueLength
 loop-holds c =
     let q = c .before .args .t1 in
-    let fits = queue-fits q (unmapped _ (q .aircraft) (c .before .good .0 .1 .1 .0 .1 .0 .1)) in
+    let fits = queue-fits q (zone-known q (c .before .good .0) .places) in
     (omega arith, (omega (arith, c .queue-length .ensures), (c .queue-length .ensures, (omega arith, omega arith))))
 
 mul-a : tie.Need-mul-a Inv-loop μ-loop

@@ -3,6 +3,7 @@ use Prim.Native.Nat.{_+_}
 use native.Mathlib.Omega.{arith}
 use borrow.Author.Needs.{needs}
 use Rattle.questions.specs.Counts.{inArea}
+use Rattle.field.proofs.Known.{field-known}
 use Rattle.questions.proofs.Totals.{how-many-fits}
 use Rattle.questions.proofs.counts.in_area.Statement.{statement}
 use Rattle.questions.proofs.counts.in_area.Tie as tie
@@ -18,7 +19,7 @@ how-many-requires-2 c κs = search needs
 
 add-result : tie.Need-add-result
 add-result c =
-    let few = how-many-fits (c .before .before .args .f) _ (c .before .before .good .0 .1 .1 .0 .1 .1) in
+    let few = how-many-fits (field-known (c .before .before .args .f) (c .before .before .good .0)) in
     let s = c .before .before .args .side in
     record { fits = omega (arith, c .before .how-many .ensures, c .how-many2 .ensures, few s, few (2 + s)) }
 
@@ -30,7 +31,7 @@ how-many-requires-3 c κs = search needs
 
 add-result-2 : tie.Need-add-result-2
 add-result-2 c =
-    let few = how-many-fits (c .before .before .before .args .f) _ (c .before .before .before .good .0 .1 .1 .0 .1 .1) in
+    let few = how-many-fits (field-known (c .before .before .before .args .f) (c .before .before .before .good .0)) in
     let s = c .before .before .before .args .side in
     record {
       fits =
@@ -47,7 +48,7 @@ how-many-requires-4 c κs = search needs
 add-result-3 : tie.Need-add-result-3
 add-result-3 c =
     let b = c .before .before .before .before in
-    let few = how-many-fits (b .args .f) _ (b .good .0 .1 .1 .0 .1 .1) in
+    let few = how-many-fits (field-known (b .args .f) (b .good .0)) in
     let s = b .args .side in
     let first = c .before .before .before .how-many .ensures in
     let second = c .before .before .how-many2 .ensures in

@@ -4,7 +4,7 @@ use Prim.Native.Nat.{_-_, _≤_}
 use native.Mathlib.Omega.{arith}
 use borrow.Author.Needs.{needs}
 use Rattle.questions.specs.Counts.{howMany, inOperation}
-use Rattle.field.proofs.Shapes.{unmapped}
+use Rattle.field.proofs.Known.{field-known}
 use Rattle.questions.proofs.CountReads.{length-read}
 use Rattle.questions.proofs.Totals.{Added, added-none, added-more, added-all, how-many-fits}
 use Rattle.questions.proofs.counts.in_operation.Statement.{statement}
@@ -21,12 +21,14 @@ same : (c : tie.After-queue-length Inv-loop μ-loop) → c .queue-length .result
 same c =
     let start = c .before .before .before .before in
     let f = start .args .t1 in
-    let thirteen = unmapped _ (f .zones) (start .good .0 .1 .1 .0 .1 .0 .1) in
+    let thirteen = field-known f (start .good .0) .zones in
     c .queue-length .ensures ∙ length-read f (c .before .before .before .loop .zone) _ thirteen (omega arith) (omega arith)
 
 -- no more than four are added in a turn
 few : (c : tie.After-queue-length Inv-loop μ-loop) → howMany (c .before .before .before .before .args .t1) (c .before .before .before .loop .zone) ≤ 4
-few c = how-many-fits (c .before .before .before .before .args .t1) _ (c .before .before .before .before .good .0 .1 .1 .0 .1 .1) _
+few c =
+    let start = c .before .before .before .before in
+    how-many-fits (field-known (start .args .t1) (start .good .0)) _
 
 loop-holds : tie.Need-loop-holds Inv-loop μ-loop
 loop-holds c = added-none _ 1 12 (omega arith)

@@ -4,7 +4,7 @@ use Prim.Native.Nat.{_-_, _≤_}
 use native.Mathlib.Omega.{arith}
 use borrow.Author.Needs.{needs}
 use Rattle.questions.specs.Counts.{countedFor, potentialOf}
-use Rattle.field.proofs.Shapes.{unmapped}
+use Rattle.field.proofs.Known.{field-known}
 use Rattle.questions.proofs.CountReads.{counted-read}
 use Rattle.questions.proofs.Totals.{Added, added-none, added-more, added-all, counted-fits}
 use Rattle.questions.proofs.counts.potential_of.Statement.{statement}
@@ -21,13 +21,15 @@ same : (c : tie.After-counted-in Inv-loop μ-loop) → c .counted-in .result ≡
 same c =
     let start = c .before .before .before .before in
     let f = start .args .t1 in
-    let thirteen = unmapped _ (f .zones) (start .good .0 .1 .1 .0 .1 .0 .1) in
+    let thirteen = field-known f (start .good .0) .zones in
     c .counted-in .ensures ∙ counted-read f (start .args .side) (c .before .before .before .loop .zone) _ thirteen (omega arith) (omega arith)
 
 -- no more than four are added in a turn
 few : (c : tie.After-counted-in Inv-loop μ-loop)
     → countedFor (c .before .before .before .before .args .t1) (c .before .before .before .before .args .side) (c .before .before .before .loop .zone) ≤ 4
-few c = counted-fits (c .before .before .before .before .args .t1) _ (c .before .before .before .before .good .0 .1 .1 .0 .1 .1) _ _
+few c =
+    let start = c .before .before .before .before in
+    counted-fits (field-known (start .args .t1) (start .good .0)) _ _
 
 loop-holds : tie.Need-loop-holds Inv-loop μ-loop
 loop-holds c = added-none _ 1 12 (omega arith)

@@ -5,6 +5,7 @@ use native.Mathlib.Omega.{arith}
 use borrow.Author.Needs.{needs}
 use Rattle.field.specs.declared.Field.{Field}
 use Rattle.questions.specs.Counts.{howMany, presentOn, inOperation}
+use Rattle.field.proofs.Known.{field-known}
 use Rattle.questions.proofs.Totals.{how-many-fits, total-fits}
 use Rattle.questions.proofs.counts.present_on.Statement.{statement}
 use Rattle.questions.proofs.counts.present_on.Tie as tie
@@ -24,7 +25,7 @@ add-result : tie.Need-add-result
 unfolding inOperation
 add-result c =
     let s = c .before .before in
-    let few = how-many-fits (s .args .f) _ (s .good .0 .1 .1 .0 .1 .1) in
+    let few = how-many-fits (field-known (s .args .f) (s .good .0)) in
     let runway : c .how-many .result ≤ 4 = subst⁻¹ (λ (n : ℕ). n ≤ 4) (c .how-many .ensures) (few _) in
     record { fits = omega (arith, c .before .in-operation .ensures, total-fits (howMany (s .args .f)) few 1 12) }
 

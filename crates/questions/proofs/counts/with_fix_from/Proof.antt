@@ -4,7 +4,7 @@ use Prim.Native.Nat.{_-_, _≤_}
 use native.Mathlib.Omega.{arith}
 use borrow.Author.Needs.{needs}
 use Rattle.questions.specs.Counts.{howManyWithFix}
-use Rattle.field.proofs.Shapes.{unmapped}
+use Rattle.field.proofs.Known.{field-known}
 use Rattle.questions.proofs.CountReads.{fixes-read}
 use Rattle.questions.proofs.Totals.{Added, added-none, added-more, added-all, with-fix-fits}
 use Rattle.questions.proofs.counts.with_fix_from.Statement.{statement}
@@ -21,13 +21,15 @@ same : (c : tie.After-have-fix Inv-loop μ-loop) → c .have-fix .result ≡ how
 same c =
     let start = c .before .before .before .before in
     let f = start .args .t1 in
-    let thirteen = unmapped _ (f .zones) (start .good .0 .1 .1 .0 .1 .0 .1) in
+    let thirteen = field-known f (start .good .0) .zones in
     c .have-fix .ensures ∙ fixes-read f (start .args .side) (c .before .before .before .loop .zone) _ thirteen (omega arith) (omega arith)
 
 -- no more than four are added in a turn
 few : (c : tie.After-have-fix Inv-loop μ-loop)
     → howManyWithFix (c .before .before .before .before .args .t1) (c .before .before .before .before .args .side) (c .before .before .before .loop .zone) ≤ 4
-few c = with-fix-fits (c .before .before .before .before .args .t1) _ (c .before .before .before .before .good .0 .1 .1 .0 .1 .1) _ _
+few c =
+    let start = c .before .before .before .before in
+    with-fix-fits (field-known (start .args .t1) (start .good .0)) _ _
 
 loop-holds : tie.Need-loop-holds Inv-loop μ-loop
 loop-holds c = added-none _ (c .args .first) 12 (omega arith)

@@ -6,7 +6,8 @@ use native.Mathlib.Omega.{arith}
 use borrow.Author.Needs.{needs}
 use lib.ListN.{length, List·getD-eq-default}
 use Rattle.field.specs.Boxes.{nobody, queueOf, queueLength}
-use Rattle.field.proofs.Shapes.{unmapped, from-one, queue-read, queue-fits}
+use Rattle.field.proofs.Known.{zone-known}
+use Rattle.field.proofs.Shapes.{from-one, queue-read, queue-fits}
 use Rattle.questions.proofs.find.aircraft_in.Statement.{statement}
 use Rattle.questions.proofs.find.aircraft_in.Tie as tie
 
@@ -27,7 +28,7 @@ in-four : (c : tie.Then2) → c .before .before .before .args .place ≤ 4
 unfolding queueLength
 in-four c =
     let q = c .before .before .before .args .t1 in
-    let four = unmapped _ (q .aircraft) (c .before .before .before .good .0 .1 .1 .0 .1 .0 .1) in
+    let four = zone-known q (c .before .before .before .good .0) .places in
     omega (arith, c .before .queue-length .ensures, queue-fits q four)
 
 mul-result : tie.Need-mul-result

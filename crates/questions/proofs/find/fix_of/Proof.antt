@@ -11,7 +11,8 @@ use Rattle.questions.specs.declared.Place.{Place}
 use Rattle.field.specs.Boxes.{nobody, queueOf, inZone}
 use Rattle.questions.specs.Find.{placeOf, aircraftAt, fixOf}
 use Rattle.questions.proofs.FindLaws.{place-within, nobody-nowhere}
-use Rattle.field.proofs.Shapes.{zone-read, unmapped}
+use Rattle.field.proofs.Known.{field-known}
+use Rattle.field.proofs.Shapes.{zone-read}
 use Rattle.questions.proofs.find.fix_of.Statement.{statement}
 use Rattle.questions.proofs.find.fix_of.Tie as tie
 
@@ -52,7 +53,7 @@ returns-2 c =
     let k = c .before .before .before .before in
     let s = k .before in
     let f = s .args .t1 in
-    let thirteen = unmapped _ (f .zones) (s .good .0 .1 .1 .0 .1 .0 .1) in
+    let thirteen = field-known f (s .good .0) .zones in
     let at = k .place-of .result in
     let here = zone-read f (at .zone) _ thirteen (omega arith) (within k) in
     ap (λ (a : Aircraft). a .fix)

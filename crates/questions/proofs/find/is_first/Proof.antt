@@ -6,7 +6,8 @@ use borrow.Author.Needs.{needs}
 use lib.ListN.{length, take, length-take}
 use Rattle.field.specs.Boxes.{orderOf}
 use Rattle.questions.specs.Find.{isHead, isFirst}
-use Rattle.field.proofs.Shapes.{unmapped, order-next}
+use Rattle.field.proofs.Known.{sequence-known}
+use Rattle.field.proofs.Shapes.{order-next}
 use Rattle.questions.proofs.find.is_first.Statement.{statement}
 use Rattle.questions.proofs.find.is_first.Tie as tie
 
@@ -21,7 +22,7 @@ returns-2 : tie.Need-returns-2
 unfolding isFirst orderOf
 returns-2 c =
     let s = c .before .before .args .t1 in
-    let four = unmapped _ (s .numbers) (c .before .before .good .0 .1 .1 .0 .1 .0 .1) in
+    let four = sequence-known s (c .before .before .good .0) .places in
     let h : 0 < length (orderOf s) = omega (arith, length-take (s .length) (s .numbers), c .before .if1 .left) in
     sym (ap (isHead (c .before .before .args .number)) (order-next s 0 h))
 

@@ -11,7 +11,8 @@ use lib.ListN.{length, drop, getD, drop-of-length-le}
 use Rattle.field.specs.declared.Sequence.{Sequence}
 use Rattle.field.specs.Boxes.{orderOf, orderLength}
 use Rattle.questions.specs.Find.{aheadOf, leaderOf}
-use Rattle.field.proofs.Shapes.{unmapped, order-next, order-fits}
+use Rattle.field.proofs.Known.{sequence-known}
+use Rattle.field.proofs.Shapes.{order-next, order-fits}
 use Rattle.questions.proofs.find.leader_of.Statement.{statement}
 use Rattle.questions.proofs.find.leader_of.Tie as tie
 
@@ -35,7 +36,7 @@ loop-holds : tie.Need-loop-holds Inv-loop μ-loop
 unfolding orderLength leaderOf
 loop-holds c =
     let s = c .before .args .t1 in
-    let fits = order-fits s (unmapped _ (s .numbers) (c .before .good .0 .1 .1 .0 .1 .0 .1)) in
+    let fits = order-fits s (sequence-known s (c .before .good .0) .places) in
     (omega arith, (omega (arith, c .order-length .ensures), (c .order-length .ensures, refl)))
 
 mul-n : tie.Need-mul-n Inv-loop μ-loop

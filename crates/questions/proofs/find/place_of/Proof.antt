@@ -17,7 +17,8 @@ use Rattle.questions.specs.declared.Place.{Place}
 use Rattle.field.specs.Boxes.{zonesFrom, zoneOf, queueOf, queueLength, inZone}
 use Rattle.questions.specs.Counts.{howMany}
 use Rattle.questions.specs.Find.{nowhere, placeFrom, findIn, placeOf}
-use Rattle.field.proofs.Shapes.{queue-next, zone-read, unmapped}
+use Rattle.field.proofs.Known.{field-known}
+use Rattle.field.proofs.Shapes.{queue-next, zone-read}
 use Rattle.questions.proofs.CountReads.{length-read}
 use Rattle.questions.proofs.Totals.{how-many-fits}
 use Rattle.questions.proofs.find.place_of.Statement.{statement}
@@ -132,9 +133,10 @@ loop-holds c =
     let start = c .before .before .before .before in
     let f = start .args .t1 in
     let z = c .before .before .before .zones .zone in
-    let thirteen = unmapped _ (f .zones) (start .good .0 .1 .1 .0 .1 .0 .1) in
+    let known = field-known f (start .good .0) in
+    let thirteen = known .zones in
     let many : c .queue-length .result ≡ howMany f z = c .queue-length .ensures ∙ length-read f z _ thirteen (omega arith) (omega arith) in
-    let four = how-many-fits f _ (start .good .0 .1 .1 .0 .1 .1) z in
+    let four = how-many-fits known z in
     record {
       passed = c .before .before .before .zones .inv;
       zone = omega arith;
