@@ -13,6 +13,7 @@ use field::boxes::queue_length;
 use leg::Progress;
 use leg::legal;
 use leg::within;
+use limits::FASTEST;
 use numbers::numbers_differ;
 use numbers::sequence_exact;
 use questions::counts::how_many;
@@ -238,7 +239,7 @@ pub fn bound_f(f: Field) -> bool
     true
 }
 
-// Whether an aircraft of a zone has a side as fix, a speed from 1 to 512, and flies within the zone's leg where the zone is flown in
+// Whether an aircraft of a zone has a side as fix, a speed from 1 to the highest, and flies within the zone's leg where the zone is flown in
 // and waits elsewhere.
 pub fn fits_zone(legs: Legs, zone: usize, a: Aircraft) -> bool
     ensures { λ r. ⌜ r ≡ fitsZone legs zone a ⌝ }
@@ -249,7 +250,7 @@ pub fn fits_zone(legs: Legs, zone: usize, a: Aircraft) -> bool
     if a.speed < 1 {
         return false;
     }
-    if 512 < a.speed {
+    if FASTEST < a.speed {
         return false;
     }
     let p = a.progress;

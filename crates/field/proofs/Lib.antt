@@ -3,3 +3,4 @@ pub mod Lists
 pub mod Arrays
 pub mod Parts
 pub mod Shapes
+pub mod Arrival

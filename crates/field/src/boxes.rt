@@ -6,7 +6,7 @@ use crate::Sequence;
 use crate::Zone;
 use leg::Progress;
 ghost use mathlib.Core.Path.{_≡_};
-ghost use Rattle.field.specs.Boxes.{isSide, opposite, sideOf, isFlyingZone, nobody, emptyZone, zoneOf, queueLength, orderLength, progressInto, entering, withProgress, withFix, legOf, flownOutIn, emptyField};
+ghost use Rattle.field.specs.Boxes.{isSide, opposite, sideOf, isFlyingZone, nobody, emptyZone, zoneOf, queueLength, orderLength, progressInto, entering, withProgress, arrived, withFix, legOf, flownOutIn, emptyField};
 
 // Whether a number is a side.
 pub fn is_side(side: u8) -> bool
@@ -127,6 +127,13 @@ pub fn with_progress(a: Aircraft, p: Progress) -> Aircraft
         speed: a.speed,
         progress: p,
     }
+}
+
+// An aircraft as it comes into a zone from another zone.
+pub fn arrived(zone: usize, a: Aircraft) -> Aircraft
+    ensures { λ r. ⌜ r ≡ arrived zone a ⌝ }
+{
+    with_progress(a, progress_into(zone))
 }
 
 // An aircraft with another fix.
