@@ -22,6 +22,7 @@ ghost use mathlib.Core.Path.{_≡_};
 ghost use Prim.Native.Nat.{_≤_};
 ghost use mathlib.Core.List.{_++_};
 ghost use lib.ListN.{length, drop};
+ghost use Rattle.limits.specs.Limits.{mostRequests};
 ghost use Rattle.practice.specs.Requests.{requestsOf};
 ghost use Rattle.session.specs.Text.{room};
 ghost use Rattle.session.specs.Report.{legsInMiles, sessionReport, reportOf, Written};
@@ -44,7 +45,7 @@ fn legs_in_miles(legs: FileLegs) -> Legs
 // Plays the requests of a body from the empty field, and puts the whole report: their lines and the last line.
 // Two fields take turns, the one before a request and the one after it.
 fn play_all(body: &[u8], legs: Legs, out: &mut Buffer) -> usize
-    requires { ⌜ length (requestsOf (now body)) ≤ 4096 ⌝ }
+    requires { ⌜ length (requestsOf (now body)) ≤ mostRequests ⌝ }
     ensures { λ r. ⌜ Written (sessionReport legs (requestsOf (now (body .entry)))) (now (out .entry)) r (now (out .exit)) ⌝ }
 {
     let empty = empty_field(legs);
