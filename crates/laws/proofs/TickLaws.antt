@@ -1,5 +1,5 @@
--- Laws of a tick: what it does to every queue, and that it keeps the bounds of any field, also of one that no session reaches: so a tick is never
--- refused for a bound. Assumes nothing.
+-- Laws of a tick: what it does to every queue, and that it keeps the bounds of any field within them (`within-ticked`, for change 2.6 of document 02).
+-- Assumes nothing.
 use mathlib.Core.Path.{_≡_, refl, sym, ap, _∙_, subst, fun-ext}
 use mathlib.Core.Logic.{_⊎_, inl, inr}
 use mathlib.Core.Bool.{Bool, true, false, cond, not, _&&_, true≢false}
@@ -56,7 +56,7 @@ every-kept p g h [] = refl
 every-kept p g h (x ∷ l) = ap (λ (b : Bool). b && every p (map g l)) (h x) ∙ ap (λ (b : Bool). p x && b) (every-kept p g h l)
 
 -- a test that follows from another, of each element
-every-then : {A B : Type 0} (p : A → Bool) (q : B → Bool) (g : A → B) → ((a : A) → T (p a) → T (q (g a))) → (l : List A) → T (every p l) → T (every q (map g l))
+pub every-then : {A B : Type 0} (p : A → Bool) (q : B → Bool) (g : A → B) → ((a : A) → T (p a) → T (q (g a))) → (l : List A) → T (every p l) → T (every q (map g l))
 every-then p q g h [] t = tt
 every-then p q g h (x ∷ l) t = and-i (q (g x)) (every q (map g l)) (h x (and-l (p x) (every p l) t)) (every-then p q g h l (and-r (p x) (every p l) t))
 

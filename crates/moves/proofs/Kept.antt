@@ -5,18 +5,18 @@ use mathlib.Core.List.{List, [], _∷_, _++_, map, append-assoc}
 use Prim.Native.Nat.{ℕ, _≤_}
 use native.Mathlib.Omega.{arith}
 use lib.Dec.{T}
-use lib.Ieee.Fits.{and-i, and-l, and-r}
+use lib.Ieee.Fits.{and-i, and-r}
 use Rattle.limits.specs.Limits.{longestTick}
 use Rattle.leg.specs.Ticks.{Between}
 use Rattle.field.specs.declared.Aircraft.{Aircraft}
 use Rattle.field.specs.declared.Legs.{Legs}
 use Rattle.field.specs.Boxes.{isSide}
 use Rattle.field.specs.Lists.{isIn, every, allDifferent}
-use Rattle.bounds.specs.Bounds.{fitsZone, legalLegs}
+use Rattle.bounds.specs.Bounds.{fitsZone}
 use Rattle.order.specs.Model.{Side, right, left, opp, num, count, okay, firstFix}
 use Rattle.field.proofs.Lists.{absent-both}
 use Rattle.line.proofs.Lists.{map-append, every-append, every-left, every-right, different-with}
-use Rattle.laws.proofs.TickLaws.{fix-kept, fits-ticked}
+use Rattle.laws.proofs.TickLaws.{every-then, fix-kept, fits-ticked}
 use Rattle.line.proofs.Line.{Placed, zonesIn, numbersOf}
 use Rattle.line.proofs.Counted.{Alternates}
 use Rattle.questions.proofs.FindLaws.{numbers}
@@ -137,13 +137,6 @@ alternates-ticked : (legs : Legs) (amount : ℕ) (f : Side) (line : List Placed)
 alternates-ticked legs amount f [] al = tt
 alternates-ticked legs amount f (e ∷ line) al = (fix-kept legs amount (e .zone) (e .aircraft) ∙ al .0, alternates-ticked legs amount (opp f) line (al .1))
 
-line-ticked : (legs : Legs) → T (legalLegs legs) → (amount : ℕ) → Between 1 longestTick amount → (line : List Placed) → T (every (placedFits legs) line) → T (every (placedFits legs) (map (tickPlaced legs amount) line))
-line-ticked legs l amount r [] h = tt
-line-ticked legs l amount r (e ∷ line) h =
-    and-i (placedFits legs (tickPlaced legs amount e)) (every (placedFits legs) (map (tickPlaced legs amount) line))
-    (fits-ticked legs amount (e .zone) l r (e .aircraft) (and-l (placedFits legs e) (every (placedFits legs) line) h))
-    (line-ticked legs l amount r line (and-r (placedFits legs e) (every (placedFits legs) line) h))
-
 pub ticked-orderly : (f : Side) (line : List Placed) (runway : List Aircraft) (legs : Legs) (amount : ℕ) → Between 1 longestTick amount → Orderly f line runway legs → Orderly f (map (tickPlaced legs amount) line) runway legs
 ticked-orderly f line runway legs amount r o =
     record {
@@ -151,7 +144,7 @@ ticked-orderly f line runway legs amount r o =
       alternates = alternates-ticked legs amount f line (o .alternates);
       nonzeros = subst (λ (l : List ℕ). T (every nonzero (l ++ numbers runway))) (sym (numbers-same legs amount line)) (o .nonzeros);
       different = subst (λ (l : List ℕ). T (allDifferent (l ++ numbers runway))) (sym (numbers-same legs amount line)) (o .different);
-      fit-line = line-ticked legs (o .legal) amount r line (o .fit-line);
+      fit-line = every-then (placedFits legs) (placedFits legs) (tickPlaced legs amount) (λ e. fits-ticked legs amount (e .zone) (o .legal) r (e .aircraft)) line (o .fit-line);
       fit-runway = o .fit-runway;
       one-landed = o .one-landed;
       legal = o .legal;
