@@ -17,6 +17,8 @@ use questions::find::is_first;
 use questions::find::leader_zone;
 use questions::find::place_of;
 use request::Request;
+use request::in_range;
+use request::rule_of;
 ghost use mathlib.Core.Path.{_≡_};
 ghost use mathlib.Core.Bool.{cond, _||_};
 ghost use mathlib.Core.List.{[], _∷_};
@@ -40,22 +42,8 @@ pub fn zone_before(f: Field, r: Request) -> usize
 fn starts_from(kind: u8, zone: usize) -> bool
     ensures { λ r. ⌜ r ≡ startsFrom kind zone ⌝ }
 {
-    match zone {
-        1..=2 => kind == 3,
-        3..=6 => kind == 4,
-        7..=8 => kind == 11,
-        9..=10 => kind == 5,
-        11 => match kind {
-            6 | 9 => true,
-            _ => false,
-        },
-        12 => match kind {
-            7 | 10 => true,
-            _ => false,
-        },
-        13 => kind == 8,
-        _ => false,
-    }
+    let rule = rule_of(kind);
+    in_range(rule.zones, zone)
 }
 
 // Whether the aircraft with a number is first in sequence, or its leader is on the approach.

@@ -1,6 +1,8 @@
 // The practice file, from the bytes that the caller lends: the number that refuses it, its two sections as stretches of those
 // bytes, and the legs and the requests that they hold.
+use request::Range;
 use request::Request;
+use request::in_range;
 ghost use mathlib.Core.Path.{_≡_};
 ghost use Prim.Native.Nat.{_+_, _≤_};
 ghost use lib.ListN.{length};
@@ -108,16 +110,17 @@ fn legs_of(body: &[u8]) -> FileLegs
 fn legs_allowed(legs: FileLegs) -> bool
     ensures { λ r. ⌜ r ≡ legsAllowed legs ⌝ }
 {
-    if !request::within(1, 4096, legs.base) {
+    let allowed = Range(1, 4096);
+    if !in_range(allowed, legs.base as usize) {
         return false;
     }
-    if !request::within(1, 4096, legs.intermediate) {
+    if !in_range(allowed, legs.intermediate as usize) {
         return false;
     }
-    if !request::within(1, 4096, legs.last) {
+    if !in_range(allowed, legs.last as usize) {
         return false;
     }
-    request::within(1, 4096, legs.missed)
+    in_range(allowed, legs.missed as usize)
 }
 
 // The number that refuses the file; 0 where it is accepted.

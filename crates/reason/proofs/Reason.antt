@@ -1,13 +1,14 @@
 -- The reason holds after every list of requests from an empty field and is kept by one more; so whoever heads final always has room at its
 -- side. Assumes nothing.
-use mathlib.Core.Path.{_≡_, refl, sym, ap, _∙_, subst}
+use mathlib.Core.Path.{_≡_, sym, ap, _∙_, subst}
 use mathlib.Core.Logic.{inl, inr}
-use mathlib.Core.Bool.{Bool, true, false, _||_, false≢true}
+use mathlib.Core.Bool.{Bool, true, false≢true}
 use mathlib.Core.List.{List, [], _∷_, _++_}
 use Prim.Native.Nat.{ℕ, _≤_}
 use lib.Dec.{T, eqb}
 use lib.Ieee.Fits.{and-i}
-use borrow.Author.Tests.{eqb-false}
+use native.Mathlib.Omega.{arith}
+use borrow.Author.Tests.{eq-eqb, eqb-false}
 use Rattle.request.specs.Input.{firstRefused, inputNumber}
 use Rattle.request.specs.declared.Request.{Request}
 use Rattle.request.proofs.Tests as input
@@ -85,11 +86,7 @@ missing f r k e =
 
 starts-final : (z : ℕ) → startsFrom 10 z ≡ true → eqb z 12 ≡ true
 unfolding startsFrom
-starts-final z e = go (eqb z 12) e
-  where
-    go : (b : Bool) → (b || false) ≡ true → b ≡ true
-    go true e = refl
-    go false e = e
+starts-final z e = let low = input.within-low 12 12 z e in let high = input.within-high 12 12 z e in eq-eqb z 12 (omega arith)
 
 -- when an aircraft on final misses, its side's area holds at most one aircraft: of any field that has the reason
 pub miss-finds-room : (f : Field) → Reason f → (r : Request) → r .kind ≡ 10 → stepOf f r .answer .number ≡ 0 → inArea f (fixOf f (r .number)) ≤ 1

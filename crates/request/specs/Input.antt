@@ -1,10 +1,14 @@
--- What the contracts of `src/` cite: a request's parts from its bytes, and document 01's refusals 1 to 4. Definitions only.
+-- What the contracts of `src/` cite: a request's parts from its bytes, the rule of each kind, and document 01's refusals 1 to 4.
+-- Definitions only.
 use Prim.Native.Nat.{ℕ, _+_, _*_}
 use mathlib.Core.List.{List, [], _∷_}
-use mathlib.Core.Bool.{Bool, cond, not, _&&_}
+use mathlib.Core.Bool.{Bool, cond, not, _&&_, _||_}
 use lib.Dec.{leb, eqb}
 use lib.ListN.{getD}
+use Rattle.limits.specs.Limits.{longestTick, fastest}
 use Rattle.request.specs.declared.Request.{Request}
+use Rattle.request.specs.declared.Range.{Range}
+use Rattle.request.specs.declared.KindRule.{KindRule}
 
 -- "numbers little-endian": a number of 16 bits
 abbrev pub word : ℕ → ℕ → ℕ
@@ -36,21 +40,64 @@ isEntry kind = within 1 2 kind
 abbrev pub isTick : ℕ → Bool
 isTick kind = eqb kind 12
 
--- "1 kind not 1 to 12"
-unfoldable pub kindAllowed : Request → Bool
-kindAllowed r = within 1 12 (r .kind)
+-- the numbers from low to high; none where high is below low
+abbrev pub range : ℕ → ℕ → Range
+range low high = (low, high)
 
--- "2 side: kinds 1, 2 need 1 or 2, others 0"
+-- n is in a range
+abbrev pub inRange : Range → ℕ → Bool
+inRange r n = within (r .0) (r .1) n
+
+-- the zones that each kind starts from: "1, 2 holding at 3000 feet (right, left); 3, 4 holding at 2000 feet; 5, 6 lateral entry;
+-- 7, 8 missed approach; 9, 10 base; 11 intermediate; 12 final; 13 runway"; none for an entry and a tick
+abbrev pub startingZones : ℕ → Range
+startingZones kind =
+    -- "3 descend, 3000 to 2000"
+    cond (eqb kind 3) (range 1 2)
+    -- "4 approach, from 2000 or lateral"
+    (cond (eqb kind 4) (range 3 6)
+    -- "5 merge, base to intermediate"
+    (cond (eqb kind 5) (range 9 10)
+    -- "6 intermediate to final", "9 exit, intermediate to 0"
+    (cond (eqb kind 6 || eqb kind 9) (range 11 11)
+    -- "7 land, final to an empty runway", "10 miss, from final"
+    (cond (eqb kind 7 || eqb kind 10) (range 12 12)
+    -- "8 taxi, runway to 0"
+    (cond (eqb kind 8) (range 13 13)
+    -- "11 hold, from the missed zone"
+    (cond (eqb kind 11) (range 7 8) (range 1 0)))))))
+
+-- the rule of each kind: what refusals 1 to 4 and 13 ask of a request of this kind
+abbrev pub ruleOf : ℕ → KindRule
+ruleOf kind =
+    record {
+      -- "1 kind not 1 to 12"
+      known = within 1 12 kind;
+      -- "2 side: kinds 1, 2 need 1 or 2, others 0"
+      sides = cond (isEntry kind) (range 1 2) (range 0 0);
+      -- "an aircraft is meant (kinds 1 to 11)"
+      aircraft = not (isTick kind);
+      -- "4 amount: speed 1 to 512 for kinds 1, 2; 1 to 64 for a tick; else 0"
+      amounts = cond (isEntry kind) (range 1 fastest) (cond (isTick kind) (range 1 longestTick) (range 0 0));
+      -- "13 not in a zone the kind starts from"
+      zones = startingZones kind;
+    }
+
+-- 1: a kind that is one of them
+unfoldable pub kindAllowed : Request → Bool
+kindAllowed r = ruleOf (r .kind) .known
+
+-- 2: a side of the kind's
 unfoldable pub sideAllowed : Request → Bool
-sideAllowed r = cond (isEntry (r .kind)) (within 1 2 (r .side)) (eqb (r .side) 0)
+sideAllowed r = inRange (ruleOf (r .kind) .sides) (r .side)
 
 -- "3 number: 0 where an aircraft is meant (kinds 1 to 11), or not 0 in a tick"
 unfoldable pub numberAllowed : Request → Bool
-numberAllowed r = cond (isTick (r .kind)) (eqb (r .number) 0) (not (eqb (r .number) 0))
+numberAllowed r = cond (ruleOf (r .kind) .aircraft) (not (eqb (r .number) 0)) (eqb (r .number) 0)
 
--- "4 amount: speed 1 to 512 for kinds 1, 2; 1 to 64 for a tick; else 0"
+-- 4: an amount of the kind's
 unfoldable pub amountAllowed : Request → Bool
-amountAllowed r = cond (isEntry (r .kind)) (within 1 512 (r .amount)) (cond (isTick (r .kind)) (within 1 64 (r .amount)) (eqb (r .amount) 0))
+amountAllowed r = inRange (ruleOf (r .kind) .amounts) (r .amount)
 
 -- "Turned away by the request": 0, or the first of 1 to 4 that applies
 unfoldable pub inputNumber : Request → ℕ

@@ -4,7 +4,7 @@ use mathlib.Core.List.{List, [], _∷_, _++_}
 use Prim.Native.Nat.{ℕ}
 use lib.Dec.{eqb, leb, ltb}
 use lib.ListN.{length}
-use Rattle.request.specs.Input.{within}
+use Rattle.request.specs.Input.{within, inRange, ruleOf}
 use Rattle.request.specs.declared.Request.{Request}
 use Rattle.field.specs.declared.Aircraft.{Aircraft}
 use Rattle.field.specs.declared.Field.{Field}
@@ -19,18 +19,9 @@ use Rattle.field.specs.Edits.{withoutHead, withTail, appended, removed, withZon
 abbrev pub zoneBefore : Field → Request → ℕ
 zoneBefore f r = placeOf f (r .number) .zone
 
--- the zones that each kind starts from
+-- a zone that the kind starts from, by the rule of the kind
 unfoldable pub startsFrom : ℕ → ℕ → Bool
-startsFrom kind z =
-    (eqb kind 3 && within 1 2 z)
-    || (eqb kind 4 && within 3 6 z)
-    || (eqb kind 5 && within 9 10 z)
-    || (eqb kind 6 && eqb z intermediate)
-    || (eqb kind 7 && eqb z finalApproach)
-    || (eqb kind 8 && eqb z runway)
-    || (eqb kind 9 && eqb z intermediate)
-    || (eqb kind 10 && eqb z finalApproach)
-    || (eqb kind 11 && within 7 8 z)
+startsFrom kind z = inRange (ruleOf kind .zones) z
 
 -- ---- needs
 

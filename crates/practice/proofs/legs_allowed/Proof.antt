@@ -9,52 +9,68 @@ use Rattle.practice.proofs.legs_allowed.Statement.{statement}
 use Rattle.practice.proofs.legs_allowed.Tie as tie
 
 -- the tests that were passed
-base : (c : tie.Else1) → within 1 4096 (c .before .before .args .legs .base) ≡ true
-base c = passes (c .before .within .ensures) (c .if1 .left)
+base : (c : tie.Else1) → within 1 4096 (c .before .before .before .args .legs .base) ≡ true
+base c = passes (c .before .in-range .ensures) (c .if1 .left)
 
-intermediate : (c : tie.Else2) → within 1 4096 (c .before .before .before .before .args .legs .intermediate) ≡ true
-intermediate c = passes (c .before .within2 .ensures) (c .if2 .left)
+intermediate : (c : tie.Else2) → within 1 4096 (c .before .before .before .before .before .before .args .legs .intermediate) ≡ true
+intermediate c = passes (c .before .in-range2 .ensures) (c .if2 .left)
 
-last : (c : tie.Else3) → within 1 4096 (c .before .before .before .before .before .before .args .legs .last) ≡ true
-last c = passes (c .before .within3 .ensures) (c .if3 .left)
+last : (c : tie.Else3) → within 1 4096 (c .before .before .before .before .before .before .before .before .before .args .legs .last) ≡ true
+last c = passes (c .before .in-range3 .ensures) (c .if3 .left)
 
-within-requires : tie.Need-within-requires
-within-requires c κs = search needs
+cast-in-range : tie.Need-cast-in-range
+cast-in-range c = search needs
+
+in-range-requires : tie.Need-in-range-requires
+in-range-requires c κs = search needs
 
 returns : tie.Need-returns
 unfolding legsAllowed
-returns c = simp (fails (c .before .within .ensures) (c .if1 .taken))
+returns c = simp (fails (c .before .in-range .ensures) (c .if1 .taken))
 
-within-requires-2 : tie.Need-within-requires-2
-within-requires-2 c κs = search needs
+cast-in-range-2 : tie.Need-cast-in-range-2
+cast-in-range-2 c = search needs
+
+in-range-requires-2 : tie.Need-in-range-requires-2
+in-range-requires-2 c κs = search needs
 
 returns-2 : tie.Need-returns-2
 unfolding legsAllowed
-returns-2 c = simp (base (c .before .before), fails (c .before .within2 .ensures) (c .if2 .taken))
+returns-2 c = simp (base (c .before .before .before), fails (c .before .in-range2 .ensures) (c .if2 .taken))
 
-within-requires-3 : tie.Need-within-requires-3
-within-requires-3 c κs = search needs
+cast-in-range-3 : tie.Need-cast-in-range-3
+cast-in-range-3 c = search needs
+
+in-range-requires-3 : tie.Need-in-range-requires-3
+in-range-requires-3 c κs = search needs
 
 returns-3 : tie.Need-returns-3
 unfolding legsAllowed
-returns-3 c = simp (base (c .before .before .before .before), intermediate (c .before .before), fails (c .before .within3 .ensures) (c .if3 .taken))
+returns-3 c = simp (base (c .before .before .before .before .before .before), intermediate (c .before .before .before), fails (c .before .in-range3 .ensures) (c .if3 .taken))
 
-within-requires-4 : tie.Need-within-requires-4
-within-requires-4 c κs = search needs
+cast-in-range-4 : tie.Need-cast-in-range-4
+cast-in-range-4 c = search needs
+
+in-range-requires-4 : tie.Need-in-range-requires-4
+in-range-requires-4 c κs = search needs
 
 returns-4 : tie.Need-returns-4
 unfolding legsAllowed
-returns-4 c = simp (base (c .before .before .before .before .before), intermediate (c .before .before .before), last (c .before)) (c .within4 .ensures)
+returns-4 c = simp (base (c .before .before .before .before .before .before .before .before), intermediate (c .before .before .before .before .before), last (c .before .before)) (c .in-range4 .ensures)
 
 pub legs-allowed-spec : {M : Type 1} → statement M
 legs-allowed-spec =
     tie.close
     (tie.spec
-    within-requires
+    cast-in-range
+    in-range-requires
     returns
-    within-requires-2
+    cast-in-range-2
+    in-range-requires-2
     returns-2
-    within-requires-3
+    cast-in-range-3
+    in-range-requires-3
     returns-3
-    within-requires-4
+    cast-in-range-4
+    in-range-requires-4
     returns-4)

@@ -1,78 +1,132 @@
--- `request::input_number` meets its contract: each arm's kinds say which tests the definition makes. Assumes nothing.
-use mathlib.Core.Path.{sym, ap, _∙_}
-use mathlib.Core.List.{[], _∷_}
-use mathlib.Core.Bool.{Bool, not}
-use native.Mathlib.Omega.{arith}
+-- `request::input_number` meets its contract, test by test. Assumes nothing.
+use mathlib.Core.Path.{_≡_, refl, sym, ap, _∙_}
+use mathlib.Core.Bool.{Bool, true, false, cond, not, Bool·beq}
 use lib.Dec.{eqb}
 use borrow.Author.Needs.{needs}
-use Rattle.request.specs.Input.{within, firstRefused}
-use Rattle.request.proofs.Tests.{within-below, within-above}
-use Rattle.request.proofs.ByKind.{of-entry, of-move, of-tick, of-no-kind}
+use borrow.Author.Tests.{not-true, not-false}
+use Rattle.request.specs.declared.Request.{Request}
+use Rattle.request.specs.declared.KindRule.{KindRule}
+use Rattle.request.specs.Input.{inRange, ruleOf, kindAllowed, sideAllowed, numberAllowed, amountAllowed, inputNumber}
 use Rattle.request.proofs.input_number.Statement.{statement}
 use Rattle.request.proofs.input_number.Tie as tie
 
-within-requires : tie.Need-within-requires
-within-requires c κs = search needs
+-- ---- the way back: to the test passed before, to the rule, and to the request
+abbrev to-side : tie.Else3 → tie.Else2
+to-side c = c .before .before .before
 
-first-refused-requires : tie.Need-first-refused-requires
-first-refused-requires c κs = search needs
+abbrev to-kind : tie.Else2 → tie.Else1
+to-kind c = c .before .before .before
 
-cast-within : tie.Need-cast-within
-cast-within c = search needs
+abbrev to-rule : tie.Else1 → tie.After-rule-of
+to-rule c = c .before .before
 
-within-requires-2 : tie.Need-within-requires-2
-within-requires-2 c κs = search needs
+abbrev asked : tie.After-rule-of → Request
+asked c = c .before .args .r
 
-within-requires-3 : tie.Need-within-requires-3
-within-requires-3 c κs = search needs
+-- ---- each test of the code is the definition's
+kind : (c : tie.After-rule-of) → c .rule-of .result .known ≡ kindAllowed (asked c)
+unfolding kindAllowed
+kind c = ap (λ (rule : KindRule). rule .known) (c .rule-of .ensures)
 
-first-refused-requires-2 : tie.Need-first-refused-requires-2
-first-refused-requires-2 c κs = search needs
+side : (c : tie.After-in-range) → c .in-range .result ≡ sideAllowed (asked (to-rule (c .before .before)))
+unfolding sideAllowed
+side c =
+    let at = to-rule (c .before .before) in
+    c .in-range .ensures ∙ ap (λ (rule : KindRule). inRange (rule .sides) (asked at .side)) (at .rule-of .ensures)
 
-first-refused-requires-3 : tie.Need-first-refused-requires-3
-first-refused-requires-3 c κs = search needs
+-- a number that is not 0 just where an aircraft is meant
+number-as : (aircraft zero : Bool) → Bool·beq aircraft (not zero) ≡ cond aircraft (not zero) zero
+number-as true true = refl
+number-as true false = refl
+number-as false true = refl
+number-as false false = refl
+
+number : (c : tie.After-struct-known4) → let at = to-rule (to-kind (c .before .before)) in
+    Bool·beq (at .rule-of .result .aircraft) (not (eqb (asked at .number) 0)) ≡ numberAllowed (asked at)
+unfolding numberAllowed
+number c =
+    let at = to-rule (to-kind (c .before .before)) in
+    let zero = eqb (asked at .number) 0 in
+    ap (λ (rule : KindRule). Bool·beq (rule .aircraft) (not zero)) (at .rule-of .ensures) ∙ number-as (ruleOf (asked at .kind) .aircraft) zero
+
+amount : (c : tie.After-in-range2) → c .in-range2 .result ≡ amountAllowed (asked (to-rule (to-kind (to-side (c .before .before)))))
+unfolding amountAllowed
+amount c =
+    let at = to-rule (to-kind (to-side (c .before .before))) in
+    c .in-range2 .ensures ∙ ap (λ (rule : KindRule). inRange (rule .amounts) (asked at .amount)) (at .rule-of .ensures)
+
+-- ---- each test that was passed
+kind-passed : (c : tie.Else1) → kindAllowed (asked (to-rule c)) ≡ true
+kind-passed c = sym (kind (to-rule c)) ∙ not-false _ (c .if1 .left)
+
+side-passed : (c : tie.Else2) → sideAllowed (asked (to-rule (to-kind c))) ≡ true
+side-passed c = sym (side (c .before)) ∙ not-false _ (c .if2 .left)
+
+number-passed : (c : tie.Else3) → numberAllowed (asked (to-rule (to-kind (to-side c)))) ≡ true
+number-passed c = sym (number (c .before)) ∙ not-false _ (c .if3 .left)
+
+-- ---- the needs
+rule-of-requires : tie.Need-rule-of-requires
+rule-of-requires c κs = search needs
 
 returns : tie.Need-returns
+unfolding inputNumber
 returns c =
-    let r = c .before .before .before .before .before .args .r in
-    c .first-refused .ensures
-    ∙ ap (λ (b : Bool). firstRefused ((2, eqb (r .side) 0) ∷ (3, eqb (r .number) 0) ∷ (4, b) ∷ [])) (c .before .within .ensures)
-    ∙ sym (of-tick r (c .before .before .before .before .match .keys1))
+    let at = c .before .before in
+    let failed : kindAllowed (asked at) ≡ false = sym (kind at) ∙ not-true _ (c .if1 .taken) in
+    sym (simp failed)
+
+cast-in-range : tie.Need-cast-in-range
+cast-in-range c = search needs
+
+in-range-requires : tie.Need-in-range-requires
+in-range-requires c κs = search needs
 
 returns-2 : tie.Need-returns-2
+unfolding inputNumber
 returns-2 c =
-    let r = c .before .before .before .before .before .before .before .before .args .r in
-    c .first-refused2 .ensures
-    ∙ ap (λ (b : Bool). firstRefused ((2, b) ∷ (3, not (eqb (r .number) 0)) ∷ (4, c .before .within3 .result) ∷ [])) (c .before .before .before .within2 .ensures)
-    ∙ ap (λ (b : Bool). firstRefused ((2, within 1 2 (r .side)) ∷ (3, not (eqb (r .number) 0)) ∷ (4, b) ∷ [])) (c .before .within3 .ensures)
-    ∙ sym (of-entry r (omega arith) (omega arith))
+    let at = c .before .before .before in
+    let failed : sideAllowed (asked (to-rule at)) ≡ false = sym (side (c .before)) ∙ not-true _ (c .if2 .taken) in
+    sym (simp (kind-passed at, failed))
 
 returns-3 : tie.Need-returns-3
+unfolding inputNumber
 returns-3 c =
-    let r = c .before .before .before .before .before .before .before .before .args .r in
-    c .first-refused3 .ensures ∙ sym (of-move r (omega arith) (omega arith))
+    let at = c .before .before .before in
+    let failed : numberAllowed (asked (to-rule (to-kind at))) ≡ false = sym (number (c .before)) ∙ not-true _ (c .if3 .taken) in
+    sym (simp (kind-passed (to-kind at), side-passed at, failed))
+
+cast-in-range-2 : tie.Need-cast-in-range-2
+cast-in-range-2 c = search needs
+
+in-range-requires-2 : tie.Need-in-range-requires-2
+in-range-requires-2 c κs = search needs
 
 returns-4 : tie.Need-returns-4
-returns-4 c = let r = c .before .before .args .r in sym (of-no-kind r (within-below 1 12 (r .kind) (c .if1 .taken)))
+unfolding inputNumber
+returns-4 c =
+    let at = c .before .before .before in
+    let failed : amountAllowed (asked (to-rule (to-kind (to-side at)))) ≡ false = sym (amount (c .before)) ∙ not-true _ (c .if4 .taken) in
+    sym (simp (kind-passed (to-kind (to-side at)), side-passed (to-side at), number-passed at, failed))
 
 returns-5 : tie.Need-returns-5
+unfolding inputNumber
 returns-5 c =
-    let r = c .before .before .before .before .args .r in
-    sym (of-no-kind r (within-above 1 12 (r .kind) (omega arith)))
+    let at = c .before .before .before in
+    let passed : amountAllowed (asked (to-rule (to-kind (to-side at)))) ≡ true = sym (amount (c .before)) ∙ not-false _ (c .if4 .left) in
+    sym (simp (kind-passed (to-kind (to-side at)), side-passed (to-side at), number-passed at, passed))
 
 pub input-number-spec : {M : Type 1} → statement M
 input-number-spec =
     tie.close
     (tie.spec
-    within-requires
-    first-refused-requires
-    cast-within
-    within-requires-2
-    within-requires-3
-    first-refused-requires-2
-    first-refused-requires-3
+    rule-of-requires
     returns
+    cast-in-range
+    in-range-requires
     returns-2
     returns-3
+    cast-in-range-2
+    in-range-requires-2
     returns-4
     returns-5)
