@@ -5,6 +5,7 @@ use mathlib.Core.List.{List}
 use mathlib.Core.Bool.{true}
 use Prim.Native.Nat.{ℕ}
 use lib.Dec.{T}
+use Rattle.limits.specs.Limits.{longestLeg}
 use Rattle.leg.specs.Ticks.{Between}
 use Rattle.practice.specs.declared.FileLegs.{FileLegs}
 use Rattle.practice.specs.File.{legsOf, legsBody, requestsBody, legsAllowed, fileNumber}
@@ -38,7 +39,7 @@ file-legs-legal legs e =
       final-fits = fits (legs .last) (k .last);
     })
   where
-    fits : (n : ℕ) → LegKnown n → Between 1 4096 n
+    fits : (n : ℕ) → LegKnown n → Between 1 longestLeg n
     fits n k = record { least = k .low; most = k .high }
 
 pub report-balanced : (file : List ℕ) → fileNumber file ≡ 0 → Balanced file

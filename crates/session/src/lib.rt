@@ -23,6 +23,7 @@ ghost use Prim.Native.Nat.{_≤_};
 ghost use mathlib.Core.List.{_++_};
 ghost use lib.Dec.{T};
 ghost use lib.ListN.{length, drop};
+ghost use Rattle.limits.specs.Limits.{mostRequests};
 ghost use Rattle.practice.specs.Requests.{requestsOf};
 ghost use Rattle.bounds.specs.Bounds.{legalLegs};
 ghost use Rattle.session.specs.Text.{room};
@@ -47,7 +48,7 @@ fn legs_in_miles(legs: FileLegs) -> Legs
 // Two fields take turns, the one before a request and the one after it; neither is judged, since from an empty field with legal legs
 // neither 10 nor 25 is answered.
 fn play_all(body: &[u8], legs: Legs, out: &mut Buffer) -> usize
-    requires { ⌜ length (requestsOf (now body)) ≤ 4096 ⌝ }
+    requires { ⌜ length (requestsOf (now body)) ≤ mostRequests ⌝ }
     requires { ⌜ T (legalLegs legs) ⌝ }
     ensures { λ r. ⌜ Written (sessionReport legs (requestsOf (now (body .entry)))) (now (out .entry)) r (now (out .exit)) ⌝ }
 {

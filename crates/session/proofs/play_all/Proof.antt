@@ -69,7 +69,7 @@ short c {index} h =
     let brief = subst⁻¹ (λ (x : Stepped). Short (x .answer)) (c .step-unjudged .ensures) (short-step _ (request (read-at c))) in
     answer-length index (c .step-unjudged .result .answer) h brief (omega (arith, c .step-unjudged .ok)) (omega (arith, c .step-unjudged .ok)) (omega (arith, c .step-unjudged .ok))
 
--- there are no more requests than 4096, so the index has four digits
+-- there are no more requests than `mostRequests`, so the index has four digits
 index-short : (c : tie.At-loop Inv-loop μ-loop) → c .loop .i + 1 < 10000
 index-short c = omega (arith, start c .pre .0, c .loop .inv .1 (empty c) .within)
 
