@@ -1,12 +1,14 @@
 //! The proved library and the reference, measured on one practice file.
 //!
 //!   bench requests FILE              how many requests it has
-//!   bench time FILE                  requests a second of both, and their ratio
-//!   bench library|reference FILE N   plays the file N times, to be counted
+//!   bench time PROGRAM PROGRAM FILE  requests a second of both, and their ratio
+//!   bench count PROGRAM FILE N       plays the file N times, to be counted
 //!   bench typical                    prints the typical session in readable form
+//!
+//! A PROGRAM is library, library-judged, reference or reference-unjudged.
 
 use comparison::dice::Dice;
-use comparison::library::{report_into, Buffer, ROOM};
+use comparison::library::{judged_report_into, report_into, Player, ROOM};
 use comparison::sessions::typical;
 use reference::{PracticeFile, Request};
 use std::hint::black_box;
@@ -19,14 +21,28 @@ const ROUND: Duration = Duration::from_millis(250);
 const TYPICAL_SEED: u64 = 300;
 const TYPICAL_REQUESTS: usize = 300;
 
-/// Plays a file by the library. The buffer is lent as the call before left it.
-fn by_library(file: &[u8], out: &mut Buffer) -> usize {
-    report_into(black_box(file), black_box(out))
+/// A way to play a file: it yields the length of the report.
+type Program = Box<dyn FnMut(&[u8]) -> usize>;
+
+fn program(name: &str) -> Program {
+    match name {
+        "library" => by_library(report_into),
+        "library-judged" => by_library(judged_report_into),
+        "reference" => by_reference(reference::report),
+        "reference-unjudged" => by_reference(reference::report_unjudged),
+        _ => panic!("no program: {name}"),
+    }
 }
 
-/// Plays a file by the reference, which makes its report anew.
-fn by_reference(file: &[u8]) -> usize {
-    black_box(reference::report(black_box(file))).len()
+/// The library's buffer is lent as the play before left it.
+fn by_library(play: Player) -> Program {
+    let mut out = Box::new([0; ROOM]);
+    Box::new(move |file| play(black_box(file), black_box(&mut out)))
+}
+
+/// The reference makes its report anew.
+fn by_reference(report: fn(&[u8]) -> Vec<u8>) -> Program {
+    Box::new(move |file| black_box(report(black_box(file))).len())
 }
 
 /// Seconds that one play takes, over so many.
@@ -49,17 +65,16 @@ fn median(mut of: Vec<f64>) -> f64 {
     of[of.len() / 2]
 }
 
-fn time(file: &[u8], requests: f64) {
-    let mut out = Box::new([0; ROOM]);
-    let library_plays = plays_in_a_round(|| by_library(file, &mut out));
-    let reference_plays = plays_in_a_round(|| by_reference(file));
-    let (mut library, mut reference, mut ratio) = (Vec::new(), Vec::new(), Vec::new());
+fn time(mut first: Program, mut second: Program, file: &[u8], requests: f64) {
+    let first_plays = plays_in_a_round(|| first(file));
+    let second_plays = plays_in_a_round(|| second(file));
+    let (mut by_first, mut by_second, mut ratio) = (Vec::new(), Vec::new(), Vec::new());
     for _ in 0..ROUNDS {
-        library.push(requests / seconds(library_plays, || by_library(file, &mut out)));
-        reference.push(requests / seconds(reference_plays, || by_reference(file)));
-        ratio.push(library[library.len() - 1] / reference[reference.len() - 1]);
+        by_first.push(requests / seconds(first_plays, || first(file)));
+        by_second.push(requests / seconds(second_plays, || second(file)));
+        ratio.push(by_first[by_first.len() - 1] / by_second[by_second.len() - 1]);
     }
-    println!("{:.0} {:.0} {:.2}", median(library), median(reference), median(ratio));
+    println!("{:.0} {:.0} {:.2}", median(by_first), median(by_second), median(ratio));
 }
 
 fn main() {
@@ -72,18 +87,15 @@ fn main() {
     };
     match words[..] {
         ["requests", path] => println!("{}", read(path).1),
-        ["time", path] => {
+        ["time", first, second, path] => {
             let (file, requests) = read(path);
-            time(&file, requests as f64);
+            time(program(first), program(second), &file, requests as f64);
         }
-        [program @ ("library" | "reference"), path, plays] => {
+        ["count", name, path, plays] => {
             let (file, _) = read(path);
-            let mut out = Box::new([0; ROOM]);
+            let mut play = program(name);
             for _ in 0..plays.parse().expect("how often") {
-                match program {
-                    "library" => by_library(&file, &mut out),
-                    _ => by_reference(&file),
-                };
+                play(&file);
             }
         }
         ["typical"] => print_typical(),

@@ -352,6 +352,13 @@ impl Field {
         Ok(answer)
     }
 
+    /// The same, of a field that keeps the bounds and whose step keeps them: they are not checked.
+    pub fn step_unjudged(&mut self, request: &Request) -> Result<Answer, Refusal> {
+        let (after, answer) = self.played(request.check()?)?;
+        *self = after;
+        Ok(answer)
+    }
+
     /// The field after a call, and the answer; the bounds are the caller's.
     fn played(&self, call: Call) -> Result<(Field, Answer), Refusal> {
         match call {

@@ -8,6 +8,7 @@ use crate::lines::put_end;
 use crate::lines::put_refused;
 use crate::tally::counted;
 use crate::tally::none;
+use field::Field;
 use field::Legs;
 use field::boxes::empty_field;
 use leg::of_sixty_fourths;
@@ -17,6 +18,9 @@ use practice::file_legs;
 use practice::file_number;
 use practice::request_at;
 use questions::counts::present_on;
+use request::Request;
+use rules::Stepped;
+use step::step;
 use step::step_unjudged;
 ghost use mathlib.Core.Path.{_≡_};
 ghost use Prim.Native.Nat.{_≤_};
@@ -26,6 +30,7 @@ ghost use lib.ListN.{length, drop};
 ghost use Rattle.limits.specs.Limits.{mostRequests};
 ghost use Rattle.practice.specs.Requests.{requestsOf};
 ghost use Rattle.bounds.specs.Bounds.{legalLegs};
+ghost use Rattle.rules.specs.Step.{numberOf, stepOf};
 ghost use Rattle.session.specs.Text.{room};
 ghost use Rattle.session.specs.Report.{legsInMiles, sessionReport, reportOf, Written};
 
@@ -44,10 +49,21 @@ fn legs_in_miles(legs: FileLegs) -> Legs
     }
 }
 
+// The step of a request whose number is neither 10 nor 25, with the field judged before and after, or not.
+fn stepped(f: Field, r: Request, judged: bool) -> Stepped
+    requires { ⌜ (numberOf f r ≡ 10 → ⊥) × (numberOf f r ≡ 25 → ⊥) ⌝ }
+    ensures { λ s. ⌜ s ≡ stepOf f r ⌝ }
+{
+    if judged {
+        return step(f, r);
+    }
+    step_unjudged(f, r)
+}
+
 // Plays the requests of a body from the empty field, and puts the whole report: their lines and the last line.
-// Two fields take turns, the one before a request and the one after it; neither is judged, since from an empty field with legal legs
-// neither 10 nor 25 is answered.
-fn play_all(body: &[u8], legs: Legs, out: &mut Buffer) -> usize
+// Two fields take turns, the one before a request and the one after it. They need not be judged, since from an empty field with legal
+// legs neither 10 nor 25 is answered.
+fn play_all(body: &[u8], legs: Legs, judged: bool, out: &mut Buffer) -> usize
     requires { ⌜ length (requestsOf (now body)) ≤ mostRequests ⌝ }
     requires { ⌜ T (legalLegs legs) ⌝ }
     ensures { λ r. ⌜ Written (sessionReport legs (requestsOf (now (body .entry)))) (now (out .entry)) r (now (out .exit)) ⌝ }
@@ -62,7 +78,7 @@ fn play_all(body: &[u8], legs: Legs, out: &mut Buffer) -> usize
             break;
         };
         let f = fields[i % 2];
-        let s = step_unjudged(f, r);
+        let s = stepped(f, r, judged);
         let a = s.answer;
         at = put_answer(out, at, i + 1, a);
         t = counted(t, r, a);
@@ -74,8 +90,8 @@ fn play_all(body: &[u8], legs: Legs, out: &mut Buffer) -> usize
     put_end(out, at, t, present_on(last))
 }
 
-// Writes the report of a practice file into the buffer, and yields its length.
-pub fn report(file: &[u8], out: &mut Buffer) -> usize
+// Writes the report of a practice file into the buffer, each field judged or not, and yields its length.
+fn report_by(file: &[u8], judged: bool, out: &mut Buffer) -> usize
     ensures { λ r. ⌜ r ≡ length (reportOf (now (file .entry))) ⌝ }
     ensures { λ r. ⌜ now (out .exit) ≡ reportOf (now (file .entry)) ++ drop r (now (out .entry)) ⌝ }
     ensures { λ r. ⌜ r ≤ room ⌝ }
@@ -84,10 +100,28 @@ pub fn report(file: &[u8], out: &mut Buffer) -> usize
     if number != 0 {
         return put_refused(out, number);
     }
-    play_all(&file[34..], legs_in_miles(file_legs(file)), out)
+    play_all(&file[34..], legs_in_miles(file_legs(file)), judged, out)
 }
 
-// The same for C and Rust (include/session.h).
+// Writes the report of a practice file into the buffer, and yields its length.
+pub fn report(file: &[u8], out: &mut Buffer) -> usize
+    ensures { λ r. ⌜ r ≡ length (reportOf (now (file .entry))) ⌝ }
+    ensures { λ r. ⌜ now (out .exit) ≡ reportOf (now (file .entry)) ++ drop r (now (out .entry)) ⌝ }
+    ensures { λ r. ⌜ r ≤ room ⌝ }
+{
+    report_by(file, false, out)
+}
+
+// The same report, with the field judged before and after every request.
+pub fn report_judged(file: &[u8], out: &mut Buffer) -> usize
+    ensures { λ r. ⌜ r ≡ length (reportOf (now (file .entry))) ⌝ }
+    ensures { λ r. ⌜ now (out .exit) ≡ reportOf (now (file .entry)) ++ drop r (now (out .entry)) ⌝ }
+    ensures { λ r. ⌜ r ≤ room ⌝ }
+{
+    report_by(file, true, out)
+}
+
+// `report` for C and Rust (include/session.h).
 #[no_mangle]
 pub extern "C" fn baguymo_report(file: &[u8], out: &mut Buffer) -> usize
     ensures { λ r. ⌜ r ≡ length (reportOf (now (file .entry))) ⌝ }
@@ -95,4 +129,14 @@ pub extern "C" fn baguymo_report(file: &[u8], out: &mut Buffer) -> usize
     ensures { λ r. ⌜ r ≤ room ⌝ }
 {
     report(file, out)
+}
+
+// `report_judged` for C and Rust (include/session.h).
+#[no_mangle]
+pub extern "C" fn baguymo_report_judged(file: &[u8], out: &mut Buffer) -> usize
+    ensures { λ r. ⌜ r ≡ length (reportOf (now (file .entry))) ⌝ }
+    ensures { λ r. ⌜ now (out .exit) ≡ reportOf (now (file .entry)) ++ drop r (now (out .entry)) ⌝ }
+    ensures { λ r. ⌜ r ≤ room ⌝ }
+{
+    report_judged(file, out)
 }

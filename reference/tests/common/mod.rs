@@ -48,6 +48,9 @@ pub fn file(legs_64ths: [u16; 4], requests: &[(u8, u8, u16, u16)]) -> Vec<u8> {
     PracticeFile { legs_64ths, requests }.to_bytes()
 }
 
+/// The report of a file, the same with the bounds checked and without.
 pub fn report(file: &[u8]) -> String {
-    String::from_utf8(reference::report(file)).expect("ASCII")
+    let report = reference::report(file);
+    assert_eq!(report, reference::report_unjudged(file));
+    String::from_utf8(report).expect("ASCII")
 }

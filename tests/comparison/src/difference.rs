@@ -1,16 +1,19 @@
 //! Where the two programs differ, as a readable session.
 
-use crate::library::Library;
+use crate::library::{Library, PLAYERS};
 use reference::{PracticeFile, Request};
 
-/// The report that both programs give of a file, or how they differ.
+/// The report that both programs give of a file, the library judging the fields or not, or how they differ.
 pub fn same_report(library: &mut Library, file: &[u8]) -> Result<Vec<u8>, String> {
     let expected = reference::report(file);
-    match library.report(file) {
-        Ok(report) if report == expected => Ok(expected),
-        Ok(report) => Err(first_line(&expected, report)),
-        Err(fault) => Err(format!("the library {fault}")),
+    for (name, play) in PLAYERS {
+        match library.report(play, file) {
+            Ok(report) if report == expected => {}
+            Ok(report) => return Err(first_line(&expected, name, report)),
+            Err(fault) => return Err(format!("{name} {fault}")),
+        }
     }
+    Ok(expected)
 }
 
 fn how(library: &mut Library, file: &[u8]) -> String {
@@ -18,16 +21,16 @@ fn how(library: &mut Library, file: &[u8]) -> String {
 }
 
 /// The first line in which two reports differ.
-fn first_line(expected: &[u8], report: &[u8]) -> String {
+fn first_line(expected: &[u8], name: &str, report: &[u8]) -> String {
     let mut lines = report.split(|&byte| byte == b'\n');
     for wanted in expected.split(|&byte| byte == b'\n') {
         let got = lines.next().unwrap_or_default();
         if wanted != got {
             let text = |line: &[u8]| String::from_utf8_lossy(line).into_owned();
-            return format!("the reference says `{}`, the library `{}`", text(wanted), text(got));
+            return format!("the reference says `{}`, {name} `{}`", text(wanted), text(got));
         }
     }
-    String::from("the library's report goes on after the reference's")
+    format!("{name}'s report goes on after the reference's")
 }
 
 /// The readable session of a file on which the two differ: without the requests that do not matter.

@@ -1,6 +1,6 @@
-//! Plays many practice files by the proved library and by the reference:
-//! comparison [SEED [COUNT]], COUNT random sessions. The last line says how
-//! many files were compared, and the verdict.
+//! Plays many practice files by the proved library, with the fields judged
+//! and not, and by the reference: comparison [SEED [COUNT]], COUNT random
+//! sessions. The last line says how many files were compared, and the verdict.
 
 use comparison::dice::Dice;
 use comparison::difference::{readable, same_report};
@@ -106,7 +106,7 @@ fn main() -> ExitCode {
     let compared = comparison.compared;
     match outcome {
         Ok(()) => {
-            println!("compare: {compared} files compared (seed {seed}), every report the same");
+            println!("compare: {compared} files compared (seed {seed}), fields judged and not: every report the same");
             ExitCode::SUCCESS
         }
         Err(fault) => {

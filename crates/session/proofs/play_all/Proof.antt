@@ -29,14 +29,14 @@ use Rattle.session.proofs.play_all.Tie as tie
 
 -- of the two fields, the one at i % 2 is the field before request i
 abbrev Inv-loop : tie.InvT-loop
-Inv-loop body out₀ fields₀ t₀ at₀ i₀ out fields t at i =
+Inv-loop body judged out₀ fields₀ t₀ at₀ i₀ out fields t at i =
     (length fields ≡ 2) × ((d : Field) → Playing (requestsOf body) (getD fields₀ 0 d) out₀ out (getD fields (i % 2) d) t at i)
 
 abbrev μ-loop : tie.MeasureT-loop
-μ-loop body out₀ fields₀ t₀ at₀ i₀ out fields t at i = length (requestsOf body) - i
+μ-loop body judged out₀ fields₀ t₀ at₀ i₀ out fields t at i = length (requestsOf body) - i
 
 -- ---- the way back: from the step to the request that was read, to the loop's head and to the start
-abbrev read-at : tie.After-step-unjudged Inv-loop μ-loop → tie.After-r Inv-loop μ-loop
+abbrev read-at : tie.After-stepped Inv-loop μ-loop → tie.After-r Inv-loop μ-loop
 read-at c = c .before .before .before
 
 abbrev head : tie.After-r Inv-loop μ-loop → tie.At-loop Inv-loop μ-loop
@@ -64,17 +64,17 @@ no-reading : (c : tie.After-enum-told Inv-loop μ-loop) → readingAt (requests 
 no-reading c = sym (c .before .before .request-at .ensures) ∙ c .enum-told .given .1
 
 -- the line of the answer is short, with every index of four digits
-short : (c : tie.After-step-unjudged Inv-loop μ-loop) {index : ℕ} → index < 10000 → length (answerLine index (c .step-unjudged .result .answer)) ≤ 31
+short : (c : tie.After-stepped Inv-loop μ-loop) {index : ℕ} → index < 10000 → length (answerLine index (c .stepped .result .answer)) ≤ 31
 short c {index} h =
-    let brief = subst⁻¹ (λ (x : Stepped). Short (x .answer)) (c .step-unjudged .ensures) (short-step _ (request (read-at c))) in
-    answer-length index (c .step-unjudged .result .answer) h brief (omega (arith, c .step-unjudged .ok)) (omega (arith, c .step-unjudged .ok)) (omega (arith, c .step-unjudged .ok))
+    let brief = subst⁻¹ (λ (x : Stepped). Short (x .answer)) (c .stepped .ensures) (short-step _ (request (read-at c))) in
+    answer-length index (c .stepped .result .answer) h brief (omega (arith, c .stepped .ok)) (omega (arith, c .stepped .ok)) (omega (arith, c .stepped .ok))
 
 -- there are no more requests than `mostRequests`, so the index has four digits
 index-short : (c : tie.At-loop Inv-loop μ-loop) → c .loop .i + 1 < 10000
 index-short c = omega (arith, start c .pre .0, c .loop .inv .1 (empty c) .within)
 
 -- so there is room for the line
-room-here : (c : tie.After-step-unjudged Inv-loop μ-loop) {index : ℕ} → index < 10000 → head (read-at c) .loop .at + length (answerLine index (c .step-unjudged .result .answer)) ≤ room
+room-here : (c : tie.After-stepped Inv-loop μ-loop) {index : ℕ} → index < 10000 → head (read-at c) .loop .at + length (answerLine index (c .stepped .result .answer)) ≤ room
 room-here c h =
     let k = read-at c in
     let l = head k in
@@ -115,8 +115,8 @@ array-copy-out-f : tie.Need-array-copy-out-f Inv-loop μ-loop
 array-copy-out-f c = search needs
 
 -- from the field reached neither 10 nor 25 is answered
-step-unjudged-requires : tie.Need-step-unjudged-requires Inv-loop μ-loop
-step-unjudged-requires c κs = neither-10-nor-25 _ (head (c .before .before) .loop .inv .1 _ .sound) _
+stepped-requires : tie.Need-stepped-requires Inv-loop μ-loop
+stepped-requires c κs = neither-10-nor-25 _ (head (c .before .before) .loop .inv .1 _ .sound) _
 
 add-put-answer : tie.Need-add-put-answer Inv-loop μ-loop
 add-put-answer c =
@@ -155,8 +155,8 @@ loop-again c =
     let t = c .before .before .before .before .before in
     let k = read-at t in
     let l = head k in
-    let next = playing-more (requests l) (l .loop .inv .1 _) (request k) (t .step-unjudged .result) (reading k) (t .step-unjudged .ensures) (short t (index-short l)) (c .before .before .put-answer .ensures) (c .before .counted .ensures) in
-    (length-set (l .loop .fields) ((l .loop .i + 1) % 2) (t .step-unjudged .result .field) ∙ l .loop .inv .0, playing-turn (requests l) next (l .loop .fields) (l .loop .inv .0))
+    let next = playing-more (requests l) (l .loop .inv .1 _) (request k) (t .stepped .result) (reading k) (t .stepped .ensures) (short t (index-short l)) (c .before .before .put-answer .ensures) (c .before .counted .ensures) in
+    (length-set (l .loop .fields) ((l .loop .i + 1) % 2) (t .stepped .result .field) ∙ l .loop .inv .0, playing-turn (requests l) next (l .loop .fields) (l .loop .inv .0))
 
 mul-last : tie.Need-mul-last Inv-loop μ-loop
 mul-last c = search needs
@@ -206,7 +206,7 @@ play-all-spec =
     enum-told
     mul-f
     array-copy-out-f
-    step-unjudged-requires
+    stepped-requires
     add-put-answer
     put-answer-requires
     counted-requires

@@ -1,4 +1,4 @@
--- `session::report` meets its contract: the report of a refused file, or of the session that the file holds. Assumes nothing.
+-- `session::report_by` meets its contract: the report of a refused file, or of the session that the file holds. Assumes nothing.
 use mathlib.Core.Path.{_≡_, sym, ap, _∙_, subst, subst⁻¹}
 use mathlib.Core.List.{List, _++_}
 use Prim.Native.Nat.{ℕ, _-_, _≤_}
@@ -17,8 +17,8 @@ use Rattle.session.specs.Report.{legsInMiles, sessionReport, refusedRepo
 use Rattle.session.proofs.Balance.{file-legs-legal}
 use Rattle.session.proofs.Reports.{practice-holds, report-holds, report-refused}
 use borrow.Author.Needs.{needs}
-use Rattle.session.proofs.report.Statement.{statement}
-use Rattle.session.proofs.report.Tie as tie
+use Rattle.session.proofs.report_by.Statement.{statement}
+use Rattle.session.proofs.report_by.Tie as tie
 
 -- a file that is refused, and one that holds a session
 refused : (c : tie.Then1) → fileNumber (now (c .before .before .before .args .file)) ≡ 0 → ⊥
@@ -81,10 +81,10 @@ returns-2 c =
     let legs = c .before .before .legs-in-miles .ensures ∙ ap legsInMiles (c .before .before .before .file-legs .ensures ∙ holding k .legs-read) in
     let body = ap requestsOf (part-to-end file 34) in
     let all = ap (λ (l : Legs). sessionReport l (requestsOf (take (length file - 34) (drop 34 file)))) legs ∙ ap (sessionReport (legsInMiles (legsOf (legsBody file)))) body ∙ sym (report-holds file (accepted k)) in
-    stated (subst (λ (bytes : List ℕ). Written bytes (now (s .args .out)) (c .play-all .result) (c .play-all .last .1 .1 .0)) all (c .play-all .ensures))
+    stated (subst (λ (bytes : List ℕ). Written bytes (now (s .args .out)) (c .play-all .result) (c .play-all .last .1 .1 .1 .0)) all (c .play-all .ensures))
 
-pub report-spec : {M : Type 1} → statement M
-report-spec =
+pub report-by-spec : {M : Type 1} → statement M
+report-by-spec =
     tie.close
     (tie.spec
     file-number-requires
