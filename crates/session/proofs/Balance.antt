@@ -23,7 +23,7 @@ use Rattle.session.specs.Balance.{Balanced}
 use Rattle.session.proofs.Reports.{practice-holds, report-holds}
 
 -- the legs of an accepted file, whole 64ths as the file says them, are legal
-file-legs-legal : (legs : FileLegs) → legsAllowed legs ≡ true → T (legalLegs (legsInMiles legs))
+pub file-legs-legal : (legs : FileLegs) → legsAllowed legs ≡ true → T (legalLegs (legsInMiles legs))
 file-legs-legal legs e =
     let k = legs-known legs e in
     legs-legal
