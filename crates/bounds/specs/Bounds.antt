@@ -4,6 +4,7 @@ use mathlib.Core.List.{List, [], _∷_, _++_, map}
 use Prim.Native.Nat.{ℕ}
 use lib.Dec.{eqb, leb}
 use lib.ListN.{length, drop}
+use Rattle.limits.specs.Limits.{fastest}
 use Rattle.leg.specs.Progress.{withinLeg, legalLeg}
 use Rattle.leg.specs.declared.Progress.{Progress}
 use Rattle.leg.specs.declared.Progress.the-variants.{Waiting, Flying}
@@ -73,7 +74,7 @@ boundF f = alternate (map (fixOf f) (orderOf (f .sequence)) ++ (f .next ∷ []))
 -- exactly in zones 7 to 12."
 unfoldable pub fitsZone : Legs → ℕ → Aircraft → Bool
 fitsZone legs z a =
-    isSide (a .fix) && (leb 1 (a .speed) && leb (a .speed) 512)
+    isSide (a .fix) && (leb 1 (a .speed) && leb (a .speed) fastest)
     && cond (isFlyingZone z) (not (isWaiting (a .progress)) && withinLeg (a .progress) (legOf legs z)) (isWaiting (a .progress))
 
 unfoldable pub legalLegs : Legs → Bool

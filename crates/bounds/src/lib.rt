@@ -10,9 +10,16 @@ use field::boxes::leg_of;
 use field::boxes::opposite;
 use field::boxes::order_length;
 use field::boxes::queue_length;
+use field::zones::AT_2000;
+use field::zones::FINAL;
+use field::zones::LAST_LATERAL;
+use field::zones::LATERAL;
+use field::zones::MISSED;
+use field::zones::RUNWAY;
 use leg::Progress;
 use leg::legal;
 use leg::within;
+use limits::FASTEST;
 use numbers::numbers_differ;
 use numbers::sequence_exact;
 use questions::counts::how_many;
@@ -39,7 +46,7 @@ pub fn bound_a(f: Field) -> bool
     if 4 < in_operation(f) {
         return false;
     }
-    how_many(f, 13) <= 1
+    how_many(f, RUNWAY) <= 1
 }
 
 // Bound b: at most two in each side's area.
@@ -56,7 +63,7 @@ pub fn bound_b(f: Field) -> bool
 fn one_each(f: Field) -> bool
     ensures { λ r. ⌜ r ≡ every (λ z. leb (howMany f z) 1) (zonesFrom 1 6) ⌝ }
 {
-    for zone in 1..=6 {
+    for zone in 1..=LAST_LATERAL {
         let q = f.zones[zone - 1];
         if 1 < queue_length(q) {
             return false;
@@ -70,16 +77,16 @@ pub fn lateral_rule(f: Field, side: u8) -> bool
     ensures { λ r. ⌜ r ≡ lateralRule f side ⌝ }
 {
     let s = side as usize;
-    if how_many(f, 4 + s) == 0 {
+    if how_many(f, LATERAL + s) == 0 {
         return true;
     }
     if how_many(f, s) != 0 {
         return false;
     }
-    if how_many(f, 2 + s) != 0 {
+    if how_many(f, AT_2000 + s) != 0 {
         return false;
     }
-    how_many(f, 6 + s) == 0
+    how_many(f, MISSED + s) == 0
 }
 
 // Bound c: at most one in each of zones 1 to 6, and the rule of the lateral zones.
@@ -109,11 +116,11 @@ pub fn bound_d(f: Field) -> bool
 pub fn final_first(f: Field) -> bool
     ensures { λ r. ⌜ r ≡ finalFirst f ⌝ }
 {
-    if how_many(f, 12) == 0 {
+    if how_many(f, FINAL) == 0 {
         return true;
     }
     let s = f.sequence;
-    let a = aircraft_at(f, 12, 1);
+    let a = aircraft_at(f, FINAL, 1);
     is_first(s, a.number)
 }
 
@@ -165,7 +172,7 @@ pub fn zone_kept(q: Zone) -> bool
 fn zones_kept(f: Field) -> bool
     ensures { λ r. ⌜ r ≡ every (λ z. zoneKept (zoneOf f z)) everywhere ⌝ }
 {
-    for zone in 1..=13 {
+    for zone in 1..=RUNWAY {
         let q = f.zones[zone - 1];
         if !zone_kept(q) {
             return false;
@@ -238,7 +245,7 @@ pub fn bound_f(f: Field) -> bool
     true
 }
 
-// Whether an aircraft of a zone has a side as fix, a speed from 1 to 512, and flies within the zone's leg where the zone is flown in
+// Whether an aircraft of a zone has a side as fix, a speed from 1 to the highest, and flies within the zone's leg where the zone is flown in
 // and waits elsewhere.
 pub fn fits_zone(legs: Legs, zone: usize, a: Aircraft) -> bool
     ensures { λ r. ⌜ r ≡ fitsZone legs zone a ⌝ }
@@ -249,7 +256,7 @@ pub fn fits_zone(legs: Legs, zone: usize, a: Aircraft) -> bool
     if a.speed < 1 {
         return false;
     }
-    if 512 < a.speed {
+    if FASTEST < a.speed {
         return false;
     }
     let p = a.progress;
@@ -281,7 +288,7 @@ fn zones_fit(f: Field) -> bool
     ensures { λ r. ⌜ r ≡ every (λ z. every (fitsZone (f .legs) z) (inZone f z)) everywhere ⌝ }
 {
     let legs = f.legs;
-    for zone in 1..=13 {
+    for zone in 1..=RUNWAY {
         let q = f.zones[zone - 1];
         if !zone_fits(legs, zone, q) {
             return false;

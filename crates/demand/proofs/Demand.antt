@@ -8,6 +8,7 @@ use native.Mathlib.Omega.{arith}
 use lib.Dec.{T, leb, leb→le}
 use lib.ListN.{length}
 use lib.Ieee.Fits.{and-l, and-r}
+use Rattle.limits.specs.Limits.{mostMoves}
 use Rattle.request.specs.Input.{within}
 use Rattle.request.specs.declared.Request.{Request}
 use Rattle.field.specs.declared.Aircraft.{Aircraft}
@@ -86,7 +87,7 @@ module _ (f : Side) (line : List Placed) (runway : List Aircraft) (legs : Legs) 
       let d = how-many-runway f line runway legs in
       omega arith
 
-  light : weightOf line runway ≤ 29
+  light : weightOf line runway ≤ mostMoves
   light = let a = weight-small f (zonesIn line) (o .okay-line) in let b = o .one-landed in omega arith
 
 -- ---- every list
@@ -119,7 +120,7 @@ module _ (legs : Legs) (l : T (legalLegs legs)) (rs : List Request) where
         never-stuck =
             carry (λ (g : Field). 0 < presentOn g → T (allFlownOut g) → MovesOn g)
             (λ p t. unstuck f line runway legs o (subst (λ (n : ℕ). 0 < n) present p) t);
-        at-most-29 =
-            carry (λ (g : Field). (more : List Request) → accepted addsMoves (played g more) ≡ 0 → moves (played g more) ≤ 29)
+        few-moves =
+            carry (λ (g : Field). (more : List Request) → accepted addsMoves (played g more) ≡ 0 → moves (played g more) ≤ mostMoves)
             (λ more h. le-trans (runs legs more f line runway o .few h) (light f line runway legs o));
       }

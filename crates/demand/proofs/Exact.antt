@@ -9,10 +9,11 @@ use native.Mathlib.Omega.{arith}
 use lib.Dec.{T, leb, eqb, leb→le, le→leb}
 use lib.Ieee.Fits.{and-i, and-l, and-r}
 use borrow.Author.Tests.{eqb-true, eqb-false, eq-eqb, ne-eqb}
+use Rattle.limits.specs.Limits.{longestTick, longestLeg}
 use Rattle.leg.specs.Progress.{whole, sixtyFourths, progressAfter, legalLeg}
 use Rattle.leg.specs.Ticks.{Between, FlownExactly}
 use Rattle.leg.specs.declared.Progress.{Progress}
-use Rattle.leg.specs.declared.Progress.the-variants.{Waiting, Flying}
+use Rattle.leg.specs.declared.Progress.the-variants.{Flying}
 use Rattle.leg.proofs.Theorems.{zero-exact, sixty-fourths-legal, one-tick-exact}
 use Rattle.request.specs.Input.{within, isTick, inputNumber}
 use Rattle.request.specs.declared.Request.{Request}
@@ -21,13 +22,15 @@ use Rattle.field.specs.declared.Aircraft.{Aircraft}
 use Rattle.field.specs.declared.Field.{Field}
 use Rattle.field.specs.Boxes.{isFlyingZone, legOf, progressInto, withProgress, inZone, emptyField}
 use Rattle.field.specs.Lists.{every}
-use Rattle.bounds.specs.Bounds.{fitsZone, legalLegs}
+use Rattle.bounds.specs.Bounds.{legalLegs}
 use Rattle.tick.specs.Tick.{tickedAircraft}
 use Rattle.order.specs.Model.{Side, right}
 use Rattle.rules.specs.Step.{numberOf, stepOf}
 use Rattle.rules.specs.Play.{fieldAfter, played}
 use Rattle.demand.specs.Exact.{WholeLegs, inMiles, in64ths, ticksWith, ticksAfter, EachAircraft, Exact}
 use Rattle.field.proofs.Tests.{passed, decided, if-true, if-false, each-zone}
+use Rattle.field.proofs.Arrival.{progress-by}
+use Rattle.laws.proofs.Fits.{fits-parts}
 use Rattle.line.proofs.Line.{Placed, inside, fieldOf, empty-is}
 use Rattle.line.proofs.Counted.{in-line}
 use Rattle.line.proofs.Orderly.{Orderly}
@@ -44,8 +47,8 @@ miles-are : (w : WholeLegs) (z : ℕ) → T (within 1 13 z) → T (isFlyingZone 
 unfolding isFlyingZone legOf
 miles-are w = each-zone (λ (z : ℕ). T (isFlyingZone z) → legOf (inMiles w) z ≡ sixtyFourths (in64ths w z)) ((λ u. absurd u), ((λ u. absurd u), ((λ u. absurd u), ((λ u. absurd u), ((λ u. absurd u), ((λ u. absurd u), ((λ u. refl), ((λ u. refl), ((λ u. refl), ((λ u. refl), ((λ u. refl), ((λ u. refl), ((λ u. absurd u), tt)))))))))))))
 
-leg-fits : (w : WholeLegs) (z : ℕ) → T (within 1 13 z) → Between 1 4096 (in64ths w z)
-leg-fits w = each-zone (λ (z : ℕ). Between 1 4096 (in64ths w z)) (w .final-fits, (w .final-fits, (w .final-fits, (w .final-fits, (w .final-fits, (w .final-fits, (w .missed-fits, (w .missed-fits, (w .base-fits, (w .base-fits, (w .intermediate-fits, (w .final-fits, (w .final-fits, tt)))))))))))))
+leg-fits : (w : WholeLegs) (z : ℕ) → T (within 1 13 z) → Between 1 longestLeg (in64ths w z)
+leg-fits w = each-zone (λ (z : ℕ). Between 1 longestLeg (in64ths w z)) (w .final-fits, (w .final-fits, (w .final-fits, (w .final-fits, (w .final-fits, (w .final-fits, (w .missed-fits, (w .missed-fits, (w .base-fits, (w .base-fits, (w .intermediate-fits, (w .final-fits, (w .final-fits, tt)))))))))))))
 
 pub legs-legal : (w : WholeLegs) → T (legalLegs (inMiles w))
 unfolding legalLegs
@@ -80,32 +83,29 @@ each-map P Q (e ∷ line) h p = (h e (p .0), each-map P Q line h (p .1))
 joined : (k s t a : ℕ) → min k (min k (s * t) + s * a) ≡ min k (s * (t + a))
 joined k s t a = let h = mul-add s t a in omega arith
 
-tick-flown : (w : WholeLegs) (amount : ℕ) → Between 1 64 amount → (ticks : ℕ → ℕ) (e : Placed) → T (placedFits (inMiles w) e) → Flown w ticks e → Flown w (λ n. ticks n + amount) (tickPlaced (inMiles w) amount e)
-unfolding tickedAircraft withProgress fitsZone
+tick-flown : (w : WholeLegs) (amount : ℕ) → Between 1 longestTick amount → (ticks : ℕ → ℕ) (e : Placed) → T (placedFits (inMiles w) e) → Flown w ticks e → Flown w (λ n. ticks n + amount) (tickPlaced (inMiles w) amount e)
+unfolding tickedAircraft withProgress
 tick-flown w amount fits ticks e fit p u =
     let a = e .aircraft in
     let z = e .zone in
     let k = in64ths w z in
     let x = tickedAircraft (legOf (inMiles w) z) amount a in
-    let s = and-r (Rattle.field.specs.Boxes.isSide (a .fix)) (leb 1 (a .speed) && leb (a .speed) 512) (and-l (Rattle.field.specs.Boxes.isSide (a .fix) && (leb 1 (a .speed) && leb (a .speed) 512)) _ fit) in
-    let speeds : Between 1 512 (a .speed) = record { least = leb→le 1 (a .speed) (and-l (leb 1 (a .speed)) (leb (a .speed) 512) s); most = leb→le (a .speed) 512 (and-r (leb 1 (a .speed)) (leb (a .speed) 512) s) } in
     let q : FlownExactly (progressAfter (a .progress) (a .speed) amount (sixtyFourths k)) (min (64 * k) (min (64 * k) (a .speed * ticks (a .number)) + a .speed * amount)) =
-    one-tick-exact (a .progress) k (min (64 * k) (a .speed * ticks (a .number))) (leg-fits w z (zone-13 z u)) speeds fits (p u) in
+    one-tick-exact (a .progress) k (min (64 * k) (a .speed * ticks (a .number))) (leg-fits w z (zone-13 z u)) (fits-parts (inMiles w) z a fit .speeds) fits (p u) in
     let q₂ : FlownExactly (x .progress) (min (64 * k) (x .speed * (ticks (x .number) + amount))) =
     subst (λ (n : ℕ). FlownExactly (progressAfter (a .progress) (a .speed) amount (legOf (inMiles w) z)) n) (joined (64 * k) (a .speed) (ticks (a .number)) amount)
     (subst (λ l. FlownExactly (progressAfter (a .progress) (a .speed) amount l) (min (64 * k) (min (64 * k) (a .speed * ticks (a .number)) + a .speed * amount))) (sym (miles-are w z (zone-13 z u) u)) q) in
     subst (λ (y : Aircraft). FlownExactly (y .progress) (min (64 * k) (y .speed * (ticks (y .number) + amount)))) (sym (if-true x a (passed {b = isFlyingZone z} u))) q₂
 
-line-ticked : (w : WholeLegs) (amount : ℕ) → Between 1 64 amount → (ticks : ℕ → ℕ) (line : List Placed) → T (every (placedFits (inMiles w)) line) → Each (Flown w ticks) line → Each (Flown w (λ n. ticks n + amount)) (map (tickPlaced (inMiles w) amount) line)
+line-ticked : (w : WholeLegs) (amount : ℕ) → Between 1 longestTick amount → (ticks : ℕ → ℕ) (line : List Placed) → T (every (placedFits (inMiles w)) line) → Each (Flown w ticks) line → Each (Flown w (λ n. ticks n + amount)) (map (tickPlaced (inMiles w) amount) line)
 line-ticked w amount fits ticks [] t p = tt
 line-ticked w amount fits ticks (e ∷ line) t p =
     (tick-flown w amount fits ticks e (and-l (placedFits (inMiles w) e) (every (placedFits (inMiles w)) line) t) (p .0), line-ticked w amount fits ticks line (and-r (placedFits (inMiles w) e) (every (placedFits (inMiles w)) line) t) (p .1))
 
 -- ---- any other accepted request: a leg begins at 0 miles
 begun : (w : WholeLegs) (ticks : ℕ → ℕ) (e : Placed) → e .aircraft .progress ≡ progressInto (e .zone) → ticks (e .aircraft .number) ≡ 0 → Flown w ticks e
-unfolding progressInto
 begun w ticks e h z u =
-    let p : e .aircraft .progress ≡ Flying (whole 0) = h ∙ if-true (Flying (whole 0)) Waiting (passed {b = isFlyingZone (e .zone)} u) in
+    let p : e .aircraft .progress ≡ Flying (whole 0) = h ∙ progress-by (e .zone) (passed {b = isFlyingZone (e .zone)} u) in
     let n : 0 ≡ min (64 * in64ths w (e .zone)) (e .aircraft .speed * ticks (e .aircraft .number)) = let m : e .aircraft .speed * ticks (e .aircraft .number) ≡ 0 = ap (λ (t : ℕ). e .aircraft .speed * t) z ∙ mul-zero (e .aircraft .speed) in omega arith in
     subst (λ (q : Progress). FlownExactly q (min (64 * in64ths w (e .zone)) (e .aircraft .speed * ticks (e .aircraft .number)))) (sym p) (subst (FlownExactly (Flying (whole 0))) n zero-exact)
 

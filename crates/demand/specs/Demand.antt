@@ -4,6 +4,7 @@ use mathlib.Core.Bool.{Bool, not, _||_}
 use mathlib.Core.List.{List}
 use Prim.Native.Nat.{ℕ, _+_, _≤_, _<_}
 use lib.Dec.{T, eqb}
+use Rattle.limits.specs.Limits.{mostMoves}
 use Rattle.request.specs.Input.{within}
 use Rattle.request.specs.declared.Request.{Request}
 use Rattle.field.specs.declared.Legs.{Legs}
@@ -48,4 +49,4 @@ pub record Demand3 (legs : Legs) (rs : List Request) : Type 0 where
   -- "then, if anyone is present, there is a request of kinds 3 to 8 or 11 that is accepted on that field"
   pub never-stuck : 0 < presentOn (fieldAfter (emptyField legs) rs) → T (allFlownOut (fieldAfter (emptyField legs) rs)) → MovesOn (fieldAfter (emptyField legs) rs)
   -- "The 29 holds for every list that goes on from there without an accepted request of kind 1, 2 or 10."
-  pub at-most-29 : (more : List Request) → accepted addsMoves (played (fieldAfter (emptyField legs) rs) more) ≡ 0 → moves (played (fieldAfter (emptyField legs) rs) more) ≤ 29
+  pub few-moves : (more : List Request) → accepted addsMoves (played (fieldAfter (emptyField legs) rs) more) ≡ 0 → moves (played (fieldAfter (emptyField legs) rs) more) ≤ mostMoves

@@ -4,6 +4,7 @@ use mathlib.Core.Bool.{cond, _&&_, _||_}
 use mathlib.Core.List.{List, [], _∷_}
 use Prim.Native.Nat.{ℕ, _+_, _*_, min}
 use lib.Dec.{T, eqb}
+use Rattle.limits.specs.Limits.{longestLeg}
 use Rattle.leg.specs.Ticks.{Between, FlownExactly}
 use Rattle.request.specs.Input.{within, isTick}
 use Rattle.request.specs.declared.Request.{Request}
@@ -19,10 +20,10 @@ pub record WholeLegs : Type 0 where
   pub base-leg : ℕ
   pub intermediate-leg : ℕ
   pub final-leg : ℕ
-  pub missed-fits : Between 1 4096 missed-leg
-  pub base-fits : Between 1 4096 base-leg
-  pub intermediate-fits : Between 1 4096 intermediate-leg
-  pub final-fits : Between 1 4096 final-leg
+  pub missed-fits : Between 1 longestLeg missed-leg
+  pub base-fits : Between 1 longestLeg base-leg
+  pub intermediate-fits : Between 1 longestLeg intermediate-leg
+  pub final-fits : Between 1 longestLeg final-leg
 
 -- those legs in miles
 abbrev pub inMiles : WholeLegs → Legs

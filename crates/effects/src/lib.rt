@@ -1,13 +1,12 @@
 // Document 01, "The requests": what each kind does to the field (rules' specs/Kinds.antt).
 use field::Aircraft;
 use field::Field;
+use field::boxes::arrived;
 use field::boxes::entering;
 use field::boxes::opposite;
 use field::boxes::order_length;
-use field::boxes::progress_into;
 use field::boxes::side_of;
 use field::boxes::with_fix;
-use field::boxes::with_progress;
 use field::boxes::zone_of;
 use field::edits::appended;
 use field::edits::removed;
@@ -52,7 +51,7 @@ fn tail_put(f: Field, zone: usize, a: Aircraft) -> Field
 fn moved(f: Field, from: usize, to: usize) -> Field
     ensures { λ r. ⌜ r ≡ moved f from to ⌝ }
 {
-    let a = with_progress(aircraft_at(f, from, 1), progress_into(to));
+    let a = arrived(to, aircraft_at(f, from, 1));
     tail_put(head_gone(f, from), to, a)
 }
 
@@ -131,7 +130,7 @@ fn missed_approach(f: Field, r: Request) -> Field
     let a = aircraft_at(f, FINAL, 1);
     let zone = MISSED + a.fix as usize;
     let fix = fix_after_miss(f, a);
-    let b = with_fix(with_progress(a, progress_into(zone)), fix);
+    let b = with_fix(arrived(zone, a), fix);
     let g = tail_put(head_gone(f, FINAL), zone, b);
     let s = f.sequence;
     with_sequence(g, appended(removed(s, r.number), r.number), opposite(fix))

@@ -4,3 +4,4 @@ pub mod Arrays
 pub mod Parts
 pub mod Known
 pub mod Shapes
+pub mod Arrival

@@ -37,10 +37,6 @@ pub decided : (b : Bool) → (b ≡ true) ⊎ (b ≡ false)
 decided true = inl refl
 decided false = inr refl
 
--- the first of three tests that all hold
-pub first-of : (a b c : Bool) → T (a && b && c) → T a
-first-of a b c t = and-l a b (and-l (a && b) c t)
-
 -- ---- either of two tests
 pub or-left : (a b : Bool) → T a → T (a || b)
 or-left true b t = tt

@@ -133,6 +133,10 @@ entering number fix speed = record { number = number; fix = fix; speed = speed; 
 unfoldable pub withProgress : Aircraft → Progress → Aircraft
 withProgress a p = record { number = a .number; fix = a .fix; speed = a .speed; progress = p }
 
+-- an aircraft as it comes into zone z from another zone
+unfoldable pub arrived : ℕ → Aircraft → Aircraft
+arrived z a = withProgress a (progressInto z)
+
 -- an aircraft with another fix
 unfoldable pub withFix : Aircraft → ℕ → Aircraft
 withFix a fix = record { number = a .number; fix = fix; speed = a .speed; progress = a .progress }

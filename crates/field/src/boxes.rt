@@ -4,9 +4,13 @@ use crate::Field;
 use crate::Legs;
 use crate::Sequence;
 use crate::Zone;
+use crate::zones::FINAL;
+use crate::zones::FIRST_FLOWN;
+use crate::zones::INTERMEDIATE;
+use crate::zones::RUNWAY;
 use leg::Progress;
 ghost use mathlib.Core.Path.{_≡_};
-ghost use Rattle.field.specs.Boxes.{isSide, opposite, sideOf, isFlyingZone, nobody, emptyZone, zoneOf, queueLength, orderLength, progressInto, entering, withProgress, withFix, legOf, flownOutIn, emptyField};
+ghost use Rattle.field.specs.Boxes.{isSide, opposite, sideOf, isFlyingZone, nobody, emptyZone, zoneOf, queueLength, orderLength, progressInto, entering, withProgress, arrived, withFix, legOf, flownOutIn, emptyField};
 
 // Whether a number is a side.
 pub fn is_side(side: u8) -> bool
@@ -39,7 +43,11 @@ pub fn side_of(zone: usize) -> u8
 pub fn is_flying_zone(zone: usize) -> bool
     ensures { λ r. ⌜ r ≡ isFlyingZone zone ⌝ }
 {
-    if 7 <= zone { zone <= 12 } else { false }
+    if FIRST_FLOWN <= zone {
+        zone <= FINAL
+    } else {
+        false
+    }
 }
 
 // A place that is all zero and waiting.
@@ -73,7 +81,7 @@ pub fn zone_of(f: Field, zone: usize) -> Zone
     if zone == 0 {
         return empty_zone();
     }
-    if zone <= 13 {
+    if zone <= RUNWAY {
         f.zones[zone - 1]
     } else {
         empty_zone()
@@ -129,6 +137,13 @@ pub fn with_progress(a: Aircraft, p: Progress) -> Aircraft
     }
 }
 
+// An aircraft as it comes into a zone from another zone.
+pub fn arrived(zone: usize, a: Aircraft) -> Aircraft
+    ensures { λ r. ⌜ r ≡ arrived zone a ⌝ }
+{
+    with_progress(a, progress_into(zone))
+}
+
 // An aircraft with another fix.
 pub fn with_fix(a: Aircraft, fix: u8) -> Aircraft
     ensures { λ r. ⌜ r ≡ withFix a fix ⌝ }
@@ -146,11 +161,12 @@ pub fn with_fix(a: Aircraft, fix: u8) -> Aircraft
 pub fn leg_of(legs: Legs, zone: usize) -> f64
     ensures { λ r. ⌜ r ≡ legOf legs zone ⌝ }
 {
+    // The zones of a side are a constant and the side, which is no pattern.
     match zone {
         7 | 8 => legs.missed,
         9 | 10 => legs.base,
-        11 => legs.intermediate,
-        12 => legs.final_approach,
+        INTERMEDIATE => legs.intermediate,
+        FINAL => legs.final_approach,
         _ => 0.0,
     }
 }

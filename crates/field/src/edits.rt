@@ -1,15 +1,11 @@
 // The few changes of a queue, of the sequence and of the field that requests are made of (specs/Edits.antt).
 use crate::Aircraft;
 use crate::Field;
-use crate::Legs;
 use crate::Sequence;
 use crate::Zone;
-use crate::boxes::is_flying_zone;
-use crate::boxes::leg_of;
 use crate::boxes::nobody;
 use crate::boxes::order_length;
-use crate::boxes::with_progress;
-use leg::progress_after;
+use crate::zones::RUNWAY;
 ghost use mathlib.Core.Path.{_≡_};
 ghost use mathlib.Core.List.{[], _∷_, _++_};
 ghost use Prim.Native.Nat.{suc, _<_};
@@ -117,7 +113,7 @@ pub fn with_zone(f: Field, zone: usize, q: Zone) -> Field
     if zone == 0 {
         return f;
     }
-    if 13 < zone {
+    if RUNWAY < zone {
         return f;
     }
     let i = zone - 1;

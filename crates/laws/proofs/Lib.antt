@@ -3,4 +3,5 @@ pub mod CountLaws
 pub mod LookUp
 pub mod BoundLaws
 pub mod Alike
+pub mod Fits
 pub mod TickLaws

@@ -1,17 +1,19 @@
--- Laws of a tick: what it does to every queue, and that it keeps the bounds. Assumes nothing.
+-- Laws of a tick: what it does to every queue, and that it keeps the bounds of any field within them (`within-ticked`, for change 2.6 of document 02).
+-- Assumes nothing.
 use mathlib.Core.Path.{_≡_, refl, sym, ap, _∙_, subst, fun-ext}
 use mathlib.Core.Logic.{_⊎_, inl, inr}
-use mathlib.Core.Bool.{Bool, true, false, cond, not, _&&_}
+use mathlib.Core.Bool.{Bool, true, false, cond, not, _&&_, true≢false}
 use mathlib.Core.List.{List, [], _∷_, map, map-map, map-id}
 use Prim.Native.Nat.{ℕ, zero, suc}
 use native.Mathlib.Numerals.{add-one}
 use native.Mathlib.Omega.{arith}
 use borrow.Author.Tests.{ltb-true, ltb-false}
-use lib.Dec.{T, eqb, leb, ltb, leb→le}
+use lib.Dec.{T, eqb, leb, ltb}
 use lib.Ieee.{Float}
 use lib.Ieee.Fits.{and-i, and-l, and-r}
 use lib.ListN.{length, getD, take, drop, List·getD-eq-default}
-use Rattle.leg.specs.Progress.{legalLeg, withinLeg, progressAfter}
+use Rattle.limits.specs.Limits.{longestTick}
+use Rattle.leg.specs.Progress.{progressAfter}
 use Rattle.leg.specs.Ticks.{Between, flying}
 use Rattle.leg.specs.declared.Progress.{Progress}
 use Rattle.leg.specs.declared.Progress.the-variants.{Waiting, Flying}
@@ -24,11 +26,12 @@ use Rattle.field.specs.Boxes.{isSide, everywhere, isFlyingZone, emptyZone, zone
 use Rattle.field.specs.Lists.{every}
 use Rattle.bounds.specs.Bounds.{isWaiting, isNobody, zoneKept, sequenceKept, boundE, fitsZone, legalLegs, boundG, withinBounds}
 use Rattle.tick.specs.Tick.{tickedAircraft, tickedZone, tickedFrom, ticked}
-use Rattle.field.proofs.Tests.{pass, decided, if-true, either-way, each-from}
+use Rattle.field.proofs.Tests.{pass, decided, either-way}
 use Rattle.questions.proofs.Listed.{numberOf}
 use Rattle.tick.proofs.Tick.{tickedIn, length-ticked, getD-ticked}
 use Rattle.laws.proofs.Alike.{fixOfOne, Alike, a-alike, b-alike, c-alike, d-alike, differ-alike, exact-alike, first-alike, f-alike}
 use Rattle.laws.proofs.BoundLaws.{within-each, each-within}
+use Rattle.laws.proofs.Fits.{fits-parts, fits-of, leg-legal}
 
 -- ---- lists
 
@@ -53,7 +56,7 @@ every-kept p g h [] = refl
 every-kept p g h (x ∷ l) = ap (λ (b : Bool). b && every p (map g l)) (h x) ∙ ap (λ (b : Bool). p x && b) (every-kept p g h l)
 
 -- a test that follows from another, of each element
-every-then : {A B : Type 0} (p : A → Bool) (q : B → Bool) (g : A → B) → ((a : A) → T (p a) → T (q (g a))) → (l : List A) → T (every p l) → T (every q (map g l))
+pub every-then : {A B : Type 0} (p : A → Bool) (q : B → Bool) (g : A → B) → ((a : A) → T (p a) → T (q (g a))) → (l : List A) → T (every p l) → T (every q (map g l))
 every-then p q g h [] t = tt
 every-then p q g h (x ∷ l) t = and-i (q (g x)) (every q (map g l)) (h x (and-l (p x) (every p l) t)) (every-then p q g h l (and-r (p x) (every p l) t))
 
@@ -173,59 +176,28 @@ module _ (f : Field) (amount : ℕ) where
       let e = ap sequenceKept (alike-ticked .sequence) in
       cc (a, b, c, d, e)
 
--- The leg of a flying zone is legal where all legs are.
-pub leg-legal : (legs : Legs) → T (legalLegs legs) → (z : ℕ) → T (isFlyingZone z) → T (legalLeg (legOf legs z))
-unfolding legalLegs isFlyingZone legOf
-leg-legal legs t z u =
-    let m = legalLeg (legs .missed) in
-    let b = legalLeg (legs .base) in
-    let i = legalLeg (legs .intermediate) in
-    let l = legalLeg (legs .«final_approach») in
-    let three = and-l (m && b && i) l t in
-    let tm = and-l m b (and-l (m && b) i three) in
-    let tb = and-r m b (and-l (m && b) i three) in
-    let low = leb→le 7 z (and-l (leb 7 z) (leb z 12) u) in
-    let high = leb→le z 12 (and-r (leb 7 z) (leb z 12) u) in
-    each-from 7 6 (λ (z : ℕ). T (legalLeg (legOf legs z))) (tm, (tm, (tb, (tb, (and-r (m && b) i three, (and-r (m && b && i) l t, tt)))))) z low (omega arith)
-
 -- Who fits its zone fits it after a tick.
-pub fits-ticked : (legs : Legs) (amount z : ℕ) → T (legalLegs legs) → Between 1 64 amount → (a : Aircraft) → T (fitsZone legs z a) → T (fitsZone legs z (tickedAt legs amount z a))
-unfolding fitsZone tickedAircraft withProgress
-fits-ticked legs amount z l r a h =
-    either-way (λ x. T (fitsZone legs z x)) (isFlyingZone z) (tickedAircraft (legOf legs z) amount a) a flies (λ e. h)
+pub fits-ticked : (legs : Legs) (amount z : ℕ) → T (legalLegs legs) → Between 1 longestTick amount → (a : Aircraft) → T (fitsZone legs z a) → T (fitsZone legs z (tickedAt legs amount z a))
+unfolding tickedAircraft withProgress
+fits-ticked legs amount z l r a h = either-way (λ x. T (fitsZone legs z x)) (isFlyingZone z) (tickedAircraft leg amount a) a flies (λ e. h)
   where
     leg : Float
     leg = legOf legs z
 
-    after : Progress
-    after = progressAfter (a .progress) (a .speed) amount leg
-
-    fast : Bool
-    fast = leb 1 (a .speed) && leb (a .speed) 512
-
-    person : Bool
-    person = isSide (a .fix) && fast
-
-    -- the part of `fitsZone` that speaks of the progress
-    fits : Progress → Bool
-    fits p = cond (isFlyingZone z) (not (isWaiting p) && withinLeg p leg) (isWaiting p)
-
     flies : isFlyingZone z ≡ true → T (fitsZone legs z (tickedAircraft leg amount a))
     flies e =
-        let one = and-l person (fits (a .progress)) h in
-        let p = not (isWaiting (a .progress)) in
-        let w = withinLeg (a .progress) leg in
-        let there = subst T (if-true (p && w) (isWaiting (a .progress)) e) (and-r person (fits (a .progress)) h) in
-        let s = and-r (isSide (a .fix)) fast one in
-        let speed : Between 1 512 (a .speed) = record { least = leb→le 1 (a .speed) (and-l (leb 1 (a .speed)) (leb (a .speed) 512) s); most = leb→le (a .speed) 512 (and-r (leb 1 (a .speed)) (leb (a .speed) 512) s) } in
-        and-i person (fits after) one
-        (subst T (sym (if-true (not (isWaiting after) && withinLeg after leg) (isWaiting after) e))
-        (and-i (not (isWaiting after)) (withinLeg after leg)
-        (subst (λ (b : Bool). T (not b)) (sym (waiting-kept (a .progress) (a .speed) amount leg)) (and-l p w there))
-        (within-kept (a .progress) leg (leg-legal legs l z (pass e)) speed r (and-r p w there))))
+        let p = fits-parts legs z a h in
+        fits-of legs z (tickedAircraft leg amount a)
+        (record {
+          side = p .side;
+          speeds = p .speeds;
+          flies = λ u. subst (λ (b : Bool). T (not b)) (sym (waiting-kept (a .progress) (a .speed) amount leg)) (p .flies u);
+          along = λ u. within-kept (a .progress) leg (leg-legal legs l z (pass u)) (p .speeds) r (p .along u);
+          waits = λ u. absurd (true≢false (sym e ∙ u));
+        })
 
 -- Bound g is kept.
-pub g-ticked : (f : Field) (amount : ℕ) → Between 1 64 amount → T (boundG f) → T (boundG (ticked f amount))
+pub g-ticked : (f : Field) (amount : ℕ) → Between 1 longestTick amount → T (boundG f) → T (boundG (ticked f amount))
 unfolding boundG ticked
 g-ticked f amount r t =
     let legal = and-r (fit f && isSide (f .next)) (legalLegs (f .legs)) t in
@@ -248,8 +220,8 @@ g-ticked f amount r t =
         subst (λ (l : List Aircraft). T (every (fitsZone (f .legs) z) l)) (sym (queue-ticked f amount z))
         (every-then (fitsZone (f .legs) z) (fitsZone (f .legs) z) (tickedAt (f .legs) amount z) (fits-ticked (f .legs) amount z legal r) (inZone f z) u)
 
--- Advancing every flying aircraft by a tick of 1 to 64 keeps the bounds.
-pub within-ticked : (f : Field) (amount : ℕ) → Between 1 64 amount → T (withinBounds f) → T (withinBounds (ticked f amount))
+-- Advancing every flying aircraft by a tick of 1 to `longestTick` keeps the bounds.
+pub within-ticked : (f : Field) (amount : ℕ) → Between 1 longestTick amount → T (withinBounds f) → T (withinBounds (ticked f amount))
 within-ticked f amount r t =
     let w = within-each f t in
     let g = ticked f amount in

@@ -1,6 +1,6 @@
 -- What an accepted request leaves behind, said of the order that the field stands for; and the moves of the line that are made of it.
 -- Assumes nothing.
-use mathlib.Core.Path.{_≡_, refl, sym, ap, _∙_, subst}
+use mathlib.Core.Path.{_≡_, sym, ap, _∙_, subst}
 use mathlib.Core.Bool.{Bool, true, false, not, _&&_, _||_, true≢false}
 use mathlib.Core.List.{List, [], _∷_, _++_, map}
 use Prim.Native.Nat.{ℕ, _+_, _≤_}
@@ -13,7 +13,7 @@ use Rattle.request.specs.Input.{within, isEntry}
 use Rattle.request.specs.declared.Request.{Request}
 use Rattle.field.specs.declared.Aircraft.{Aircraft}
 use Rattle.field.specs.declared.Legs.{Legs}
-use Rattle.field.specs.Boxes.{isFlyingZone, progressInto, withProgress}
+use Rattle.field.specs.Boxes.{isFlyingZone, progressInto}
 use Rattle.field.specs.Lists.{isIn, every, allDifferent}
 use Rattle.order.specs.Model.{Side, free, Kind, needs, target, okay, weight, one}
 use Rattle.order.proofs.Facts.{okay-length, okay-zones, moves}
@@ -22,6 +22,8 @@ use Rattle.rules.specs.Step.{effectOf}
 use Rattle.rules.specs.Play.{addsMoves}
 use Rattle.field.proofs.Tests.{failed}
 use Rattle.field.proofs.Lists.{or-false-left, or-false-right, absent-left, Alone, alone}
+use Rattle.field.proofs.Arrival.{number-arrived, fix-arrived, progress-arrived}
+use Rattle.laws.proofs.Fits.{arrived-fits}
 use Rattle.line.proofs.Lists.{map-append}
 use Rattle.line.proofs.Line.{Placed, zonesIn, numbersOf, inside, fieldOf}
 use Rattle.line.proofs.Counted.{free-inside}
@@ -31,7 +33,7 @@ use Rattle.line.proofs.Leaders.{all-at}
 use Rattle.line.proofs.Orderly.{Orderly, length-zones}
 use Rattle.moves.proofs.Moves.{into, MayMove, moved-line, same-length}
 use Rattle.moves.proofs.Ticking.{tickPlaced}
-use Rattle.moves.proofs.Kept.{entered-fits, changed, placedFits}
+use Rattle.moves.proofs.Kept.{changed, placedFits}
 
 -- ---- what holds of each one of a line
 abbrev pub Each : (Placed → Type 0) → List Placed → Type 0
@@ -153,14 +155,12 @@ module _ (f : Side) (a : List Placed) (e : Placed) (b : List Placed) (runway : L
     moved-is = moved-line f a e b runway legs w may-move (o .different)
 
     pub moved-orderly : Orderly f (a ++ into w e ∷ b) runway legs
-    unfolding withProgress
-    moved-orderly = changed f a e (into w e) b runway legs o (okay-joined f a (into w e) b after) refl refl (entered-fits legs (o .legal) (e .zone) w in-zone (e .aircraft) fit-here)
+    moved-orderly = changed f a e (into w e) b runway legs o (okay-joined f a (into w e) b after) (number-arrived w (e .aircraft)) (fix-arrived w (e .aircraft)) (arrived-fits legs (o .legal) (e .zone) w (e .aircraft) fit-here)
 
   -- a move of the model's, as a request's effect
   pub line-move : (k : Kind) (r : Request) → T (free (zonesIn a) (e .zone)) → T (needs k (zonesIn a) (e .zone) (zonesIn b))
       → effectOf (fieldOf f (a ++ e ∷ b) runway legs) r ≡ moved (fieldOf f (a ++ e ∷ b) runway legs) (e .zone) (target k (zonesIn a) (e .zone) (zonesIn b))
       → T (staysOn (r .kind)) → (r .kind ≡ 12 → ⊥) → r .number ≡ e .aircraft .number → After f (a ++ e ∷ b) runway legs r
-  unfolding withProgress
   line-move k r heads n eff s tick named =
       let w = target k (zonesIn a) (e .zone) (zonesIn b) in
       let m = moves k f (zonesIn a) (e .zone) (zonesIn b) (okay-split f a e b (o .okay-line)) heads n in
@@ -178,7 +178,7 @@ module _ (f : Side) (a : List Placed) (e : Placed) (b : List Placed) (runway : L
             let l = m .lighter in
             let u = one-le (within 3 11 (r .kind)) in
             omega arith;
-        carried = λ h. carried-one (r .number) a e (into w e) b runway (o .different) named (sym named) refl;
+        carried = λ h. carried-one (r .number) a e (into w e) b runway (o .different) named (number-arrived w (e .aircraft) ∙ sym named) (progress-arrived w (e .aircraft));
         ticked-on = λ h. absurd (tick h);
       }
     where

@@ -9,17 +9,20 @@ use lib.ListN.{length, length-append}
 use lib.Ieee.Fits.{and-l}
 use Rattle.request.specs.Input.{within, isEntry}
 use Rattle.request.specs.declared.Request.{Request}
+use Rattle.limits.specs.Limits.{longestTick, fastest}
+use Rattle.leg.specs.Ticks.{Between}
 use Rattle.field.specs.declared.Aircraft.{Aircraft}
 use Rattle.field.specs.declared.Legs.{Legs}
 use Rattle.field.specs.declared.Field.{Field}
-use Rattle.field.specs.Boxes.{isFlyingZone, missed, progressInto, entering, withProgress, withFix}
+use Rattle.field.specs.Boxes.{isFlyingZone, missed, entering, arrived, withFix}
 use Rattle.field.specs.Lists.{isIn, every}
 use Rattle.order.specs.Model.{Side, opp, num, okay, firstFix, weight, one}
 use Rattle.order.proofs.Facts.{okay-length, first-leaves, misses, exit-lighter, landing-lighter}
 use Rattle.rules.specs.Step.{effectOf}
 use Rattle.rules.specs.Kinds.{entered}
 use Rattle.rules.specs.Play.{addsMoves}
-use Rattle.line.proofs.Counted.{missed-in}
+use Rattle.field.proofs.Arrival.{number-arrived, progress-arrived}
+use Rattle.laws.proofs.Fits.{arrived-fits, refixed-fits, entering-fits}
 use Rattle.field.proofs.Tests.{passed, failed, fail}
 use Rattle.field.proofs.Lists.{absent-left}
 use Rattle.line.proofs.Line.{Placed, zonesIn, numbersOf, fieldOf}
@@ -29,7 +32,7 @@ use Rattle.line.proofs.Orderly.{Orderly, length-zones}
 use Rattle.moves.proofs.Leaves.{taxied, first-exits, first-lands}
 use Rattle.moves.proofs.Enters.{entryFix, entrant, enters, misser, misses-approach}
 use Rattle.moves.proofs.Ticking.{tickPlaced, ticks, zones-same}
-use Rattle.moves.proofs.Kept.{entered-fits, landed-fits, refixed-fits, entrant-fits, first-gone, landed-on, runway-left, come, ticked-orderly}
+use Rattle.moves.proofs.Kept.{side-fits, first-gone, landed-on, runway-left, come, ticked-orderly}
 use Rattle.moves.proofs.After.{Each, each-append, After, Carried, Others, others-all, apart-in, leaves, one-le, zone-in, room-for, fit-here}
 use Rattle.rules.proofs.Checks.{effect-at}
 
@@ -69,12 +72,14 @@ module _ (f : Side) (e : Placed) (b : List Placed) (runway : List Aircraft) (leg
 
   -- kind 10
   pub after-10 : r .kind ≡ 10 → e .zone ≡ 12 → After f (e ∷ b) runway legs r
-  unfolding withFix withProgress
+  unfolding withFix
   after-10 h z =
+      let w = missed (num f) in
       let fix = o .alternates .0 in
       let g = misser f e b runway legs r z room fix named (o .different) in
       let al = apart-in [] e b runway (o .different) in
       let gone = first-gone f e b runway legs o rest-okay in
+      let same = number-arrived w (e .aircraft) in
       record {
         first-after = firstFix f (opp f) (zonesIn b);
         line-after = b ++ (g ∷ []);
@@ -82,19 +87,20 @@ module _ (f : Side) (e : Placed) (b : List Placed) (runway : List Aircraft) (leg
         effect = effect-at F r h ∙ misses-approach f e b runway legs r z room fix named (o .different);
         orderly =
             come f (opp f) b g runway legs gone (misses f (zonesIn b) (subst (λ (v : ℕ). T (okay f (v ∷ zonesIn b))) z (o .okay-line))) refl
-            (and-l (nonzero (e .aircraft .number)) (every nonzero (numbersOf b ++ numbers runway)) (o .nonzeros)) (al .behind)
-            (refixed-fits legs (missed (num f)) (entryFix f (opp f) (zonesIn b)) (withProgress (e .aircraft) (progressInto (missed (num f)))) (entered-fits legs (o .legal) (e .zone) (missed (num f)) (missed-in f) (e .aircraft) (fit-here f [] e b runway legs o)));
+            (subst (λ (n : ℕ). T (nonzero n)) (sym same) (and-l (nonzero (e .aircraft .number)) (every nonzero (numbersOf b ++ numbers runway)) (o .nonzeros)))
+            (ap (λ (n : ℕ). isIn n (numbersOf b ++ numbers runway)) same ∙ al .behind)
+            (refixed-fits legs w (num (entryFix f (opp f) (zonesIn b))) (arrived w (e .aircraft)) (side-fits (entryFix f (opp f) (zonesIn b))) (arrived-fits legs (o .legal) (e .zone) w (e .aircraft) (fit-here f [] e b runway legs o)));
         balance = let p = length-append b (g ∷ []) in subst (λ (k : ℕ). length (b ++ (g ∷ [])) + length runway + one (leaves k) ≡ suc (length b) + length runway + one (isEntry k)) (sym h) (omega arith);
         lighter = λ u. absurd (true≢false (ap addsMoves (sym h) ∙ u));
-        carried = λ u. record { carry = λ P others arrive idle. each-append P b (g ∷ []) (behind-all P others) (arrive g refl (sym named), tt) };
+        carried = λ u. record { carry = λ P others arrive idle. each-append P b (g ∷ []) (behind-all P others) (arrive g (progress-arrived w (e .aircraft)) (same ∙ sym named), tt) };
         ticked-on = λ u. absurd (let n : 12 ≡ 10 = sym u ∙ h in omega arith);
       }
 
 -- kind 7
 pub after-7 : (f : Side) (e : Placed) (b : List Placed) (legs : Legs) (o : Orderly f (e ∷ b) [] legs) (r : Request) → r .number ≡ e .aircraft .number → r .kind ≡ 7 → e .zone ≡ 12 → After f (e ∷ b) [] legs r
-unfolding withProgress
 after-7 f e b legs o r named h z =
-    let x = withProgress (e .aircraft) (progressInto 13) in
+    let x = arrived 13 (e .aircraft) in
+    let same = number-arrived 13 (e .aircraft) in
     let n = e .aircraft .number in
     let al = apart-in [] e b [] (o .different) in
     record {
@@ -103,8 +109,9 @@ after-7 f e b legs o r named h z =
       runway-after = x ∷ [];
       effect = effect-at (fieldOf f (e ∷ b) [] legs) r h ∙ first-lands f e b legs z (room f e b [] legs o r named) (o .different) r named;
       orderly =
-          landed-on (opp f) b x legs (first-gone f e b [] legs o (rest-okay f e b [] legs o r named)) (and-l (nonzero n) (every nonzero (numbersOf b ++ [])) (o .nonzeros)) (absent-left n (numbersOf b) [] (al .behind))
-          (landed-fits legs (e .zone) (e .aircraft) (fit-here f [] e b [] legs o));
+          landed-on (opp f) b x legs (first-gone f e b [] legs o (rest-okay f e b [] legs o r named)) (subst (λ (m : ℕ). T (nonzero m)) (sym same) (and-l (nonzero n) (every nonzero (numbersOf b ++ [])) (o .nonzeros)))
+          (ap (λ (m : ℕ). isIn m (numbersOf b)) same ∙ absent-left n (numbersOf b) [] (al .behind))
+          (arrived-fits legs (o .legal) (e .zone) 13 (e .aircraft) (fit-here f [] e b [] legs o));
       balance = subst (λ (k : ℕ). length b + 1 + one (leaves k) ≡ suc (length b) + 0 + one (isEntry k)) (sym h) (omega arith);
       lighter = λ u. let w = landing-lighter f (e .zone) (zonesIn b) z (o .okay-line) in let y = one-le (within 3 11 (r .kind)) in omega arith;
       carried = λ u. carried-behind f e b [] legs o r named;
@@ -132,10 +139,10 @@ after-8 f line x legs o r named h =
 -- kinds 1 and 2, into zone w
 pub after-entry : (s f : Side) (line : List Placed) (runway : List Aircraft) (legs : Legs) (o : Orderly f line runway legs) (r : Request) (w : ℕ) → T (within 1 12 w) → T (not (isFlyingZone w)) → r .side ≡ num s
     → T (isEntry (r .kind)) → effectOf (fieldOf f line runway legs) r ≡ entered (fieldOf f line runway legs) r w
-    → T (okay (firstFix s f (zonesIn line)) (zonesIn line ++ (w ∷ []))) → 1 ≤ r .number → isIn (r .number) (numbersOf line ++ numbers runway) ≡ false → 1 ≤ r .amount → r .amount ≤ 512
+    → T (okay (firstFix s f (zonesIn line)) (zonesIn line ++ (w ∷ []))) → 1 ≤ r .number → isIn (r .number) (numbersOf line ++ numbers runway) ≡ false → Between 1 fastest (r .amount)
     → (r .kind ≡ 12 → ⊥) → T (not (leaves (r .kind))) → After f line runway legs r
 unfolding entering
-after-entry s f line runway legs o r w t u side kind eff k n d l m tick stays =
+after-entry s f line runway legs o r w t u side kind eff k n d fast tick stays =
     let room = let p = okay-length (firstFix s f (zonesIn line)) (zonesIn line ++ (w ∷ [])) k in let q = length-append (zonesIn line) (w ∷ []) in let v = length-zones line in let g : length line < 4 = omega arith in g in
     let e = entrant s f line runway legs r w t room side in
     record {
@@ -143,7 +150,7 @@ after-entry s f line runway legs o r w t u side kind eff k n d l m tick stays =
       line-after = line ++ (e ∷ []);
       runway-after = runway;
       effect = eff ∙ enters s f line runway legs r w t room side;
-      orderly = come s f line e runway legs o k refl (fail (borrow.Author.Tests.ne-eqb (r .number) 0 (λ q. omega arith))) d (entrant-fits legs w (entryFix s f (zonesIn line)) (r .number) (r .amount) u l m);
+      orderly = come s f line e runway legs o k refl (fail (borrow.Author.Tests.ne-eqb (r .number) 0 (λ q. omega arith))) d (entering-fits legs w (r .number) (num (entryFix s f (zonesIn line))) (r .amount) (side-fits (entryFix s f (zonesIn line))) fast (failed {b = isFlyingZone w} u));
       balance =
           let p = length-append line (e ∷ []) in
           let q : one (isEntry (r .kind)) ≡ 1 = ap one (passed {b = isEntry (r .kind)} kind) in
@@ -158,15 +165,15 @@ after-entry s f line runway legs o r w t u side kind eff k n d l m tick stays =
     adds v = ap (λ (b : Bool). b || eqb (r .kind) 10) (passed {b = isEntry (r .kind)} v)
 
 -- kind 12
-pub after-12 : (f : Side) (line : List Placed) (runway : List Aircraft) (legs : Legs) (o : Orderly f line runway legs) (r : Request) → r .kind ≡ 12 → 1 ≤ r .amount → r .amount ≤ 64 → After f line runway legs r
-after-12 f line runway legs o r h l m =
+pub after-12 : (f : Side) (line : List Placed) (runway : List Aircraft) (legs : Legs) (o : Orderly f line runway legs) (r : Request) → r .kind ≡ 12 → Between 1 longestTick (r .amount) → After f line runway legs r
+after-12 f line runway legs o r h amount =
     let four = let p = okay-length f (zonesIn line) (o .okay-line) in let q = length-zones line in let g : length line ≤ 4 = omega arith in g in
     record {
       first-after = f;
       line-after = map (tickPlaced legs (r .amount)) line;
       runway-after = runway;
       effect = effect-at (fieldOf f line runway legs) r h ∙ ticks legs (r .amount) f line runway four;
-      orderly = ticked-orderly f line runway legs (r .amount) l m o;
+      orderly = ticked-orderly f line runway legs (r .amount) amount o;
       balance =
           let p = length-zones line in
           let q = length-zones (map (tickPlaced legs (r .amount)) line) in

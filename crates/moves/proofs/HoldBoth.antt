@@ -1,5 +1,5 @@
 -- Kind 11 beside an occupied 3000: the aircraft there goes to 2000, and the one from the missed zone to 3000. Assumes nothing.
-use mathlib.Core.Path.{_≡_, refl, sym, ap, _∙_, subst}
+use mathlib.Core.Path.{_≡_, sym, ap, _∙_, subst}
 use mathlib.Core.Bool.{false, not, _||_}
 use mathlib.Core.List.{List, _∷_, _++_, append-assoc}
 use Prim.Native.Nat.{ℕ, _+_}
@@ -12,12 +12,13 @@ use Rattle.request.specs.declared.Request.{Request}
 use Rattle.field.specs.declared.Aircraft.{Aircraft}
 use Rattle.field.specs.declared.Legs.{Legs}
 use Rattle.field.specs.declared.Field.{Field}
-use Rattle.field.specs.Boxes.{isFlyingZone, sideOf, at3000, at2000, withProgress}
+use Rattle.field.specs.Boxes.{isFlyingZone, sideOf, at3000, at2000}
 use Rattle.order.specs.Model.{Side, count, free, okay, weight, one}
 use Rattle.order.proofs.Facts.{BothMoved, hold-both}
 use Rattle.rules.specs.Kinds.{moved}
 use Rattle.rules.specs.Step.{effectOf}
 use Rattle.field.proofs.Tests.{pass, failed, zones-imply}
+use Rattle.field.proofs.Arrival.{number-arrived, progress-arrived}
 use Rattle.line.proofs.Line.{Placed, zonesIn, fieldOf}
 use Rattle.line.proofs.Counted.{lower}
 use Rattle.line.proofs.Members.{count-append}
@@ -127,7 +128,6 @@ module _ (f : Side) (a : List Placed) (g : Placed) (b : List Placed) (e : Placed
 
   -- everyone else stays, or is at 2000
   carried-both : Carried (r .number) (a ++ g ∷ (b ++ e ∷ c)) (a₂ ++ into y e ∷ c)
-  unfolding withProgress
   carried-both =
       record {
         carry =
@@ -135,7 +135,7 @@ module _ (f : Side) (a : List Placed) (g : Placed) (b : List Placed) (e : Placed
             let Q : Placed → Type 0 = λ (x : Placed). (x .aircraft .number ≡ r .number → ⊥) → P x in
             let rest = each-right Q a (g ∷ (b ++ e ∷ c)) others .1 in
             let down : Each Q (a ++ into w g ∷ (b ++ e ∷ c)) = each-append Q a (into w g ∷ (b ++ e ∷ c)) (each-left Q a (g ∷ (b ++ e ∷ c)) others) ((λ k. idle (into w g) (waits z (lower z (zone-in f a₂ e c runway legs orderly₂)) missed-zone)), rest) in
-            carried-one (r .number) a₂ e (into y e) c runway (orderly₂ .different) named (sym named) refl .carry P (subst (Each Q) (regroup e) down) come idle;
+            carried-one (r .number) a₂ e (into y e) c runway (orderly₂ .different) named (number-arrived y (e .aircraft) ∙ sym named) (progress-arrived y (e .aircraft)) .carry P (subst (Each Q) (regroup e) down) come idle;
       }
 
   pub after-both : r .kind ≡ 11 → effectOf F r ≡ moved (moved F y w) z y → After f (a ++ g ∷ (b ++ e ∷ c)) runway legs r

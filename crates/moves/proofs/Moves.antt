@@ -15,13 +15,14 @@ use Rattle.field.specs.declared.Zone.{Zone}
 use Rattle.field.specs.declared.Sequence.{Sequence}
 use Rattle.field.specs.declared.Legs.{Legs}
 use Rattle.field.specs.declared.Field.{Field}
-use Rattle.field.specs.Boxes.{zoneOf, progressInto, withProgress}
+use Rattle.field.specs.Boxes.{zoneOf, arrived}
 use Rattle.questions.specs.Find.{aircraftAt}
 use Rattle.field.specs.Lists.{allDifferent}
 use Rattle.field.specs.Edits.{withoutHead, withTail, withZone}
 use Rattle.order.specs.Model.{Side, opp, num, nextFix}
 use Rattle.rules.specs.Kinds.{headGone, tailPut, moved}
 use Rattle.field.proofs.Tests.{if-true, if-false, decided}
+use Rattle.field.proofs.Arrival.{number-arrived}
 use Rattle.line.proofs.Lists.{map-append}
 use Rattle.line.proofs.Line.{zoneFor, tail-for, head-for, sequenceFor, fieldBy, zone-by, with-by, by-zones, Placed, zonesIn, numbersOf, inside, zonesOf, fieldOf}
 use Rattle.line.proofs.Counted.{lower, not-13, zone-of-line}
@@ -83,7 +84,7 @@ same-numbers a e g b h =
 
 -- the one that has come into zone w
 abbrev pub into : ℕ → Placed → Placed
-into w e = record { aircraft = withProgress (e .aircraft) (progressInto w); zone = w }
+into w e = record { aircraft = arrived w (e .aircraft); zone = w }
 
 -- what is asked of a move of e to zone w, with those ahead and behind: e heads its zone, and nobody behind it is in zone w
 pub record MayMove (a : List Placed) (e : Placed) (b : List Placed) (w : ℕ) : Type 0 where
@@ -99,7 +100,7 @@ module _ (f : Side) (a : List Placed) (e : Placed) (b : List Placed) (runway : L
   F = fieldOf f (a ++ e ∷ b) runway legs
 
   abbrev x : Aircraft
-  x = withProgress (e .aircraft) (progressInto w)
+  x = arrived w (e .aircraft)
 
   abbrev z : ℕ
   z = e .zone
@@ -152,15 +153,15 @@ module _ (f : Side) (a : List Placed) (e : Placed) (b : List Placed) (runway : L
   head-is = head-there f a e b runway legs d (m .from-zone) (m .heads)
 
   after-is : fieldBy H S N legs ≡ fieldOf f (a ++ into w e ∷ b) runway legs
-  unfolding fieldOf withProgress
+  unfolding fieldOf
   after-is =
-      ap (λ (ns : List ℕ). fieldBy H (sequenceFor ns) N legs) (same-numbers a e (into w e) b refl)
+      ap (λ (ns : List ℕ). fieldBy H (sequenceFor ns) N legs) (same-numbers a e (into w e) b (sym (number-arrived w (e .aircraft))))
       ∙ ap (λ (s : Side). fieldBy H (sequenceFor (numbersOf (a ++ into w e ∷ b))) (num s) legs) (next-same f (a ++ e ∷ b) (a ++ into w e ∷ b) (same-length a e (into w e) b))
 
   pub moved-line : moved F z w ≡ fieldOf f (a ++ into w e ∷ b) runway legs
   unfolding moved headGone tailPut fieldOf
   moved-line =
-      ap (λ (y : Aircraft). withZone (withZone F z (withoutHead (zoneOf F z))) w (withTail (zoneOf (withZone F z (withoutHead (zoneOf F z))) w) (withProgress y (progressInto w)))) head-is
+      ap (λ (y : Aircraft). withZone (withZone F z (withoutHead (zoneOf F z))) w (withTail (zoneOf (withZone F z (withoutHead (zoneOf F z))) w) (arrived w y))) head-is
       ∙ ap (λ (q : Zone). withZone (withZone F z (withoutHead (zoneOf F z))) w (withTail q x)) (zone-other G H S N legs z w (withoutHead (zoneOf F z)) (lower z (m .from-zone)) (lower w (m .to-zone)) (m .other-zone))
       ∙ two-zones G H S N legs z w (withoutHead (zoneOf F z)) (withTail (G w) x) (lower z (m .from-zone)) (lower w (m .to-zone)) left-zone entered-zone kept-zone
       ∙ after-is

@@ -94,7 +94,7 @@ module _ (f : Side) (line : List Placed) (runway : List Aircraft) (legs : Legs) 
         let may : T (mayEnter f zs (num s)) = and-i (a && b && m && l) h (and-i (a && b && m) l (and-i (a && b) m (and-i a b (pass t16) (pass t17)) (empty-zone missed tm (p .1 .1 .1 .0))) (empty-zone lateral tl (p .1 .1 .1 .1 .0))) (empty-zone at3000 th (p .1 .1 .1 .1 .1 .0)) in
         after-entry s f line runway legs o r (at3000 (num s)) th tf side (subst (λ (j : ℕ). T (isEntry j)) (sym k) tt)
         (effect-at F r k ∙ ap (λ (n : ℕ). Rattle.rules.specs.Kinds.entered F r (at3000 n)) side)
-        (enter f s zs (o .okay-line) may) (known .number) (new-number (p .0)) (known .speed-low) (known .speed-high) (λ u. let n : 12 ≡ 1 = sym u ∙ k in omega arith) (subst (λ (j : ℕ). T (not (eqb j 8 || eqb j 9))) (sym k) tt)
+        (enter f s zs (o .okay-line) may) (known .number) (new-number (p .0)) (record { least = known .speed-low; most = known .speed-high }) (λ u. let n : 12 ≡ 1 = sym u ∙ k in omega arith) (subst (λ (j : ℕ). T (not (eqb j 8 || eqb j 9))) (sym k) tt)
 
     pub entry-2 : r .kind ≡ 2 → EntryKnown r → firstRefused (absentChecks (placeBefore F r) ++ lateralNeeds F (r .side)) ≡ 0 → T (within 1 12 (lateral (num s))) → T (not (isFlyingZone (lateral (num s)))) → After f line runway legs r
     entry-2 k known c tl tf =
@@ -102,7 +102,7 @@ module _ (f : Side) (line : List Placed) (runway : List Aircraft) (legs : Legs) 
         let t16 : eqb (potential f zs (num s)) 0 ≡ true = ap (λ (n : ℕ). eqb n 0) (sym (potential-is f line runway legs (o .alternates) (num s)) ∙ ap (potentialOf F) (sym side)) ∙ p .1 .0 in
         after-entry s f line runway legs o r (lateral (num s)) tl tf side (subst (λ (j : ℕ). T (isEntry j)) (sym k) tt)
         (effect-at F r k ∙ ap (λ (n : ℕ). Rattle.rules.specs.Kinds.entered F r (lateral n)) side)
-        (enter-lateral f s zs (o .okay-line) (pass t16)) (known .number) (new-number (p .0)) (known .speed-low) (known .speed-high) (λ u. let n : 12 ≡ 2 = sym u ∙ k in omega arith) (subst (λ (j : ℕ). T (not (eqb j 8 || eqb j 9))) (sym k) tt)
+        (enter-lateral f s zs (o .okay-line) (pass t16)) (known .number) (new-number (p .0)) (record { least = known .speed-low; most = known .speed-high }) (λ u. let n : 12 ≡ 2 = sym u ∙ k in omega arith) (subst (λ (j : ℕ). T (not (eqb j 8 || eqb j 9))) (sym k) tt)
 
   one-side : (s : Side) → r .side ≡ num s → r .kind ≡ 1 → EntryKnown r → firstRefused (absentChecks (placeBefore F r) ++ verticalNeeds F (r .side)) ≡ 0 → After f line runway legs r
   unfolding isFlyingZone
@@ -143,7 +143,7 @@ module _ (f : Side) (line : List Placed) (runway : List Aircraft) (legs : Legs) 
                           (
                             (λ h. eleven f line runway legs o r h (at-kind 11 h)),
                             (
-                              (λ h. let t = tick-known r i h in after-12 f line runway legs o r h (t .amount-low) (t .amount-high)),
+                              (λ h. let t = tick-known r i h in after-12 f line runway legs o r h (record { least = t .amount-low; most = t .amount-high })),
                               ((λ h. absurd (let u = known .high in omega arith)), tt),
                             ),
                           ),

@@ -2,7 +2,7 @@
 use mathlib.Core.Path.{_≡_, refl, sym, ap, _∙_}
 use mathlib.Core.Logic.{_⊎_, inl, inr}
 use mathlib.Core.Bool.{Bool, true, false, cond}
-use mathlib.Core.List.{List, [], _∷_, map}
+use mathlib.Core.List.{List, [], _∷_, map, map-id}
 use Prim.Native.Nat.{ℕ, _≤_}
 use native.Mathlib.Nat.{le-trans}
 use native.Mathlib.Omega.{arith}
@@ -11,12 +11,13 @@ use lib.ListN.{length}
 use lib.Ieee.{Float}
 use borrow.Author.Tests.{eqb-true}
 use Rattle.field.specs.declared.Aircraft.{Aircraft}
-use Rattle.field.specs.declared.Zone.{Zone}
 use Rattle.field.specs.declared.Legs.{Legs}
 use Rattle.field.specs.Boxes.{isFlyingZone, legOf, withProgress}
 use Rattle.tick.specs.Tick.{tickedAircraft, tickedZone, ticked}
 use Rattle.order.specs.Model.{Side, num, nextFix}
 use Rattle.field.proofs.Tests.{if-true, if-false, decided}
+use Rattle.tick.proofs.Tick.{tickedIn}
+use Rattle.laws.proofs.TickLaws.{tickedAt, number-kept}
 use Rattle.line.proofs.Line.{zoneFor, sequenceFor, fieldBy, by-zones, Placed, zonesIn, numbersOf, inside, zonesOf, fieldOf}
 use Rattle.line.proofs.Counted.{not-13}
 use Rattle.line.proofs.Located.{zone-split}
@@ -24,12 +25,7 @@ use Rattle.line.proofs.Orderly.{inside-le}
 
 -- one of the line after a tick
 abbrev pub tickPlaced : Legs → ℕ → Placed → Placed
-tickPlaced legs amount e =
-    record { aircraft = cond (isFlyingZone (e .zone)) (tickedAircraft (legOf legs (e .zone)) amount (e .aircraft)) (e .aircraft); zone = e .zone }
-
--- a zone of the field, ticked where it is flown in
-abbrev tickAt : Legs → ℕ → ℕ → Zone → Zone
-tickAt legs amount z q = cond (isFlyingZone z) (tickedZone (legOf legs z) amount q) q
+tickPlaced legs amount e = record { aircraft = tickedAt legs amount (e .zone) (e .aircraft); zone = e .zone }
 
 zone-ticked : (leg : Float) (amount : ℕ) (xs : List Aircraft) → length xs ≤ 4 → tickedZone leg amount (zoneFor xs) ≡ zoneFor (map (tickedAircraft leg amount) xs)
 unfolding tickedZone tickedAircraft withProgress
@@ -41,59 +37,43 @@ zone-ticked leg amount (x ∷ y ∷ z ∷ w ∷ []) h = refl
 zone-ticked leg amount (x ∷ y ∷ z ∷ w ∷ v ∷ rest) h = absurd (omega arith)
 
 module _ (legs : Legs) (amount : ℕ) where
-  -- an aircraft of zone z after a tick
-  abbrev tickIn : ℕ → Aircraft → Aircraft
-  tickIn z x = cond (isFlyingZone z) (tickedAircraft (legOf legs z) amount x) x
-
-  inside-ticked : (z : ℕ) (line : List Placed) → inside z (map (tickPlaced legs amount) line) ≡ map (tickIn z) (inside z line)
+  inside-ticked : (z : ℕ) (line : List Placed) → inside z (map (tickPlaced legs amount) line) ≡ map (tickedAt legs amount z) (inside z line)
   inside-ticked z [] = refl
   inside-ticked z (e ∷ line) = go (decided (eqb (e .zone) z)) (inside-ticked z line)
     where
-      go : (eqb (e .zone) z ≡ true) ⊎ (eqb (e .zone) z ≡ false) → inside z (map (tickPlaced legs amount) line) ≡ map (tickIn z) (inside z line)
-          → inside z (map (tickPlaced legs amount) (e ∷ line)) ≡ map (tickIn z) (inside z (e ∷ line))
+      go : (eqb (e .zone) z ≡ true) ⊎ (eqb (e .zone) z ≡ false) → inside z (map (tickPlaced legs amount) line) ≡ map (tickedAt legs amount z) (inside z line)
+          → inside z (map (tickPlaced legs amount) (e ∷ line)) ≡ map (tickedAt legs amount z) (inside z (e ∷ line))
       go (inl b) h =
-          if-true (tickIn (e .zone) (e .aircraft) ∷ inside z (map (tickPlaced legs amount) line)) (inside z (map (tickPlaced legs amount) line)) b
-          ∙ ap (λ (w : ℕ). tickIn w (e .aircraft) ∷ inside z (map (tickPlaced legs amount) line)) (eqb-true (e .zone) z b)
-          ∙ ap (λ (l : List Aircraft). tickIn z (e .aircraft) ∷ l) h
-          ∙ sym (ap (map (tickIn z)) (if-true (e .aircraft ∷ inside z line) (inside z line) b))
+          if-true (tickedAt legs amount (e .zone) (e .aircraft) ∷ inside z (map (tickPlaced legs amount) line)) (inside z (map (tickPlaced legs amount) line)) b
+          ∙ ap (λ (w : ℕ). tickedAt legs amount w (e .aircraft) ∷ inside z (map (tickPlaced legs amount) line)) (eqb-true (e .zone) z b)
+          ∙ ap (λ (l : List Aircraft). tickedAt legs amount z (e .aircraft) ∷ l) h
+          ∙ sym (ap (map (tickedAt legs amount z)) (if-true (e .aircraft ∷ inside z line) (inside z line) b))
       go (inr b) h =
-          if-false (tickIn (e .zone) (e .aircraft) ∷ inside z (map (tickPlaced legs amount) line)) (inside z (map (tickPlaced legs amount) line)) b
+          if-false (tickedAt legs amount (e .zone) (e .aircraft) ∷ inside z (map (tickPlaced legs amount) line)) (inside z (map (tickPlaced legs amount) line)) b
           ∙ h
-          ∙ sym (ap (map (tickIn z)) (if-false (e .aircraft ∷ inside z line) (inside z line) b))
+          ∙ sym (ap (map (tickedAt legs amount z)) (if-false (e .aircraft ∷ inside z line) (inside z line) b))
 
-  map-same : (xs : List Aircraft) → xs ≡ map (λ x. x) xs
-  map-same [] = refl
-  map-same (x ∷ xs) = ap (λ (l : List Aircraft). x ∷ l) (map-same xs)
-
-  zone-at : (z : ℕ) (xs : List Aircraft) → length xs ≤ 4 → tickAt legs amount z (zoneFor xs) ≡ zoneFor (map (tickIn z) xs)
+  zone-at : (z : ℕ) (xs : List Aircraft) → length xs ≤ 4 → tickedIn legs amount z (zoneFor xs) ≡ zoneFor (map (tickedAt legs amount z) xs)
   zone-at z xs h = go (isFlyingZone z)
     where
       go : (b : Bool) → cond b (tickedZone (legOf legs z) amount (zoneFor xs)) (zoneFor xs) ≡ zoneFor (map (λ x. cond b (tickedAircraft (legOf legs z) amount x) x) xs)
       go true = zone-ticked (legOf legs z) amount xs h
-      go false = ap zoneFor (map-same xs)
+      go false = ap zoneFor (sym (map-id xs))
 
   pub zones-same : (line : List Placed) → zonesIn (map (tickPlaced legs amount) line) ≡ zonesIn line
   zones-same [] = refl
   zones-same (e ∷ line) = ap (λ (l : List ℕ). e .zone ∷ l) (zones-same line)
 
-  pub number-same : (e : Placed) → tickPlaced legs amount e .aircraft .number ≡ e .aircraft .number
-  unfolding tickedAircraft withProgress
-  number-same e = go (isFlyingZone (e .zone))
-    where
-      go : (b : Bool) → cond b (tickedAircraft (legOf legs (e .zone)) amount (e .aircraft)) (e .aircraft) .number ≡ e .aircraft .number
-      go true = refl
-      go false = refl
-
   pub numbers-same : (line : List Placed) → numbersOf (map (tickPlaced legs amount) line) ≡ numbersOf line
   numbers-same [] = refl
-  numbers-same (e ∷ line) = ap (λ (n : ℕ). n ∷ numbersOf (map (tickPlaced legs amount) line)) (number-same e) ∙ ap (λ (l : List ℕ). e .aircraft .number ∷ l) (numbers-same line)
+  numbers-same (e ∷ line) = ap (λ (n : ℕ). n ∷ numbersOf (map (tickPlaced legs amount) line)) (number-kept legs amount (e .zone) (e .aircraft)) ∙ ap (λ (l : List ℕ). e .aircraft .number ∷ l) (numbers-same line)
 
   pub ticks : (f : Side) (line : List Placed) (runway : List Aircraft) → length line ≤ 4 → ticked (fieldOf f line runway legs) amount ≡ fieldOf f (map (tickPlaced legs amount) line) runway legs
   unfolding ticked fieldOf isFlyingZone
   ticks f line runway h =
-      by-zones (λ z. tickAt legs amount z (zonesOf line runway z)) (sequenceFor (numbersOf line)) (num (nextFix f (zonesIn line))) legs (zonesOf (map (tickPlaced legs amount) line) runway)
-      (zone-split {P = λ z. tickAt legs amount z (zonesOf line runway z) ≡ zonesOf (map (tickPlaced legs amount) line) runway z} refl
-      (λ z t. ap (tickAt legs amount z) (if-false (zoneFor runway) (zoneFor (inside z line)) (not-13 z t))
+      by-zones (λ z. tickedIn legs amount z (zonesOf line runway z)) (sequenceFor (numbersOf line)) (num (nextFix f (zonesIn line))) legs (zonesOf (map (tickPlaced legs amount) line) runway)
+      (zone-split {P = λ z. tickedIn legs amount z (zonesOf line runway z) ≡ zonesOf (map (tickPlaced legs amount) line) runway z} refl
+      (λ z t. ap (tickedIn legs amount z) (if-false (zoneFor runway) (zoneFor (inside z line)) (not-13 z t))
       ∙ zone-at z (inside z line) (le-trans (inside-le z line) h)
       ∙ sym (if-false (zoneFor runway) (zoneFor (inside z (map (tickPlaced legs amount) line))) (not-13 z t) ∙ ap zoneFor (inside-ticked z line))))
       ∙ ap (λ (ns : List ℕ). fieldBy (zonesOf (map (tickPlaced legs amount) line) runway) (sequenceFor ns) (num (nextFix f (zonesIn line))) legs) (sym (numbers-same line))

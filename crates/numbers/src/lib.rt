@@ -1,8 +1,10 @@
-// The numbers of those on the field in a row, and what bound e asks of them (specs/Bounds.antt).
+// The numbers of those on the field in a row, and what bound e asks of them (specs/Numbers.antt).
 use field::Field;
 use field::Zone;
 use field::boxes::order_length;
 use field::boxes::queue_length;
+use field::zones::FINAL;
+use field::zones::RUNWAY;
 ghost use mathlib.Core.Path.{_≡_};
 ghost use mathlib.Core.Bool.{not};
 ghost use mathlib.Core.List.{_++_, map};
@@ -109,7 +111,7 @@ fn numbers_to(f: Field, last: usize) -> Numbers
 pub fn numbers_differ(f: Field) -> bool
     ensures { λ r. ⌜ r ≡ numbersDiffer f ⌝ }
 {
-    let all = numbers_to(f, 13);
+    let all = numbers_to(f, RUNWAY);
     let n = all.length;
     let list = all.list;
     let numbers = &list[..n];
@@ -123,7 +125,7 @@ pub fn numbers_differ(f: Field) -> bool
 pub fn sequence_exact(f: Field) -> bool
     ensures { λ r. ⌜ r ≡ sequenceExact f ⌝ }
 {
-    let all = numbers_to(f, 12);
+    let all = numbers_to(f, FINAL);
     let n = all.length;
     let list = all.list;
     let there = &list[..n];

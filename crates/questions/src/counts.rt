@@ -3,6 +3,12 @@ use field::Field;
 use field::Zone;
 use field::boxes::queue_length;
 use field::boxes::zone_of;
+use field::zones::AT_2000;
+use field::zones::FINAL;
+use field::zones::FIRST_BASE;
+use field::zones::LATERAL;
+use field::zones::MISSED;
+use field::zones::RUNWAY;
 ghost use mathlib.Core.Path.{_≡_};
 ghost use mathlib.Core.Bool.{cond};
 ghost use Prim.Native.Nat.{_-_, _≤_};
@@ -44,7 +50,7 @@ pub fn in_operation(f: Field) -> usize
     ensures { λ r. ⌜ r ≡ inOperation f ⌝ }
 {
     let mut n: usize = 0;
-    for zone in 1..=12 {
+    for zone in 1..=FINAL {
         let q = f.zones[zone - 1];
         n += queue_length(q);
     }
@@ -55,7 +61,7 @@ pub fn in_operation(f: Field) -> usize
 pub fn present_on(f: Field) -> usize
     ensures { λ r. ⌜ r ≡ presentOn f ⌝ }
 {
-    in_operation(f) + how_many(f, 13)
+    in_operation(f) + how_many(f, RUNWAY)
 }
 
 // How many are in a side's area.
@@ -63,17 +69,17 @@ pub fn in_area(f: Field, side: u8) -> usize
     ensures { λ r. ⌜ r ≡ inArea f side ⌝ }
 {
     let s = side as usize;
-    how_many(f, s) + how_many(f, 2 + s) + how_many(f, 4 + s) + how_many(f, 6 + s)
+    how_many(f, s) + how_many(f, AT_2000 + s) + how_many(f, LATERAL + s) + how_many(f, MISSED + s)
 }
 
-// How many in zones `first` to 12 have a side as fix.
+// How many in the zones from `first` to final have a side as fix.
 fn with_fix_from(f: Field, side: u8, first: usize) -> usize
     requires { ⌜ 1 ≤ first ⌝ }
     requires { ⌜ first ≤ 12 ⌝ }
     ensures { λ r. ⌜ r ≡ total (howManyWithFix f side) (zonesFrom first (13 - first)) ⌝ }
 {
     let mut n: usize = 0;
-    for zone in first..=12 {
+    for zone in first..=FINAL {
         let q = f.zones[zone - 1];
         n += have_fix(q, side);
     }
@@ -91,7 +97,7 @@ pub fn per_fix(f: Field, side: u8) -> usize
 pub fn approach_holds(f: Field, side: u8) -> bool
     ensures { λ r. ⌜ r ≡ approachHolds f side ⌝ }
 {
-    with_fix_from(f, side, 9) != 0
+    with_fix_from(f, side, FIRST_BASE) != 0
 }
 
 // Whether a zone belongs to a side's area.
@@ -102,13 +108,13 @@ fn is_in_area(side: u8, zone: usize) -> bool
     if s == zone {
         return true;
     }
-    if 2 + s == zone {
+    if AT_2000 + s == zone {
         return true;
     }
-    if 4 + s == zone {
+    if LATERAL + s == zone {
         return true;
     }
-    6 + s == zone
+    MISSED + s == zone
 }
 
 // How many of a zone's queue count for a side: all of them in the side's area, and elsewhere those with the side as fix.
@@ -127,7 +133,7 @@ pub fn potential_of(f: Field, side: u8) -> usize
     ensures { λ r. ⌜ r ≡ potentialOf f side ⌝ }
 {
     let mut n: usize = 0;
-    for zone in 1..=12 {
+    for zone in 1..=FINAL {
         let q = f.zones[zone - 1];
         n += counted_in(q, side, zone);
     }

@@ -8,6 +8,7 @@ use field::boxes::nobody;
 use field::boxes::order_length;
 use field::boxes::queue_length;
 use field::boxes::zone_of;
+use field::zones::RUNWAY;
 ghost use mathlib.Core.Path.{_≡_};
 ghost use mathlib.Core.List.{_∷_};
 ghost use lib.ListN.{getD};
@@ -19,7 +20,7 @@ pub fn place_of(f: Field, number: u16) -> Place
     ensures { λ r. ⌜ r ≡ placeOf f number ⌝ }
 {
     let mut found = Place { zone: 0, place: 0 };
-    'zones: for zone in 1..=13 {
+    'zones: for zone in 1..=RUNWAY {
         let q = f.zones[zone - 1];
         let end = queue_length(q);
         for i in 0..end {

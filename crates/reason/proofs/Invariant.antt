@@ -24,7 +24,8 @@ use Rattle.order.specs.Model as model
 use Rattle.rules.specs.Reason.{Listed, along, those, isInArea, neverFalls, eachAmong, fromLanding, approachOrder, heightIn, areaOrder, hasRoom, roomToMiss, lateralFree, lateralEntry, Reason, hasPlaces}
 use Rattle.field.proofs.Lists.{every-listed}
 use Rattle.laws.proofs.BoundLaws.{Within, within-each}
-use Rattle.field.proofs.Tests.{each-operation, passed, pass, decided, first-of}
+use Rattle.field.proofs.Tests.{each-operation, passed, pass, decided}
+use Rattle.laws.proofs.Fits.{fits-parts}
 use Rattle.line.proofs.Line.{sequenceFor, zoneFor, Placed, zonesIn, numbersOf, inside, fieldOf}
 use Rattle.line.proofs.Counted.{length-inside, Alternates, total-same, total-add, lower, side-area, in-everywhere}
 use Rattle.questions.proofs.FindLaws.{numbers}
@@ -187,8 +188,8 @@ module _ (f : Field) (h : T (hasPlaces f)) (s : Within f) (p : Parts f) (c : Rea
       wider z i = in-everywhere z (lower z (every-listed (within 1 12) operation z tt i))
 
   fix-side : (n : ℕ) → T (isIn n (numbersIn f operation)) → T (isSide (fixOf f n))
-  unfolding fitsZone fixOf
-  fix-side n t = first-of (isSide (fixOf f n)) _ _ (fits-one n t)
+  unfolding fixOf
+  fix-side n t = fits-parts (f .legs) (placeOf f n .zone) (lookedUp f n .aircraft) (fits-one n t) .side
 
   zones-in : (ms : List ℕ) → T (every (λ n. isIn n (numbersIn f operation)) ms) → T (all (within 1 12) (zonesIn (map (lookedUp f) ms)))
   zones-in [] t = tt

@@ -25,7 +25,7 @@ use Rattle.rules.specs.Step.{checksOf, effectOf, numberOf, stepOf}
 use Rattle.rules.specs.Play.{fieldAfter}
 use Rattle.rules.specs.Reason.{Reason, RoomAtSide, Sound, KeptBy}
 use Rattle.rules.specs.Examples.{crowded}
-use Rattle.field.proofs.Tests.{passed, pass, decided, if-true, if-false}
+use Rattle.field.proofs.Tests.{failed, passed, pass, decided, if-true, if-false}
 use Rattle.line.proofs.Line.{Placed, fieldOf}
 use Rattle.line.proofs.Orderly.{Orderly}
 use Rattle.line.proofs.Within.{within-bounds}
@@ -36,7 +36,7 @@ use Rattle.reason.proofs.AlongLine.{orderly-reason}
 use Rattle.rules.proofs.Cases.{bounds-not-enough}
 use Rattle.reason.proofs.Room.{reason-gives-room}
 use Rattle.reason.proofs.Invariant.{reason-orderly}
-use Rattle.reason.proofs.OneStep.{orderly-kept}
+use Rattle.reason.proofs.OneStep.{orderly-sound, orderly-kept}
 
 -- ---- after every list
 module _ (legs : Legs) (l : T (legalLegs legs)) where
@@ -52,6 +52,10 @@ module _ (legs : Legs) (l : T (legalLegs legs)) where
   pub always-room : (rs : List Request) → RoomAtSide (fieldAfter (emptyField legs) rs)
   always-room = after-list RoomAtSide (λ f line runway o. reason-gives-room (fieldOf f line runway legs) (orderly-reason f line runway legs o) (within-bounds f line runway legs o))
 
+  -- the empty field has its places, the bounds and the reason
+  pub empty-sound : Sound (emptyField legs)
+  empty-sound = after-list Sound (λ f line runway o. orderly-sound f line runway legs o) []
+
 -- the field on which 25 refuses a miss is reached by no list
 pub crowded-not-reached : (legs : Legs) → T (legalLegs legs) → (rs : List Request) → fieldAfter (emptyField legs) rs ≡ crowded → ⊥
 crowded-not-reached legs l rs e = false≢true (sym (bounds-not-enough .no-room) ∙ passed (subst Reason e (reason-holds legs l rs) .room-to-miss))
@@ -63,6 +67,12 @@ pub reason-kept : (f : Field) → Sound f → (r : Request) → KeptBy f r
 reason-kept f s r =
     let o = reason-orderly f (s .places) (s .bounds) (s .reason) in
     subst (λ (g : Field). KeptBy g r) (sym (o .is)) (orderly-kept (o .first) (o .line) (o .runway) (o .legs) (o .orderly) r)
+
+-- so the number of a request is neither there
+pub neither-10-nor-25 : (f : Field) → Sound f → (r : Request) → (numberOf f r ≡ 10 → ⊥) × (numberOf f r ≡ 25 → ⊥)
+neither-10-nor-25 f s r =
+    let k = reason-kept f s r in
+    (λ e. eqb-false _ 10 (failed (k .not-10)) (number-is f r ∙ e), λ e. eqb-false _ 25 (failed (k .not-25)) (number-is f r ∙ e))
 
 -- ---- a missed approach that is accepted
 

@@ -23,7 +23,8 @@ use Rattle.order.specs.Model.{count, one}
 use Rattle.rules.specs.Reason.{Listed, listed, along, those, isInZone, isInArea, neverFalls, eachAmong, fromLanding, approachOrder, hasRoom, roomToMiss, Reason, RoomAtSide}
 use Rattle.laws.proofs.BoundLaws.{within-each}
 use Rattle.field.proofs.Lists.{every-listed}
-use Rattle.field.proofs.Tests.{decided, if-true, if-false, flip-eqb, first-of}
+use Rattle.field.proofs.Tests.{decided, if-true, if-false, flip-eqb}
+use Rattle.laws.proofs.Fits.{fits-parts}
 use Rattle.line.proofs.Counted.{total-add, total-none}
 use Rattle.line.proofs.Members.{count-absent, count-different}
 
@@ -149,13 +150,13 @@ in-zones zs t (x ∷ xs) =
 
 -- ---- bound g: the fix of an aircraft is a side
 fix-side : (f : Field) → T (withinBounds f) → (x : Aircraft) (rest : List Aircraft) → inZone f 12 ≡ x ∷ rest → T (isSide (x .fix))
-unfolding boundG fitsZone
+unfolding boundG
 fix-side f t x rest e =
     let zones = every (λ z. every (fitsZone (f .legs) z) (inZone f z)) everywhere in
     let fits = and-l zones (isSide (f .next)) (and-l (zones && isSide (f .next)) (legalLegs (f .legs)) (within-each f t .bound-g)) in
     let all-12 = subst (λ (q : List Aircraft). T (every (fitsZone (f .legs) 12) q)) e (every-listed (λ z. every (fitsZone (f .legs) z) (inZone f z)) everywhere 12 fits refl) in
     let one-12 = and-l (fitsZone (f .legs) 12 x) (every (fitsZone (f .legs) 12) rest) all-12 in
-    first-of (isSide (x .fix)) _ _ one-12
+    fits-parts (f .legs) 12 x one-12 .side
 
 side-is : (P : ℕ → Type 0) → P 1 → P 2 → (s : ℕ) → T (isSide s) → P s
 unfolding isSide

@@ -4,7 +4,7 @@ use lib.Dec.{T}
 use lib.Ieee.{add, mul, div, ofInt, round, lt, le, eq}
 use Rattle.leg.specs.Progress.{advanced}
 use Rattle.request.specs.Input.{kindAllowed, sideAllowed, numberAllowed, amountAllowed, inputNumber}
-use Rattle.field.specs.Boxes.{isSide, sideOf, opposite, isFlyingZone, zoneOf, queueOf, inZone, orderOf, progressInto, entering, withProgress, withFix, legOf, flownOutIn, emptyField}
+use Rattle.field.specs.Boxes.{isSide, sideOf, opposite, isFlyingZone, zoneOf, queueOf, inZone, orderOf, progressInto, entering, withProgress, arrived, withFix, legOf, flownOutIn, emptyField}
 use Rattle.questions.specs.Counts.{howMany, howManyWithFix, inOperation, inArea, perFix, approachHolds, countedFor, potentialOf}
 use Rattle.questions.specs.Find.{findIn, placeOf, aircraftAt, fixOf, isFirst, leaderOf, leaderZone}
 use Rattle.field.specs.Lists.{every}
@@ -23,7 +23,7 @@ use Rattle.field.proofs.Tests.{each-operation}
 computed : T (every caseHolds marked) × T (every caseHolds examples) × BoundsNotEnough crowded missOfSeven
 unfolding
     advanced kindAllowed sideAllowed numberAllowed amountAllowed inputNumber isSide opposite isFlyingZone zoneOf queueOf inZone orderOf progressInto entering
-    withProgress withFix legOf flownOutIn emptyField howMany howManyWithFix inOperation inArea perFix approachHolds countedFor potentialOf findIn placeOf
+    withProgress arrived withFix legOf flownOutIn emptyField howMany howManyWithFix inOperation inArea perFix approachHolds countedFor potentialOf findIn placeOf
     aircraftAt fixOf isFirst leaderOf leaderZone boundA boundB lateralRule boundC boundD numbersDiffer sequenceExact finalFirst isNobody zoneKept sequenceKept
     boundE boundF fitsZone legalLegs boundG withinBounds withoutHead withTail appended removed withZone withSequence tickedAircraft tickedZone ticked sideOf
     startsFrom mayApproach baseFree mayMerge headGone tailPut moved

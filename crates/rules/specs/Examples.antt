@@ -9,7 +9,7 @@ use Rattle.request.specs.declared.Request.{Request}
 use Rattle.field.specs.declared.Aircraft.{Aircraft}
 use Rattle.field.specs.declared.Zone.{Zone}
 use Rattle.field.specs.declared.Field.{Field}
-use Rattle.field.specs.Boxes.{right, left, finalApproach, nobody, emptyZone, entering, withProgress, progressInto}
+use Rattle.field.specs.Boxes.{right, left, finalApproach, nobody, emptyZone, entering, arrived}
 use Rattle.bounds.specs.Bounds.{withinBounds}
 use Rattle.rules.specs.Step.{numberAndZeros, stepOf}
 use Rattle.rules.specs.Cases.{ask, says, allLegs, Case, anyField, inOrder, stands, toBase, toFinal}
@@ -66,7 +66,7 @@ crowded =
           ∷ emptyZone
           ∷ emptyZone
           ∷ emptyZone
-          ∷ onlyOne (withProgress (entering 7 right 64) (progressInto finalApproach))
+          ∷ onlyOne (arrived finalApproach (entering 7 right 64))
           ∷ emptyZone
           ∷ [];
       sequence = record { numbers = 7 ∷ 8 ∷ 9 ∷ 0 ∷ []; length = 3 };

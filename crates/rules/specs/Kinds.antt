@@ -8,7 +8,7 @@ use Rattle.request.specs.Input.{within, inRange, isEntry, isTick, ruleOf}
 use Rattle.request.specs.declared.Request.{Request}
 use Rattle.field.specs.declared.Aircraft.{Aircraft}
 use Rattle.field.specs.declared.Field.{Field}
-use Rattle.field.specs.Boxes.{opposite, sideOf, at3000, at2000, lateral, missed, base, intermediate, finalApproach, runway, zoneOf, orderOf, progressInto, entering, withProgress, withFix, flownOutIn}
+use Rattle.field.specs.Boxes.{opposite, sideOf, at3000, at2000, lateral, missed, base, intermediate, finalApproach, runway, zoneOf, orderOf, entering, arrived, withFix, flownOutIn}
 use Rattle.questions.specs.declared.Place.{Place}
 use Rattle.questions.specs.Counts.{howMany, approachHolds, potentialOf, isEmpty}
 use Rattle.questions.specs.Find.{placeOf, aircraftAt, isFirst, leaderZone}
@@ -109,7 +109,7 @@ tailPut f z a = withZone f z (withTail (zoneOf f z) a)
 
 -- the head of zone z to the tail of zone w: "Entering a flying zone sets miles to 0"
 unfoldable pub moved : Field → ℕ → ℕ → Field
-moved f z w = tailPut (headGone f z) w (withProgress (aircraftAt f z 1) (progressInto w))
+moved f z w = tailPut (headGone f z) w (arrived w (aircraftAt f z 1))
 
 -- a number out of the landing sequence
 unfoldable pub outOfSequence : Field → ℕ → Field
@@ -149,7 +149,7 @@ missedApproach f r =
     let a = aircraftAt f finalApproach 1 in
     let w = missed (a .fix) in
     let fix = fixAfterMiss f a in
-    let g = tailPut (headGone f finalApproach) w (withFix (withProgress a (progressInto w)) fix) in
+    let g = tailPut (headGone f finalApproach) w (withFix (arrived w a) fix) in
     withSequence g (appended (removed (f .sequence) (r .number)) (r .number)) (opposite fix)
 
 -- kind 11, from zone z: "If 3000 and 2000 of the side are empty, to 2000. Else if 3000 is empty, to 3000. Else the aircraft at 3000 goes to 2000

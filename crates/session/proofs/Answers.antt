@@ -23,8 +23,9 @@ use Rattle.rules.specs.declared.Answer.{Answer}
 use Rattle.rules.specs.declared.Stepped.{Stepped}
 use Rattle.rules.specs.Kinds.{zoneBefore, heldAlong}
 use Rattle.rules.specs.Step.{checksOf, effectOf, numberOf, numberAndZeros, acceptance, answerOf, stepOf}
-use Rattle.field.proofs.Tests.{passed, decided, first-of}
+use Rattle.field.proofs.Tests.{passed, decided}
 use Rattle.laws.proofs.BoundLaws.{within-each}
+use Rattle.laws.proofs.Fits.{fits-parts}
 use Rattle.questions.proofs.FindLaws.{place-within}
 use Rattle.rules.proofs.StepLaws.{number-is, field-accepted}
 use Rattle.rules.proofs.Refusals.{accepted-within}
@@ -62,8 +63,7 @@ side-low s t = elim (decided (eqb s 1)) [ inl e ↦ (let h = eqb-true s 1 e in o
 
 module _ (legs : Legs) (z : ℕ) where
   fits-fix : (a : Aircraft) → T (fitsZone legs z a) → a .fix ≤ 2
-  unfolding fitsZone
-  fits-fix a t = side-low (a .fix) (first-of (isSide (a .fix)) _ _ t)
+  fits-fix a t = side-low (a .fix) (fits-parts legs z a t .side)
 
   fix-at : (qs : List Aircraft) (i : ℕ) → T (every (fitsZone legs z) qs) → getD qs i nobody .fix ≤ 2
   fix-at [] i t = omega arith

@@ -5,6 +5,7 @@ use mathlib.Core.List.{List}
 use mathlib.Core.Bool.{true}
 use Prim.Native.Nat.{ℕ}
 use lib.Dec.{T}
+use Rattle.limits.specs.Limits.{longestLeg}
 use Rattle.leg.specs.Ticks.{Between}
 use Rattle.practice.specs.declared.FileLegs.{FileLegs}
 use Rattle.practice.specs.File.{legsOf, legsBody, requestsBody, legsAllowed, fileNumber}
@@ -23,7 +24,7 @@ use Rattle.session.specs.Balance.{Balanced}
 use Rattle.session.proofs.Reports.{practice-holds, report-holds}
 
 -- the legs of an accepted file, whole 64ths as the file says them, are legal
-file-legs-legal : (legs : FileLegs) → legsAllowed legs ≡ true → T (legalLegs (legsInMiles legs))
+pub file-legs-legal : (legs : FileLegs) → legsAllowed legs ≡ true → T (legalLegs (legsInMiles legs))
 file-legs-legal legs e =
     let k = legs-known legs e in
     legs-legal
@@ -38,7 +39,7 @@ file-legs-legal legs e =
       final-fits = fits (legs .last) (k .last);
     })
   where
-    fits : (n : ℕ) → LegKnown n → Between 1 4096 n
+    fits : (n : ℕ) → LegKnown n → Between 1 longestLeg n
     fits n k = record { least = k .low; most = k .high }
 
 pub report-balanced : (file : List ℕ) → fileNumber file ≡ 0 → Balanced file

@@ -15,6 +15,8 @@ use Rattle.rules.specs.declared.Answer.{Answer}
 use Rattle.rules.specs.declared.Stepped.{Stepped}
 use Rattle.rules.specs.Step.{stepOf}
 use Rattle.rules.specs.Play.{fieldAfter, played}
+use Rattle.rules.specs.Reason.{Sound}
+use Rattle.reason.proofs.Reason.{reason-kept}
 use Rattle.session.specs.declared.tally.Tally.{Tally}
 use Rattle.session.specs.Text.{decimal, markBefore, line, Put}
 use Rattle.session.specs.Tally.{tallyOf, counted}
@@ -83,20 +85,22 @@ pub record Playing (rs : List Request) (f₀ : Field) (out₀ : List ℕ) (out :
   pub lines : Left out₀ 0 (answerLines 1 (played f₀ rs)) out at (answerLines (suc i) (played f (drop i rs)))
   pub fields : fieldAfter f (drop i rs) ≡ fieldAfter f₀ rs
   pub counts : Adds t (played f (drop i rs)) (played f₀ rs)
+  pub sound : Sound f
 
 -- one answer for each request
 pub length-played : (f : Field) (rs : List Request) → length (played f rs) ≡ length rs
 length-played f [] = refl
 length-played f (r ∷ rs) = ap suc (length-played (stepOf f r .field) rs)
 
-pub playing-none : (rs : List Request) (f : Field) (out : List ℕ) (t : Tally) → t ≡ record { entries = 0; taxis = 0; exits = 0; misses = 0 } → Playing rs f out out f t 0 0
-playing-none rs f out t e =
+pub playing-none : (rs : List Request) (f : Field) (out : List ℕ) (t : Tally) → Sound f → t ≡ record { entries = 0; taxis = 0; exits = 0; misses = 0 } → Playing rs f out out f t 0 0
+playing-none rs f out t s e =
     record {
       within = omega arith;
       short = omega arith;
       lines = left-all out 0 (answerLines 1 (played f rs));
       fields = refl;
       counts = adds-none t (played f rs) e;
+      sound = s;
     }
 
 module _ (rs : List Request) {f₀ : Field} {out₀ out : List ℕ} {f : Field} {t : Tally} {at i : ℕ} (p : Playing rs f₀ out₀ out f t at i) where
@@ -114,6 +118,7 @@ module _ (rs : List Request) {f₀ : Field} {out₀ out : List ℕ} {f : Field} 
             (ap (answerLines (suc i)) ps ∙ ap (λ (n : ℕ). answerLine n (s .answer) ++ answerLines (suc n) (played (s .field) (drop (i + 1) rs))) (sym (add-one i))) w;
         fields = ap (λ (x : Stepped). fieldAfter (x .field) (drop (i + 1) rs)) q ∙ sym (ap (fieldAfter f) d) ∙ p .fields;
         counts = adds-more (subst (λ (l : List (Request × Answer)). Adds t l (played f₀ rs)) ps (p .counts)) k;
+        sound = subst⁻¹ (λ (x : Stepped). Sound (x .field)) q (reason-kept f (p .sound) r .sound);
       }
 
   -- where the field reached is put into one of two, at i % 2, it is read there

@@ -17,12 +17,15 @@ use practice::file_legs;
 use practice::file_number;
 use practice::request_at;
 use questions::counts::present_on;
-use step::step;
+use step::step_unjudged;
 ghost use mathlib.Core.Path.{_≡_};
 ghost use Prim.Native.Nat.{_≤_};
 ghost use mathlib.Core.List.{_++_};
+ghost use lib.Dec.{T};
 ghost use lib.ListN.{length, drop};
+ghost use Rattle.limits.specs.Limits.{mostRequests};
 ghost use Rattle.practice.specs.Requests.{requestsOf};
+ghost use Rattle.bounds.specs.Bounds.{legalLegs};
 ghost use Rattle.session.specs.Text.{room};
 ghost use Rattle.session.specs.Report.{legsInMiles, sessionReport, reportOf, Written};
 
@@ -42,9 +45,11 @@ fn legs_in_miles(legs: FileLegs) -> Legs
 }
 
 // Plays the requests of a body from the empty field, and puts the whole report: their lines and the last line.
-// Two fields take turns, the one before a request and the one after it.
+// Two fields take turns, the one before a request and the one after it; neither is judged, since from an empty field with legal legs
+// neither 10 nor 25 is answered.
 fn play_all(body: &[u8], legs: Legs, out: &mut Buffer) -> usize
-    requires { ⌜ length (requestsOf (now body)) ≤ 4096 ⌝ }
+    requires { ⌜ length (requestsOf (now body)) ≤ mostRequests ⌝ }
+    requires { ⌜ T (legalLegs legs) ⌝ }
     ensures { λ r. ⌜ Written (sessionReport legs (requestsOf (now (body .entry)))) (now (out .entry)) r (now (out .exit)) ⌝ }
 {
     let empty = empty_field(legs);
@@ -57,7 +62,7 @@ fn play_all(body: &[u8], legs: Legs, out: &mut Buffer) -> usize
             break;
         };
         let f = fields[i % 2];
-        let s = step(f, r);
+        let s = step_unjudged(f, r);
         let a = s.answer;
         at = put_answer(out, at, i + 1, a);
         t = counted(t, r, a);

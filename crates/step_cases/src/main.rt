@@ -5,13 +5,13 @@ use field::Field;
 use field::Legs;
 use field::Sequence;
 use field::Zone;
+use field::boxes::arrived;
 use field::boxes::empty_field;
 use field::boxes::empty_zone;
 use field::boxes::entering;
 use field::boxes::flown_out_in;
 use field::boxes::nobody;
 use field::boxes::opposite;
-use field::boxes::progress_into;
 use field::boxes::with_progress;
 use field::boxes::zone_of;
 use field::edits::appended;
@@ -40,7 +40,7 @@ fn legs(miles: f64) -> Legs {
 
 // An aircraft of speed 64 as it enters a zone.
 fn into(zone: usize, number: u16, fix: u8) -> Aircraft {
-    with_progress(entering(number, fix, 64), progress_into(zone))
+    arrived(zone, entering(number, fix, 64))
 }
 
 // The field with an aircraft at the tail of a zone.

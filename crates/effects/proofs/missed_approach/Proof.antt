@@ -2,11 +2,10 @@
 use mathlib.Core.Path.{_≡_}
 use Prim.Native.Nat.{ℕ, _+_}
 use Rattle.request.specs.declared.Request.{Request}
-use Rattle.leg.specs.declared.Progress.{Progress}
 use Rattle.field.specs.declared.Aircraft.{Aircraft}
 use Rattle.field.specs.declared.Sequence.{Sequence}
 use Rattle.field.specs.declared.Field.{Field}
-use Rattle.field.specs.Boxes.{opposite, progressInto, withProgress, withFix}
+use Rattle.field.specs.Boxes.{opposite, arrived, withFix}
 use Rattle.field.specs.Edits.{appended, removed, withSequence}
 use Rattle.questions.specs.Find.{aircraftAt}
 use Rattle.rules.specs.Kinds.{headGone, tailPut, fixAfterMiss, missedApproach}
@@ -15,12 +14,12 @@ use Rattle.effects.proofs.missed_approach.Statement.{statement}
 use Rattle.effects.proofs.missed_approach.Tie as tie
 
 -- the field by its parts
-made : (f : Field) (r : Request) {a b d : Aircraft} {p : Progress} {fix next : ℕ} {g h x : Field} {s t : Sequence}
-    → a ≡ aircraftAt f 12 1 → fix ≡ fixAfterMiss f a → p ≡ progressInto (6 + a .fix) → b ≡ withProgress a p → d ≡ withFix b fix
+made : (f : Field) (r : Request) {a b d : Aircraft} {fix next : ℕ} {g h x : Field} {s t : Sequence}
+    → a ≡ aircraftAt f 12 1 → fix ≡ fixAfterMiss f a → b ≡ arrived (6 + a .fix) a → d ≡ withFix b fix
     → g ≡ headGone f 12 → h ≡ tailPut g (6 + a .fix) d
     → s ≡ removed (f .sequence) (r .number) → t ≡ appended s (r .number) → next ≡ opposite fix → x ≡ withSequence h t next → x ≡ missedApproach f r
 unfolding missedApproach
-made f r ea ef ep eb ed eg eh es et en ex = cc
+made f r ea ef eb ed eg eh es et en ex = cc
 
 aircraft-at-requires : tie.Need-aircraft-at-requires
 aircraft-at-requires c κs = search needs
@@ -34,11 +33,8 @@ add-zone c = search needs
 fix-after-miss-requires : tie.Need-fix-after-miss-requires
 fix-after-miss-requires c κs = search needs
 
-progress-into-requires : tie.Need-progress-into-requires
-progress-into-requires c κs = search needs
-
-with-progress-requires : tie.Need-with-progress-requires
-with-progress-requires c κs = search needs
+arrived-requires : tie.Need-arrived-requires
+arrived-requires c κs = search needs
 
 with-fix-requires : tie.Need-with-fix-requires
 with-fix-requires c κs = search needs
@@ -63,14 +59,13 @@ with-sequence-requires c κs = search needs
 
 returns : tie.Need-returns
 returns c =
-    let a = c .before .before .before .before .before .before .before .before .before .before .before .before in
+    let a = c .before .before .before .before .before .before .before .before .before .before .before in
     let b = c .before .before .before .before .before .before .before in
     let d = c .before .before in
     made (a .before .args .f) (a .before .args .r)
     (a .aircraft-at .ensures)
-    (b .before .before .before .fix-after-miss .ensures)
-    (b .before .before .progress-into .ensures)
-    (b .before .with-progress .ensures)
+    (b .before .before .fix-after-miss .ensures)
+    (b .before .arrived .ensures)
     (b .with-fix .ensures)
     (d .before .before .before .before .head-gone .ensures)
     (d .before .before .before .tail-put .ensures)
@@ -87,8 +82,7 @@ missed-approach-spec =
     cast-zone
     add-zone
     fix-after-miss-requires
-    progress-into-requires
-    with-progress-requires
+    arrived-requires
     with-fix-requires
     head-gone-requires
     tail-put-requires

@@ -7,11 +7,8 @@ use Rattle.effects.proofs.moved.Tie as tie
 aircraft-at-requires : tie.Need-aircraft-at-requires
 aircraft-at-requires c κs = search needs
 
-progress-into-requires : tie.Need-progress-into-requires
-progress-into-requires c κs = search needs
-
-with-progress-requires : tie.Need-with-progress-requires
-with-progress-requires c κs = search needs
+arrived-requires : tie.Need-arrived-requires
+arrived-requires c κs = search needs
 
 head-gone-requires : tie.Need-head-gone-requires
 head-gone-requires c κs = search needs
@@ -28,8 +25,7 @@ moved-spec =
     tie.close
     (tie.spec
     aircraft-at-requires
-    progress-into-requires
-    with-progress-requires
+    arrived-requires
     head-gone-requires
     tail-put-requires
     returns)

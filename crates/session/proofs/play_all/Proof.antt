@@ -14,6 +14,8 @@ use Rattle.field.specs.declared.Field.{Field}
 use Rattle.questions.specs.Counts.{presentOn}
 use Rattle.rules.specs.declared.Stepped.{Stepped}
 use Rattle.rules.specs.Play.{fieldAfter, played}
+use Rattle.rules.specs.Reason.{Sound}
+use Rattle.reason.proofs.Reason.{empty-sound, neither-10-nor-25}
 use Rattle.session.specs.Text.{room, Put}
 use Rattle.session.specs.Tally.{tallyOf, Under}
 use Rattle.session.specs.Report.{answerLine, answerLines, endLine, sessionReport}
@@ -34,7 +36,7 @@ abbrev μ-loop : tie.MeasureT-loop
 μ-loop body out₀ fields₀ t₀ at₀ i₀ out fields t at i = length (requestsOf body) - i
 
 -- ---- the way back: from the step to the request that was read, to the loop's head and to the start
-abbrev read-at : tie.After-step Inv-loop μ-loop → tie.After-r Inv-loop μ-loop
+abbrev read-at : tie.After-step-unjudged Inv-loop μ-loop → tie.After-r Inv-loop μ-loop
 read-at c = c .before .before .before
 
 abbrev head : tie.After-r Inv-loop μ-loop → tie.At-loop Inv-loop μ-loop
@@ -62,28 +64,28 @@ no-reading : (c : tie.After-enum-told Inv-loop μ-loop) → readingAt (requests 
 no-reading c = sym (c .before .before .request-at .ensures) ∙ c .enum-told .given .1
 
 -- the line of the answer is short, with every index of four digits
-short : (c : tie.After-step Inv-loop μ-loop) {index : ℕ} → index < 10000 → length (answerLine index (c .step .result .answer)) ≤ 31
+short : (c : tie.After-step-unjudged Inv-loop μ-loop) {index : ℕ} → index < 10000 → length (answerLine index (c .step-unjudged .result .answer)) ≤ 31
 short c {index} h =
-    let brief = subst⁻¹ (λ (x : Stepped). Short (x .answer)) (c .step .ensures) (short-step _ (request (read-at c))) in
-    answer-length index (c .step .result .answer) h brief (omega (arith, c .step .ok)) (omega (arith, c .step .ok)) (omega (arith, c .step .ok))
+    let brief = subst⁻¹ (λ (x : Stepped). Short (x .answer)) (c .step-unjudged .ensures) (short-step _ (request (read-at c))) in
+    answer-length index (c .step-unjudged .result .answer) h brief (omega (arith, c .step-unjudged .ok)) (omega (arith, c .step-unjudged .ok)) (omega (arith, c .step-unjudged .ok))
 
--- there are no more requests than 4096, so the index has four digits
+-- there are no more requests than `mostRequests`, so the index has four digits
 index-short : (c : tie.At-loop Inv-loop μ-loop) → c .loop .i + 1 < 10000
-index-short c = omega (arith, start c .pre, c .loop .inv .1 (empty c) .within)
+index-short c = omega (arith, start c .pre .0, c .loop .inv .1 (empty c) .within)
 
 -- so there is room for the line
-room-here : (c : tie.After-step Inv-loop μ-loop) {index : ℕ} → index < 10000 → head (read-at c) .loop .at + length (answerLine index (c .step .result .answer)) ≤ room
+room-here : (c : tie.After-step-unjudged Inv-loop μ-loop) {index : ℕ} → index < 10000 → head (read-at c) .loop .at + length (answerLine index (c .step-unjudged .result .answer)) ≤ room
 room-here c h =
     let k = read-at c in
     let l = head k in
     let i = here (requests l) (l .loop .i) (request k) (reading k) in
-    omega (arith, short c h, l .loop .inv .1 (empty l) .short, start l .pre)
+    omega (arith, short c h, l .loop .inv .1 (empty l) .short, start l .pre .0)
 
 -- each count is below 4097
 few : (c : tie.At-loop Inv-loop μ-loop) → Under 4097 (c .loop .t)
 few c =
     let n = length-played (empty c) (requests c) in
-    adds-under 4097 (c .loop .inv .1 (empty c) .counts) (omega (arith, start c .pre))
+    adds-under 4097 (c .loop .inv .1 (empty c) .counts) (omega (arith, start c .pre .0))
 
 empty-field-requires : tie.Need-empty-field-requires Inv-loop μ-loop
 empty-field-requires c κs = search needs
@@ -94,7 +96,8 @@ none-requires c κs = search needs
 loop-holds : tie.Need-loop-holds Inv-loop μ-loop
 loop-holds c =
     let s = c .before .before .before in
-    (refl, λ d. playing-none (requestsOf (now (s .args .body))) (c .before .empty-field .result) (now (s .args .out)) (c .none .result) (c .none .ensures))
+    let sound = subst⁻¹ Sound (c .before .empty-field .ensures) (empty-sound (s .args .legs) (s .pre .1)) in
+    (refl, λ d. playing-none (requestsOf (now (s .args .body))) (c .before .empty-field .result) (now (s .args .out)) (c .none .result) sound (c .none .ensures))
 
 request-at-requires : tie.Need-request-at-requires Inv-loop μ-loop
 request-at-requires c κs = search needs
@@ -111,8 +114,9 @@ mul-f c = search needs
 array-copy-out-f : tie.Need-array-copy-out-f Inv-loop μ-loop
 array-copy-out-f c = search needs
 
-step-requires : tie.Need-step-requires Inv-loop μ-loop
-step-requires c κs = search needs
+-- from the field reached neither 10 nor 25 is answered
+step-unjudged-requires : tie.Need-step-unjudged-requires Inv-loop μ-loop
+step-unjudged-requires c κs = neither-10-nor-25 _ (head (c .before .before) .loop .inv .1 _ .sound) _
 
 add-put-answer : tie.Need-add-put-answer Inv-loop μ-loop
 add-put-answer c =
@@ -151,8 +155,8 @@ loop-again c =
     let t = c .before .before .before .before .before in
     let k = read-at t in
     let l = head k in
-    let next = playing-more (requests l) (l .loop .inv .1 _) (request k) (t .step .result) (reading k) (t .step .ensures) (short t (index-short l)) (c .before .before .put-answer .ensures) (c .before .counted .ensures) in
-    (length-set (l .loop .fields) ((l .loop .i + 1) % 2) (t .step .result .field) ∙ l .loop .inv .0, playing-turn (requests l) next (l .loop .fields) (l .loop .inv .0))
+    let next = playing-more (requests l) (l .loop .inv .1 _) (request k) (t .step-unjudged .result) (reading k) (t .step-unjudged .ensures) (short t (index-short l)) (c .before .before .put-answer .ensures) (c .before .counted .ensures) in
+    (length-set (l .loop .fields) ((l .loop .i + 1) % 2) (t .step-unjudged .result .field) ∙ l .loop .inv .0, playing-turn (requests l) next (l .loop .fields) (l .loop .inv .0))
 
 mul-last : tie.Need-mul-last Inv-loop μ-loop
 mul-last c = search needs
@@ -171,7 +175,7 @@ room-left c =
     let u = few k in
     let e = end-length (k .loop .t) (c .present-on .result) (omega (arith, u .entries)) (omega (arith, u .taxis)) (omega (arith, u .exits)) (omega (arith, u .misses)) (omega (arith, c .present-on .ok)) in
     let p = k .loop .inv .1 (empty k) in
-    omega (arith, p .short, p .within, start k .pre)
+    omega (arith, p .short, p .within, start k .pre .0)
 
 put-end-requires : tie.Need-put-end-requires Inv-loop μ-loop
 put-end-requires c κs = room-left c
@@ -202,7 +206,7 @@ play-all-spec =
     enum-told
     mul-f
     array-copy-out-f
-    step-requires
+    step-unjudged-requires
     add-put-answer
     put-answer-requires
     counted-requires

@@ -1,8 +1,9 @@
 -- `session::report` meets its contract: the report of a refused file, or of the session that the file holds. Assumes nothing.
-use mathlib.Core.Path.{_≡_, sym, ap, _∙_, subst}
+use mathlib.Core.Path.{_≡_, sym, ap, _∙_, subst, subst⁻¹}
 use mathlib.Core.List.{List, _++_}
 use Prim.Native.Nat.{ℕ, _-_, _≤_}
 use native.Mathlib.Omega.{arith}
+use lib.Dec.{T}
 use lib.ListN.{length, take, drop}
 use denote.Ref.{now}
 use borrow.Rule.Slice.PartAt.{part-to-end}
@@ -10,8 +11,10 @@ use Rattle.practice.specs.File.{legsOf, legsBody, requestsBody, fileNumber}
 use Rattle.practice.specs.Requests.{requestsOf}
 use Rattle.practice.proofs.Meaning.{Held, held}
 use Rattle.field.specs.declared.Legs.{Legs}
+use Rattle.bounds.specs.Bounds.{legalLegs}
 use Rattle.session.specs.Text.{room}
 use Rattle.session.specs.Report.{legsInMiles, sessionReport, refusedReport, Written}
+use Rattle.session.proofs.Balance.{file-legs-legal}
 use Rattle.session.proofs.Reports.{practice-holds, report-holds, report-refused}
 use borrow.Author.Needs.{needs}
 use Rattle.session.proofs.report.Statement.{statement}
@@ -67,7 +70,8 @@ play-all-requires c κs =
     let k = c .before .before .before .before in
     let file = now (k .before .before .before .args .file) in
     let n = ap (λ (body : List ℕ). length (requestsOf body)) (part-to-end file 34) in
-    omega (arith, holding k .few)
+    let legs = c .before .legs-in-miles .ensures ∙ ap legsInMiles (c .before .before .file-legs .ensures ∙ holding k .legs-read) in
+    (omega (arith, holding k .few), subst⁻¹ (λ (l : Legs). T (legalLegs l)) legs (file-legs-legal (legsOf (legsBody file)) (holding k .legs-legal)))
 
 returns-2 : tie.Need-returns-2
 returns-2 c =
