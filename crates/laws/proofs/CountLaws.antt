@@ -1,4 +1,4 @@
--- Laws of the counts: what an edit of a zone does to every count, and that an edit of the sequence changes none. Assumes nothing.
+-- What an edit of a zone does to every count of a field; for change 2.5 of document 02. Assumes nothing.
 use mathlib.Core.Path.{_≡_, refl, sym, ap, _∙_}
 use mathlib.Core.Logic.{_≢_, _⊎_, inl, inr}
 use mathlib.Core.Bool.{Bool, true, false, cond, not, _||_}
@@ -12,17 +12,14 @@ use lib.ListN.{length, take, drop, length-append, length-drop, take-append-drop}
 use Rattle.leg.specs.Ticks.{Between}
 use Rattle.field.specs.declared.Aircraft.{Aircraft}
 use Rattle.field.specs.declared.Zone.{Zone}
-use Rattle.field.specs.declared.Sequence.{Sequence}
 use Rattle.field.specs.declared.Field.{Field}
-use Rattle.field.specs.Boxes.{area, approach, operation, everywhere, zoneOf, queueOf, queueLength, inZone}
+use Rattle.field.specs.Boxes.{area, approach, operation, queueOf, queueLength, inZone}
 use Rattle.field.specs.Lists.{isIn, allDifferent}
-use Rattle.questions.specs.Counts.{total, haveFix, howMany, howManyWithFix, presentOn, inOperation, inArea, perFix, approachHolds, countedFor, potentialOf}
-use Rattle.questions.specs.Find.{findIn, placeOf, aircraftAt, fixOf, numbersIn}
-use Rattle.field.specs.Edits.{withoutHead, withTail, withZone, withSequence}
+use Rattle.questions.specs.Counts.{total, haveFix, howMany, howManyWithFix, inOperation, inArea, perFix, countedFor, potentialOf}
+use Rattle.field.specs.Edits.{withoutHead, withTail, withZone}
 use Rattle.field.proofs.Tests.{failed, decided, if-true, if-false}
-use Rattle.field.proofs.Lists.{zone-listed, area-different}
-use Rattle.questions.proofs.FindLaws.{numbers-same}
-use Rattle.laws.proofs.EditLaws.{Shaped, head-taken, tail-put, queue-replaced, queue-kept, how-many-is}
+use Rattle.field.proofs.Lists.{area-different}
+use Rattle.laws.proofs.EditLaws.{head-taken, tail-put, queue-replaced, queue-kept}
 
 -- ---- a sum over zones that differs at one of them
 pub total-changed : (g h : ℕ → ℕ) (z : ℕ) → ((w : ℕ) → w ≢ z → g w ≡ h w) → (zs : List ℕ) → T (allDifferent zs)
@@ -61,17 +58,7 @@ module _ (f : Field) (z : ℕ) (q : Zone) (r : Between 1 13 z) (long : length (f
       let e = ap (λ (l : List Aircraft). cond (isIn z zs) (count z l) 0) (queue-replaced f z q r long) in
       omega arith
 
-  -- So how many are present, ..
-  pub present-with : presentOn (withZone f z q) + howMany f z ≡ presentOn f + queueLength q
-  unfolding presentOn howMany queueLength
-  present-with =
-      let t = sum-with (λ w. length) everywhere tt in
-      let i = zone-listed z r in
-      let a = if-true (length (inZone f z)) 0 i in
-      let b = if-true (length (queueOf q)) 0 i in
-      omega arith
-
-  -- .. are in the operation area, ..
+  -- So how many are in the operation area, ..
   pub operation-with : inOperation (withZone f z q) + cond (isIn z operation) (howMany f z) 0 ≡ inOperation f + cond (isIn z operation) (queueLength q) 0
   unfolding inOperation howMany queueLength
   operation-with = sum-with (λ w. length) operation tt
@@ -128,64 +115,3 @@ module _ (q : Zone) (a : Aircraft) (long : length (q .aircraft) ≡ 4) (room : q
 
   pub fixes-put : (side : ℕ) → haveFix side (queueOf (withTail q a)) ≡ haveFix side (queueOf q) + haveFix side (a ∷ [])
   fixes-put side = ap (haveFix side) (tail-put q a long room) ∙ have-fix-append side (queueOf q) (a ∷ [])
-
-module _ (f : Field) (s : Shaped f) (z : ℕ) where
-  -- One less is present where the head of a zone is taken off, ..
-  pub present-taken : Between 1 13 z → 1 ≤ howMany f z → presentOn (withZone f z (withoutHead (zoneOf f z))) + 1 ≡ presentOn f
-  unfolding howMany inZone queueLength
-  present-taken r h =
-      let k = s .zone z in
-      let fits : zoneOf f z .length ≤ length (zoneOf f z .aircraft) = omega arith in
-      omega (arith, present-with f z (withoutHead (zoneOf f z)) r (s .zones), length-taken (zoneOf f z) fits)
-
-  -- .. and one more where one is put at the tail of a zone with room.
-  pub present-put : (a : Aircraft) → Between 1 13 z → howMany f z < 4 → presentOn (withZone f z (withTail (zoneOf f z) a)) ≡ presentOn f + 1
-  unfolding howMany inZone queueLength
-  present-put a r h =
-      let room : zoneOf f z .length < 4 = omega (arith, how-many-is f s z) in
-      omega (arith, present-with f z (withTail (zoneOf f z) a) r (s .zones), length-put (zoneOf f z) a (s .zone z .places) room)
-
--- ---- the sequence replaced
-
--- two fields with the same queues: every count and every look-up is the same
-pub record SameZones (f g : Field) : Type 0 where
-  pub zones : (z : ℕ) → zoneOf g z ≡ zoneOf f z
-  pub queues : (z : ℕ) → inZone g z ≡ inZone f z
-  pub how-many : (z : ℕ) → howMany g z ≡ howMany f z
-  pub with-fix : (side z : ℕ) → howManyWithFix g side z ≡ howManyWithFix f side z
-  pub present : presentOn g ≡ presentOn f
-  pub operation : inOperation g ≡ inOperation f
-  pub area : (side : ℕ) → inArea g side ≡ inArea f side
-  pub per-fix : (side : ℕ) → perFix g side ≡ perFix f side
-  pub approach : (side : ℕ) → approachHolds g side ≡ approachHolds f side
-  pub potential : (side : ℕ) → potentialOf g side ≡ potentialOf f side
-  pub places : (n : ℕ) → placeOf g n ≡ placeOf f n
-  pub aircraft : (z place : ℕ) → aircraftAt g z place ≡ aircraftAt f z place
-  pub fixes : (n : ℕ) → fixOf g n ≡ fixOf f n
-  pub numbers : (zs : List ℕ) → numbersIn g zs ≡ numbersIn f zs
-
--- Another sequence and next fix leave every queue, every count and every look-up as they were, ..
-pub zones-left : (f : Field) (s : Sequence) (next : ℕ) → SameZones f (withSequence f s next)
-unfolding withSequence zoneOf inZone howMany howManyWithFix presentOn inOperation inArea perFix approachHolds potentialOf countedFor placeOf findIn aircraftAt fixOf
-zones-left f s next =
-    record {
-      zones = λ z. refl;
-      queues = λ z. refl;
-      how-many = λ z. refl;
-      with-fix = λ side z. refl;
-      present = refl;
-      operation = refl;
-      area = λ side. refl;
-      per-fix = λ side. refl;
-      approach = λ side. refl;
-      potential = λ side. refl;
-      places = λ n. refl;
-      aircraft = λ z place. refl;
-      fixes = λ n. refl;
-      numbers = numbers-same (withSequence f s next) f (λ z. refl);
-    }
-
--- .. and the legs.
-pub legs-left : (f : Field) (s : Sequence) (next : ℕ) → withSequence f s next .legs ≡ f .legs
-unfolding withSequence
-legs-left f s next = refl

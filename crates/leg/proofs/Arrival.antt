@@ -1,5 +1,5 @@
 -- Ticks on any leg from 1/64 of a mile to a bound, from any miles within it: those whose speed * amount are n 4096ths of a mile together have brought the aircraft n / 4096 miles along, or to the end.
--- Rounding keeps the order, so it never falls behind the grid. Assumes nothing.
+-- Rounding keeps the order, so it never falls behind the grid. For change 2.6 of document 02. Assumes nothing.
 use mathlib.Core.Path.{_≡_, refl, sym, ap, _∙_, subst}
 use mathlib.Core.Logic.{_⊎_, inl, inr}
 use mathlib.Core.List.{List, [], _∷_}

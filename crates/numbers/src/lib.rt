@@ -1,4 +1,4 @@
-// The numbers of those on the field in a row, and what bound e asks of them (specs/Bounds.antt).
+// The numbers of those on the field in a row, and what bound e asks of them (specs/Numbers.antt).
 use field::Field;
 use field::Zone;
 use field::boxes::order_length;

@@ -1,4 +1,4 @@
--- An encoded file is a list of bytes, where its legs are legal and its requests' parts have their widths. Assumes nothing.
+-- An encoded file is a list of bytes, where its legs are legal and its requests' parts have their widths; for change 2.11 of document 02. Assumes nothing.
 use mathlib.Core.Path.{_≡_}
 use mathlib.Core.List.{List, [], _∷_, _++_}
 use mathlib.Core.Bool.{true}

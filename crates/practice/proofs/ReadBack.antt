@@ -1,4 +1,4 @@
--- A file of legal legs and at most 4,096 requests, encoded, is read back as exactly those. Assumes nothing.
+-- A file of legal legs and at most 4,096 requests, encoded, is read back as exactly those; for change 2.11 of document 02. Assumes nothing.
 use mathlib.Core.Path.{_≡_, refl, ap, _∙_}
 use mathlib.Core.List.{List, [], _∷_}
 use mathlib.Core.Bool.{Bool, true, cond, _&&_}
