@@ -25,7 +25,9 @@ use needs::base_free;
 use needs::may_approach;
 use questions::counts::is_empty;
 use questions::find::aircraft_at;
+use request::Range;
 use request::Request;
+use request::in_range;
 use tick::ticked;
 ghost use mathlib.Core.Path.{_≡_};
 ghost use mathlib.Core.Bool.{cond, _&&_};
@@ -47,12 +49,23 @@ fn tail_put(f: Field, zone: usize, a: Aircraft) -> Field
     with_zone(f, zone, with_tail(zone_of(f, zone), a))
 }
 
-// The field with the head of a zone moved to the tail of another.
+// The field with the head of a zone moved to the tail of another: both zones are written into one new field.
 fn moved(f: Field, from: usize, to: usize) -> Field
     ensures { λ r. ⌜ r ≡ moved f from to ⌝ }
 {
     let a = arrived(to, aircraft_at(f, from, 1));
-    tail_put(head_gone(f, from), to, a)
+    if !in_range(Range(1, 13), from) {
+        return tail_put(head_gone(f, from), to, a);
+    }
+    if !in_range(Range(1, 13), to) {
+        return tail_put(head_gone(f, from), to, a);
+    }
+    let mut g = f;
+    let q = g.zones[from - 1];
+    g.zones[from - 1] = without_head(q);
+    let p = g.zones[to - 1];
+    g.zones[to - 1] = with_tail(p, a);
+    g
 }
 
 // The field with a number out of the landing sequence.
@@ -81,7 +94,7 @@ fn entered(f: Field, r: Request, zone: usize) -> Field
     with_sequence(g, appended(s, r.number), opposite(fix))
 }
 
-// Kind 4: the zone that an approach of the aircraft with a number leads to: base, or 2000 where a need is not met.
+// Kind 4: the zone that an approach from a lateral zone leads to: base, or 2000 where a need is not met.
 fn approach_zone(f: Field, number: u16, side: u8) -> usize
     ensures { λ z. ⌜ z ≡ cond (mayApproach f number && baseFree f side) (base side) (at2000 side) ⌝ }
 {
@@ -94,11 +107,15 @@ fn approach_zone(f: Field, number: u16, side: u8) -> usize
     BASE + side as usize
 }
 
-// Kind 4: the field with the head of a zone moved to base, or to 2000 where a need of the approach is not met.
+// Kind 4: the field with the head of a zone moved to base, or from a lateral zone to 2000 where a need of the approach is not met.
 fn approached(f: Field, number: u16, zone: usize) -> Field
     ensures { λ g. ⌜ g ≡ approached f number zone ⌝ }
 {
-    moved(f, zone, approach_zone(f, number, side_of(zone)))
+    let side = side_of(zone);
+    if in_range(Range(5, 6), zone) {
+        return moved(f, zone, approach_zone(f, number, side));
+    }
+    moved(f, zone, BASE + side as usize)
 }
 
 // Kind 7: the field with the head of final on the runway and the request's aircraft out of the sequence.

@@ -1,6 +1,6 @@
 -- The kinds that take an aircraft from one zone of the operation area to another: 3, 4, 5, 6 and 11. Assumes nothing.
 use mathlib.Core.Path.{_≡_, refl, sym, ap, _∙_, subst}
-use mathlib.Core.Bool.{Bool, true, false, cond, _&&_, _||_}
+use mathlib.Core.Bool.{Bool, true, false, cond, _&&_, _||_, false≢true}
 use mathlib.Core.List.{List, _∷_, _++_}
 use Prim.Native.Nat.{ℕ}
 use native.Mathlib.Omega.{arith}
@@ -68,6 +68,13 @@ eleven-from z t u =
 pub either-zone : (f : Field) (z p q : ℕ) (b : Bool) → cond b (moved f z p) (moved f z q) ≡ moved f z (cond b p q)
 either-zone f z p q true = refl
 either-zone f z p q false = refl
+
+-- where both needs are met or the zone is lateral, the needs choose
+from-lateral : {A : Type 0} (l m b : Bool) (x y : A) → (l || m) ≡ true → (l || b) ≡ true → cond l (cond (m && b) x y) x ≡ cond (m && b) x y
+from-lateral true m b x y h k = refl
+from-lateral false true true x y h k = refl
+from-lateral false true false x y h k = absurd (false≢true k)
+from-lateral false false b x y h k = absurd (false≢true h)
 
 -- from lateral both needs are excused together
 excused : (l p q : Bool) → (l || p) ≡ true → (l || q) ≡ true → (l || (p && q)) ≡ true
@@ -149,7 +156,8 @@ module _ (f : Side) (a : List Placed) (e : Placed) (b : List Placed) (runway : L
       (and-i (within 3 6 z) (within 5 6 z || model.mayApproach zs₁ z zs₂) q₁
       (pass (ap (λ (t : Bool). within 5 6 z || t) (sym (may-is q₂)) ∙ excused (within 5 6 z) (mayApproach F (r .number)) (baseFree F (sideOf z)) t₁ t₂)))
       (effect-at F r h
-      ∙ ap (λ (w : ℕ). cond (mayApproach F (r .number) && baseFree F (sideOf w)) (moved F w (base (sideOf w))) (moved F w (at2000 (sideOf w)))) zone-before
+      ∙ ap (λ (w : ℕ). cond (within 5 6 w) (cond (mayApproach F (r .number) && baseFree F (sideOf w)) (moved F w (base (sideOf w))) (moved F w (at2000 (sideOf w)))) (moved F w (base (sideOf w)))) zone-before
+      ∙ from-lateral (within 5 6 z) (mayApproach F (r .number)) (baseFree F (sideOf z)) _ _ t₁ t₂
       ∙ ap (λ (t : Bool). cond t (moved F z (base (sideOf z))) (moved F z (at2000 (sideOf z)))) (may-is q₂)
       ∙ either-zone F z (base (sideOf z)) (at2000 (sideOf z)) (model.mayApproach zs₁ z zs₂))
       (subst (λ (k : ℕ). T (staysOn k)) (sym h) tt) (λ u. let n : 12 ≡ r .kind = sym u in omega arith) named

@@ -129,7 +129,9 @@ entered f r z =
 -- kind 4, from zone z: to base; "From lateral, an unmet need is no refusal: the aircraft goes to 2000 of its side and is accepted."
 unfoldable pub approached : Field → ℕ → ℕ → Field
 approached f number z =
-    cond (mayApproach f number && baseFree f (sideOf z)) (moved f z (base (sideOf z))) (moved f z (at2000 (sideOf z)))
+    cond (within 5 6 z)
+    (cond (mayApproach f number && baseFree f (sideOf z)) (moved f z (base (sideOf z))) (moved f z (at2000 (sideOf z))))
+    (moved f z (base (sideOf z)))
 
 -- kind 7: "It leaves the sequence, keeps its fix, and has no leader."
 unfoldable pub landed : Field → Request → Field

@@ -1,9 +1,10 @@
 -- `effects::approached` meets its contract: the head moves to the zone that the needs of the approach choose. Assumes nothing.
-use mathlib.Core.Path.{_≡_, refl}
+use mathlib.Core.Path.{_≡_, refl, sym, ap, _∙_}
 use mathlib.Core.Bool.{Bool, true, false, cond, _&&_}
 use Prim.Native.Nat.{ℕ}
 use Rattle.field.specs.declared.Field.{Field}
 use Rattle.field.specs.Boxes.{at2000, base, sideOf}
+use Rattle.field.proofs.Tests.{if-true, if-false}
 use Rattle.rules.specs.Kinds.{mayApproach, baseFree, moved, approached}
 use borrow.Author.Needs.{needs}
 use Rattle.effects.proofs.approached.Statement.{statement}
@@ -14,13 +15,15 @@ chosen : (f : Field) (z x y : ℕ) (t : Bool) → moved f z (cond t x y) ≡ con
 chosen f z x y true = refl
 chosen f z x y false = refl
 
-by-zone : (f : Field) (number z : ℕ) {side w : ℕ} {g : Field} → side ≡ sideOf z
-    → w ≡ cond (mayApproach f number && baseFree f side) (base side) (at2000 side) → g ≡ moved f z w → g ≡ approached f number z
-unfolding approached
-by-zone f number z {side} es ew eg = cc (chosen f z (base side) (at2000 side) (mayApproach f number && baseFree f side))
+-- the zone that the needs of the approach choose on a side
+abbrev chosenZone : Field → ℕ → ℕ → ℕ
+chosenZone f number side = cond (mayApproach f number && baseFree f side) (base side) (at2000 side)
 
 side-of-requires : tie.Need-side-of-requires
 side-of-requires c κs = search needs
+
+in-range-requires : tie.Need-in-range-requires
+in-range-requires c κs = search needs
 
 approach-zone-requires : tie.Need-approach-zone-requires
 approach-zone-requires c κs = search needs
@@ -29,9 +32,34 @@ moved-requires : tie.Need-moved-requires
 moved-requires c κs = search needs
 
 returns : tie.Need-returns
+unfolding approached
 returns c =
-    let a = c .before .before .before .args in
-    by-zone (a .f) (a .number) (a .zone) (c .before .before .side-of .ensures) (c .before .approach-zone .ensures) (c .moved .ensures)
+    let r = c .before .before .before in
+    let a = r .before .before .args in
+    let side = r .before .side-of .ensures in
+    let lateral = sym (r .in-range .ensures) ∙ c .before .before .if1 .taken in
+    c .moved .ensures
+    ∙ ap (moved (a .f) (a .zone)) (c .before .approach-zone .ensures ∙ ap (chosenZone (a .f) (a .number)) side)
+    ∙ chosen (a .f) (a .zone) _ _ (mayApproach (a .f) (a .number) && baseFree (a .f) (sideOf (a .zone)))
+    ∙ sym (if-true _ _ lateral)
+
+cast-moved : tie.Need-cast-moved
+cast-moved c = search needs
+
+add-moved : tie.Need-add-moved
+add-moved c = search needs
+
+moved-requires-2 : tie.Need-moved-requires-2
+moved-requires-2 c κs = search needs
+
+returns-2 : tie.Need-returns-2
+unfolding approached
+returns-2 c =
+    let r = c .before .before in
+    let a = r .before .before .args in
+    c .moved2 .ensures ∙ ap (λ (side : ℕ). moved (a .f) (a .zone) (base side)) (r .before .side-of .ensures) ∙ sym (if-false _ _ (sym (r .in-range .ensures) ∙ c .before .if1 .left))
 
 pub approached-spec : {M : Type 1} → statement M
-approached-spec = tie.close (tie.spec side-of-requires approach-zone-requires moved-requires returns)
+approached-spec =
+    tie.close
+    (tie.spec side-of-requires in-range-requires approach-zone-requires moved-requires returns cast-moved add-moved moved-requires-2 returns-2)
