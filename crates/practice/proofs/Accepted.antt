@@ -7,6 +7,7 @@ use native.Mathlib.Omega.{arith}
 use lib.Dec.{eqb, leb}
 use lib.ListN.{length, take}
 use borrow.Author.Tests.{eqb-true, leb-true, eq-eqb, le-leb}
+use Rattle.limits.specs.Limits.{longestLeg}
 use Rattle.request.specs.Input.{within}
 use Rattle.request.proofs.Tests.{both-left, both-right, within-low, within-high, passed}
 use Rattle.practice.specs.declared.FileLegs.{FileLegs}
@@ -54,10 +55,10 @@ module _ (file : List ℕ) where
   pub long-enough : contentsAllowed file ≡ true → 34 ≤ length file
   long-enough e = let w = whole-of e in omega arith
 
--- legs that are allowed, each from 1 to 4096 64ths
+-- legs that are allowed, each from 1 64th to the longest leg
 pub record LegKnown (n : ℕ) : Type 0 where
   pub low : 1 ≤ n
-  pub high : n ≤ 4096
+  pub high : n ≤ longestLeg
 
 pub record LegsKnown (legs : FileLegs) : Type 0 where
   pub base : LegKnown (legs .base)
@@ -68,10 +69,10 @@ pub record LegsKnown (legs : FileLegs) : Type 0 where
 pub legs-known : (legs : FileLegs) → legsAllowed legs ≡ true → LegsKnown legs
 unfolding legsAllowed
 legs-known legs e =
-    let b = within 1 4096 (legs .base) in
-    let i = within 1 4096 (legs .intermediate) in
-    let l = within 1 4096 (legs .last) in
-    let m = within 1 4096 (legs .missed) in
+    let b = within 1 longestLeg (legs .base) in
+    let i = within 1 longestLeg (legs .intermediate) in
+    let l = within 1 longestLeg (legs .last) in
+    let m = within 1 longestLeg (legs .missed) in
     let bil = both-left (b && i && l) m e in
     let bi = both-left (b && i) l bil in
     record {
@@ -81,8 +82,8 @@ legs-known legs e =
       missed = known (legs .missed) (both-right (b && i && l) m e);
     }
   where
-    known : (n : ℕ) → within 1 4096 n ≡ true → LegKnown n
-    known n t = record { low = within-low 1 4096 n t; high = within-high 1 4096 n t }
+    known : (n : ℕ) → within 1 longestLeg n ≡ true → LegKnown n
+    known n t = record { low = within-low 1 longestLeg n t; high = within-high 1 longestLeg n t }
 
 -- a file that is accepted passes all tests
 pub record Accepted (file : List ℕ) : Type 0 where

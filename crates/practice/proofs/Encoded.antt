@@ -6,6 +6,7 @@ use Prim.Native.Nat.{ℕ, _*_, _/_, _%_, _^_, _≤_, _<_}
 use native.Mathlib.Omega.{arith}
 use lib.Dec.{lit<}
 use lib.ListN.{length}
+use Rattle.limits.specs.Limits.{mostRequests}
 use Rattle.request.specs.declared.Request.{Request}
 use Rattle.practice.specs.declared.FileLegs.{FileLegs}
 use Rattle.practice.specs.File.{legsAllowed}
@@ -51,7 +52,7 @@ legs-bytes legs e =
     let k = legs-known legs e in
     joined (two (legs .base) (omega arith)) (joined (two (legs .intermediate) (omega arith)) (joined (two (legs .last) (omega arith)) (two (legs .missed) (omega arith))))
 
-pub encoded-bytes : (legs : FileLegs) (rs : List Request) → legsAllowed legs ≡ true → AllFitting rs → length rs ≤ 4096 → Bytes (encoded legs rs)
+pub encoded-bytes : (legs : FileLegs) (rs : List Request) → legsAllowed legs ≡ true → AllFitting rs → length rs ≤ mostRequests → Bytes (encoded legs rs)
 unfolding encoded
 encoded-bytes legs rs l f h =
     joined (more 83 (lit< tt) (more 67 (lit< tt) (more 65 (lit< tt) (more 80 (lit< tt) none))))

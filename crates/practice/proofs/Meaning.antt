@@ -9,6 +9,7 @@ use lib.Dec.{eqb}
 use lib.ListN.{length, length-drop}
 use borrow.Author.Tests.{eqb-true, eqb-false}
 use borrow.Rule.Slice.PartAt.{part-to-end}
+use Rattle.limits.specs.Limits.{mostRequests}
 use Rattle.request.specs.declared.Request.{Request}
 use Rattle.practice.specs.declared.FileLegs.{FileLegs}
 use Rattle.practice.specs.File.{legsOf, legsBody, requestsBody, legsAllowed, fileNumber}
@@ -26,7 +27,7 @@ pub record Held (file : List ℕ) (legs : FileLegs) (requests : List Request) : 
   pub legs-legal : legsAllowed legs ≡ true
   pub section-one : sectionBytes file 1 ≡ legsBody file
   pub section-two : sectionBytes file 2 ≡ requestsBody file
-  pub few : length requests ≤ 4096
+  pub few : length requests ≤ mostRequests
   pub how-many : length (requestsOf (requestsBody file)) ≡ length requests
   pub reading : (i : ℕ) → requestAt (requestsBody file) i ≡ readingAt requests i
 

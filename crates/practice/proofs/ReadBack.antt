@@ -7,6 +7,7 @@ use native.Mathlib.Omega.{arith}
 use lib.Dec.{eqb}
 use lib.ListN.{length}
 use borrow.Author.Tests.{eq-eqb}
+use Rattle.limits.specs.Limits.{mostRequests}
 use Rattle.request.specs.declared.Request.{Request}
 use Rattle.request.specs.Input.{word}
 use Rattle.request.proofs.Tests.{within-yes, none-refused}
@@ -53,29 +54,29 @@ module _ (legs : FileLegs) (rs : List Request) where
   unfolding encoded
   body-back = requests-back rs
 
-  opening : length rs ≤ 4096 → opens (encoded legs rs) ≡ true
+  opening : length rs ≤ mostRequests → opens (encoded legs rs) ≡ true
   unfolding encoded opens
   opening h =
       let e = size in
       ap (λ (b : Bool). b && true) (within-yes 26 24610 (length (encoded legs rs)) (omega arith) (omega arith))
 
-  whole : length rs ≤ 4096 → Whole (encoded legs rs)
+  whole : length rs ≤ mostRequests → Whole (encoded legs rs)
   whole h =
       let e = size in
       let b = body-size in
       record { sixes = omega arith; bounded = omega arith; whole = omega arith }
 
-  contents : length rs ≤ 4096 → contentsAllowed (encoded legs rs) ≡ true
+  contents : length rs ≤ mostRequests → contentsAllowed (encoded legs rs) ≡ true
   unfolding encoded
   contents h = contents-of (encoded legs rs) refl refl (eq-eqb (bodyLength (encoded legs rs)) (bodyLength (encoded legs rs)) refl) (whole h)
 
-  number : length rs ≤ 4096 → legsAllowed legs ≡ true → fileNumber (encoded legs rs) ≡ 0
+  number : length rs ≤ mostRequests → legsAllowed legs ≡ true → fileNumber (encoded legs rs) ≡ 0
   unfolding fileNumber
   number h l =
       none-refused ((5, opens (encoded legs rs)) ∷ (6, contentsAllowed (encoded legs rs)) ∷ (7, legsAllowed (legsOf (legsBody (encoded legs rs)))) ∷ [])
       (opening h, (contents h, (ap legsAllowed legs-back ∙ l, tt)))
 
-  pub read-back : length rs ≤ 4096 → legsAllowed legs ≡ true → practiceOf (encoded legs rs) ≡ holds legs rs
+  pub read-back : length rs ≤ mostRequests → legsAllowed legs ≡ true → practiceOf (encoded legs rs) ≡ holds legs rs
   unfolding practiceOf
   read-back h l =
       ap (λ (n : ℕ). cond (eqb n 0) (holds (legsOf (legsBody (encoded legs rs))) (requestsOf (requestsBody (encoded legs rs)))) (refused n)) (number h l)

@@ -4,6 +4,7 @@ use mathlib.Core.List.{List, [], _∷_}
 use mathlib.Core.Bool.{Bool, true, false, _&&_}
 use lib.Dec.{leb, eqb}
 use lib.ListN.{length, getD, take, drop}
+use Rattle.limits.specs.Limits.{longestLeg}
 use Rattle.request.specs.Input.{word, within, firstRefused}
 use Rattle.practice.specs.declared.FileLegs.{FileLegs}
 
@@ -59,7 +60,7 @@ legsOf body = record {
 
 -- "7 a leg not 1 to 4096 64ths"
 unfoldable pub legsAllowed : FileLegs → Bool
-legsAllowed legs = within 1 4096 (legs .base) && within 1 4096 (legs .intermediate) && within 1 4096 (legs .last) && within 1 4096 (legs .missed)
+legsAllowed legs = within 1 longestLeg (legs .base) && within 1 longestLeg (legs .intermediate) && within 1 longestLeg (legs .last) && within 1 longestLeg (legs .missed)
 
 -- body 1, by its entry "(1, 26, 8)"
 abbrev pub legsBody : List ℕ → List ℕ

@@ -1,5 +1,6 @@
 // The practice file, from the bytes that the caller lends: the number that refuses it, its two sections as stretches of those
 // bytes, and the legs and the requests that they hold.
+use limits::LONGEST_LEG;
 use request::Range;
 use request::Request;
 use request::in_range;
@@ -106,11 +107,11 @@ fn legs_of(body: &[u8]) -> FileLegs
     }
 }
 
-// Whether each leg is from 1 to 4096 64ths of a mile.
+// Whether each leg is from 1 64th of a mile to the longest leg.
 fn legs_allowed(legs: FileLegs) -> bool
     ensures { λ r. ⌜ r ≡ legsAllowed legs ⌝ }
 {
-    let allowed = Range(1, 4096);
+    let allowed = Range(1, LONGEST_LEG);
     if !in_range(allowed, legs.base as usize) {
         return false;
     }

@@ -2,6 +2,7 @@
 use mathlib.Core.Path.{_≡_}
 use mathlib.Core.Bool.{true}
 use borrow.Author.Needs.{needs}
+use Rattle.limits.specs.Limits.{longestLeg}
 use Rattle.request.specs.Input.{within}
 use Rattle.practice.specs.File.{legsAllowed}
 use Rattle.practice.proofs.Tests.{fails, passes}
@@ -9,13 +10,13 @@ use Rattle.practice.proofs.legs_allowed.Statement.{statement}
 use Rattle.practice.proofs.legs_allowed.Tie as tie
 
 -- the tests that were passed
-base : (c : tie.Else1) → within 1 4096 (c .before .before .before .args .legs .base) ≡ true
+base : (c : tie.Else1) → within 1 longestLeg (c .before .before .before .args .legs .base) ≡ true
 base c = passes (c .before .in-range .ensures) (c .if1 .left)
 
-intermediate : (c : tie.Else2) → within 1 4096 (c .before .before .before .before .before .before .args .legs .intermediate) ≡ true
+intermediate : (c : tie.Else2) → within 1 longestLeg (c .before .before .before .before .before .before .args .legs .intermediate) ≡ true
 intermediate c = passes (c .before .in-range2 .ensures) (c .if2 .left)
 
-last : (c : tie.Else3) → within 1 4096 (c .before .before .before .before .before .before .before .before .before .args .legs .last) ≡ true
+last : (c : tie.Else3) → within 1 longestLeg (c .before .before .before .before .before .before .before .before .before .args .legs .last) ≡ true
 last c = passes (c .before .in-range3 .ensures) (c .if3 .left)
 
 cast-in-range : tie.Need-cast-in-range
