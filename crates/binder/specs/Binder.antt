@@ -9,19 +9,19 @@ use Rattle.request.specs.Input.{within}
 use Rattle.practice.specs.File.{number16, number32}
 use Rattle.practice.specs.Sections.{stretch}
 
--- how many entries the contents table has, the first two bytes: "after a 16-bit count; little-endian" (02, 2.1)
+-- how many entries the contents table has: the 16 bits that the binder begins with (02, 2.1)
 abbrev pub entryCount : List ℕ → ℕ
 entryCount bytes = number16 bytes 0
 
--- where entry i stands in the table, counted from 0: eight bytes each, after the count (02, 2.1)
+-- where entry i of the table stands, counted from 0: after the count, eight bytes for each entry (02, 2.1)
 abbrev pub entryPlace : ℕ → ℕ
 entryPlace i = 2 + 8 * i
 
--- where the file of entry i begins: "offset from the binder's first byte .., 32 bits" (02, 2.1)
+-- where the file of entry i begins, counted from the binder's first byte: the entry's first 32 bits (02, 2.1)
 abbrev pub offsetAt : List ℕ → ℕ → ℕ
 offsetAt bytes i = number32 bytes (entryPlace i)
 
--- how many bytes the file of entry i has: "and length, 32 bits" (02, 2.1)
+-- how many bytes the file of entry i has: the entry's other 32 bits (02, 2.1)
 abbrev pub lengthAt : List ℕ → ℕ → ℕ
 lengthAt bytes i = number32 bytes (entryPlace i + 4)
 
@@ -29,21 +29,21 @@ lengthAt bytes i = number32 bytes (entryPlace i + 4)
 abbrev pub tableEnd : List ℕ → ℕ
 tableEnd bytes = entryPlace (entryCount bytes)
 
--- the size is "at most 64 KiB", the count "1 to 64 entries", and the table fits (02, 2.1)
+-- the binder has 64 KiB at most and 1 to 64 entries, and the whole table is in it (02, 2.1)
 unfoldable pub tableAllowed : List ℕ → Bool
 tableAllowed bytes = leb (length bytes) 65536 && within 1 64 (entryCount bytes) && leb (tableEnd bytes) (length bytes)
 
--- "the practice files back to back .. and the last ending the binder" (02, 2.1): of the n files from the i-th on the first begins at
--- `at`, each other one where the one before ends, and the last ends with the binder
+-- of the n files from the i-th on, the first begins at `at` and each other one where the one before ends, and the last ends the binder
+-- (02, 2.1)
 abbrev pub backToBack : List ℕ → ℕ → ℕ → ℕ → Bool
 backToBack bytes at i zero = eqb at (length bytes)
 backToBack bytes at i (suc n) = eqb (offsetAt bytes i) at && backToBack bytes (at + lengthAt bytes i) (suc i) n
 
--- all files so, "the first right after the table" (02, 2.1)
+-- all files stand so, the first right after the table (02, 2.1)
 unfoldable pub filesPlaced : List ℕ → Bool
 filesPlaced bytes = backToBack bytes (tableEnd bytes) 0 (entryCount bytes)
 
--- "30 for a binder whose count, size or placing is not as said, checked before any file", or 0 (02, 2.1)
+-- 30 where the size, the count or the placing is not so, else 0; no byte of a file is looked at (02, 2.1)
 unfoldable pub binderNumber : List ℕ → ℕ
 binderNumber bytes = cond (tableAllowed bytes && filesPlaced bytes) 0 30
 
