@@ -1,1 +1,2 @@
 pub mod Binder
+pub mod Counting
