@@ -33,7 +33,7 @@ abbrev pub requestsIn : List (List ℕ) → List Request
 requestsIn [] = []
 requestsIn (file ∷ files) = requestsHeld (practiceOf file) ++ requestsIn files
 
--- the same with their answers (02, 2.1)
+-- the answers of all files that play, in order, each with its request (02, 2.1)
 abbrev pub answersIn : List (List ℕ) → List (Request × Answer)
 answersIn [] = []
 answersIn (file ∷ files) = answersHeld (practiceOf file) ++ answersIn files
@@ -65,7 +65,7 @@ answered row number (p ∷ ps) = cond (isAnswered row number p) 1 0 + answered r
 unfoldable pub tableSum : List (Request × Answer) → ℕ
 tableSum ps = total (λ row. total (λ number. answered row number ps) columns) rows
 
--- "A landing is an accepted request of kind 7." (02, 2.1)
+-- how many aircraft landed: the accepted requests of kind 7 (02, 2.1)
 abbrev pub landings : List (Request × Answer) → ℕ
 landings = accepted (λ kind. eqb kind 7)
 
