@@ -3,3 +3,4 @@ pub mod Placed
 pub mod Accepted
 pub mod Files
 pub mod Listed
+pub mod Counted

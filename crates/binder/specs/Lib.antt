@@ -1,1 +1,3 @@
 pub mod Binder
+pub mod Counting
+pub mod Week

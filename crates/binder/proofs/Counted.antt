@@ -1,0 +1,173 @@
+-- Every answer of the files that play is counted exactly once, and so is every file. Assumes nothing.
+use mathlib.Core.Path.{_≡_, refl, sym, ap, _∙_, subst}
+use mathlib.Core.Logic.{inl, inr}
+use mathlib.Core.Bool.{Bool, true, false, cond, _&&_}
+use mathlib.Core.List.{List, [], _∷_, _++_}
+use Prim.Native.Nat.{ℕ, _+_}
+use native.Mathlib.Omega.{arith}
+use lib.Dec.{T, leb, eqb, leb→le}
+use lib.ListN.{length, length-append}
+use lib.Ieee.Fits.{and-l, and-r}
+use borrow.Author.Tests.{eqb-true}
+use Rattle.request.specs.Input.{within, firstRefused, inputNumber}
+use Rattle.request.specs.declared.Request.{Request}
+use Rattle.practice.specs.File.{opens, contentsAllowed, legsOf, legsBody, legsAllowed, fileNumber}
+use Rattle.practice.specs.Practice.{Practice, refused, holds, practiceOf}
+use Rattle.field.specs.declared.Field.{Field}
+use Rattle.field.specs.Boxes.{emptyField}
+use Rattle.field.proofs.Tests.{pass, passed, either-way, every-from}
+use Rattle.questions.specs.Counts.{total}
+use Rattle.bounds.specs.Bounds.{withinBounds}
+use Rattle.rules.specs.declared.Answer.{Answer}
+use Rattle.rules.specs.Step.{checksOf, effectOf, numberOf, stepOf}
+use Rattle.rules.specs.Play.{played}
+use Rattle.rules.proofs.Checks.{numberedIn, checks-numbered, input-numbered}
+use Rattle.rules.proofs.StepLaws.{number-is}
+use Rattle.line.proofs.Counted.{total-add, total-none}
+use Rattle.session.specs.Report.{legsInMiles}
+use Rattle.session.proofs.Playing.{length-played}
+use Rattle.binder.specs.Counting.{requestsHeld, answersHeld, requestsIn, answersIn, rowOf, rows, columns, isAnswered, answered, tableSum, filesNumbered, CountedOnce}
+
+-- ---- sums over the table
+
+-- equal numbers add up to equal sums
+total-each : (g h : ℕ → ℕ) (ns : List ℕ) → ((n : ℕ) → g n ≡ h n) → total g ns ≡ total h ns
+total-each g h [] e = refl
+total-each g h (n ∷ ns) e = let here = e n in let rest = total-each g h ns e in omega arith
+
+-- a number for each row and column, added up
+abbrev tableOf : (ℕ → ℕ → ℕ) → ℕ
+tableOf g = total (λ row. total (g row) columns) rows
+
+table-add : (g h : ℕ → ℕ → ℕ) → tableOf (λ row number. g row number + h row number) ≡ tableOf g + tableOf h
+table-add g h =
+    total-each (λ row. total (λ number. g row number + h row number) columns) (λ row. total (g row) columns + total (h row) columns) rows (λ row. total-add (g row) (h row) columns)
+    ∙ total-add (λ row. total (g row) columns) (λ row. total (h row) columns) rows
+
+-- how often a number is listed
+abbrev listed : List ℕ → ℕ → ℕ
+listed ns m = total (λ n. cond (eqb m n) 1 0) ns
+
+-- in a row that is the one or not
+in-row : (b : Bool) (m : ℕ) (ns : List ℕ) → total (λ n. cond (b && eqb m n) 1 0) ns ≡ cond b (listed ns m) 0
+in-row true m ns = refl
+in-row false m ns = total-none ns
+
+-- a row and a column that are listed once have one entry
+one-entry : (w m : ℕ) → listed rows w ≡ 1 → listed columns m ≡ 1 → tableOf (λ row number. cond (eqb w row && eqb m number) 1 0) ≡ 1
+one-entry w m r c =
+    total-each (λ row. total (λ number. cond (eqb w row && eqb m number) 1 0) columns) (λ row. cond (eqb w row) 1 0) rows
+    (λ row. in-row (eqb w row) m columns ∙ ap (λ (k : ℕ). cond (eqb w row) k 0) c)
+    ∙ r
+
+-- ---- each kind has one row, and each answer one column
+row-once : (kind : ℕ) → listed rows (rowOf kind) ≡ 1
+unfolding rows
+row-once kind =
+    either-way (λ (w : ℕ). listed rows w ≡ 1) (within 1 12 kind) kind 0
+    (λ e. let t = pass e in
+    eqb-true (listed rows kind) 1 (passed (every-from (λ w. eqb (listed rows w) 1) 1 12 tt kind (leb→le 1 kind (and-l (leb 1 kind) (leb kind 12) t)) (let h = leb→le kind 12 (and-r (leb 1 kind) (leb kind 12) t) in omega arith))))
+    (λ e. refl)
+
+abbrev isColumn : ℕ → Bool
+isColumn m = eqb (listed columns m) 1
+
+-- the checks of a kind and refusal 25 after them
+check-column : (cs : List (ℕ × Bool)) (b : Bool) → T (numberedIn 11 24 cs) → T (isColumn (firstRefused (cs ++ ((25, b) ∷ []))))
+unfolding columns
+check-column [] true t = tt
+check-column [] false t = tt
+check-column ((n, true) ∷ cs) b t = check-column cs b (and-r (leb 11 n && leb n 24) (numberedIn 11 24 cs) t)
+check-column ((n, false) ∷ cs) b t =
+    let u = and-l (leb 11 n && leb n 24) (numberedIn 11 24 cs) t in
+    every-from isColumn 11 14 tt n (leb→le 11 n (and-l (leb 11 n) (leb n 24) u)) (let h = leb→le n 24 (and-r (leb 11 n) (leb n 24) u) in omega arith)
+
+-- the input rules
+input-column : (r : Request) → T (isColumn (inputNumber r))
+unfolding columns
+input-column r =
+    elim (input-numbered r) [
+      | inl z ↦ subst (λ (n : ℕ). T (isColumn n)) (sym z) tt
+      | inr t ↦ every-from isColumn 1 4 tt (inputNumber r) (leb→le 1 (inputNumber r) (and-l (leb 1 (inputNumber r)) (leb (inputNumber r) 4) t)) (let h = leb→le (inputNumber r) 4 (and-r (leb 1 (inputNumber r)) (leb (inputNumber r) 4) t) in omega arith)
+    ]
+
+number-column : (f : Field) (r : Request) → T (isColumn (numberOf f r))
+unfolding numberOf columns
+number-column f r =
+    let P : ℕ → Type 0 = λ n. T (isColumn n) in
+    let later = firstRefused (checksOf f r ++ ((25, withinBounds (effectOf f r)) ∷ [])) in
+    either-way P (eqb (inputNumber r) 0) (cond (withinBounds f) later 10) (inputNumber r)
+    (λ e. either-way P (withinBounds f) later 10 (λ e. check-column (checksOf f r) (withinBounds (effectOf f r)) (checks-numbered f r)) (λ e. tt))
+    (λ e. input-column r)
+
+-- ---- lists of answers
+
+-- each answer's number heads a column
+abbrev Headed : List (Request × Answer) → Type 0
+Headed [] = Unit
+Headed (p ∷ ps) = (listed columns (p .1 .number) ≡ 1) × Headed ps
+
+headed-append : (ps qs : List (Request × Answer)) → Headed ps → Headed qs → Headed (ps ++ qs)
+headed-append [] qs h k = k
+headed-append (p ∷ ps) qs h k = (h .0, headed-append ps qs (h .1) k)
+
+headed-played : (f : Field) (rs : List Request) → Headed (played f rs)
+headed-played f [] = tt
+headed-played f (r ∷ rs) =
+    (ap (listed columns) (number-is f r) ∙ eqb-true (listed columns (numberOf f r)) 1 (passed (number-column f r)), headed-played (stepOf f r .field) rs)
+
+-- so each answer adds 1 to the table
+sum-more : (p : Request × Answer) (ps : List (Request × Answer)) → listed columns (p .1 .number) ≡ 1 → tableSum (p ∷ ps) ≡ 1 + tableSum ps
+unfolding tableSum
+sum-more p ps h =
+    table-add (λ row number. cond (isAnswered row number p) 1 0) (λ row number. answered row number ps)
+    ∙ ap (λ (n : ℕ). n + tableOf (λ row number. answered row number ps)) (one-entry (rowOf (p .0 .kind)) (p .1 .number) (row-once (p .0 .kind)) h)
+
+sum-none : tableSum [] ≡ 0
+unfolding tableSum rows columns
+sum-none = refl
+
+table-sum : (ps : List (Request × Answer)) → Headed ps → tableSum ps ≡ length ps
+table-sum [] h = sum-none
+table-sum (p ∷ ps) h = let more = sum-more p ps (h .0) in let rest = table-sum ps (h .1) in omega arith
+
+-- ---- files
+headed-held : (p : Practice) → Headed (answersHeld p)
+headed-held (refused number) = tt
+headed-held (holds legs requests) = headed-played (emptyField (legsInMiles legs)) requests
+
+headed-in : (files : List (List ℕ)) → Headed (answersIn files)
+headed-in [] = tt
+headed-in (file ∷ files) = headed-append (answersHeld (practiceOf file)) (answersIn files) (headed-held (practiceOf file)) (headed-in files)
+
+-- one answer for each request
+length-held : (p : Practice) → length (answersHeld p) ≡ length (requestsHeld p)
+length-held (refused number) = refl
+length-held (holds legs requests) = length-played (emptyField (legsInMiles legs)) requests
+
+length-in : (files : List (List ℕ)) → length (answersIn files) ≡ length (requestsIn files)
+length-in [] = refl
+length-in (file ∷ files) =
+    let a = length-append (answersHeld (practiceOf file)) (answersIn files) in
+    let r = length-append (requestsHeld (practiceOf file)) (requestsIn files) in
+    let here = length-held (practiceOf file) in
+    let rest = length-in files in
+    omega arith
+
+-- a file's number is one of 0, 5, 6 and 7
+one-number : (file : List ℕ) → listed (0 ∷ 5 ∷ 6 ∷ 7 ∷ []) (fileNumber file) ≡ 1
+unfolding fileNumber
+one-number file = go (opens file) (contentsAllowed file) (legsAllowed (legsOf (legsBody file)))
+  where
+    go : (a b c : Bool) → listed (0 ∷ 5 ∷ 6 ∷ 7 ∷ []) (firstRefused ((5, a) ∷ (6, b) ∷ (7, c) ∷ [])) ≡ 1
+    go true true true = refl
+    go true true false = refl
+    go true false c = refl
+    go false b c = refl
+
+files-whole : (files : List (List ℕ)) → filesNumbered 0 files + filesNumbered 5 files + filesNumbered 6 files + filesNumbered 7 files ≡ length files
+files-whole [] = refl
+files-whole (file ∷ files) = let here = one-number file in let rest = files-whole files in omega arith
+
+pub counted-once : (files : List (List ℕ)) → CountedOnce files
+counted-once files = record { answers = table-sum (answersIn files) (headed-in files); requests = length-in files; whole = files-whole files }
