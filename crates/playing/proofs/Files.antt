@@ -1,12 +1,13 @@
 -- A file that is refused and one that holds a session: what is played of it, and that its legs are legal. Assumes nothing.
-use mathlib.Core.Path.{_≡_, sym, ap, _∙_}
-use mathlib.Core.Bool.{Bool, true, cond}
+use mathlib.Core.Path.{_≡_, refl, sym, ap, _∙_}
+use mathlib.Core.Bool.{Bool, true, false, cond}
 use mathlib.Core.List.{List, []}
-use Prim.Native.Nat.{ℕ}
-use lib.Dec.{T}
+use Prim.Native.Nat.{ℕ, _≤_}
+use native.Mathlib.Omega.{arith}
+use lib.Dec.{T, eqb}
 use lib.ListN.{length}
-use borrow.Author.Tests.{eq-eqb, ne-eqb}
-use Rattle.limits.specs.Limits.{longestLeg}
+use borrow.Author.Tests.{eq-eqb, ne-eqb, eqb-true, eqb-false}
+use Rattle.limits.specs.Limits.{longestLeg, mostRequests}
 use Rattle.leg.specs.Ticks.{Between}
 use Rattle.request.specs.declared.Request.{Request}
 use Rattle.practice.specs.declared.FileLegs.{FileLegs}
@@ -14,12 +15,14 @@ use Rattle.practice.specs.File.{legsOf, legsBody, requestsBody, legsAllowed, fi
 use Rattle.practice.specs.Requests.{requestsOf}
 use Rattle.practice.specs.Practice.{Practice, refused, holds, practiceOf}
 use Rattle.practice.proofs.Accepted.{LegKnown, legs-known}
+use Rattle.practice.proofs.Meaning.{held}
 use Rattle.field.specs.declared.Legs.{Legs}
 use Rattle.bounds.specs.Bounds.{legalLegs}
 use Rattle.rules.specs.declared.Answer.{Answer}
 use Rattle.demand.proofs.Exact.{legs-legal}
 use Rattle.playing.specs.declared.Played.{Played}
 use Rattle.playing.specs.Playing.{legsInMiles, answersFrom, presentFrom, requestsHeld, answersHeld, presentHeld, requestsOfFile, answersOf, playedOf}
+use Rattle.playing.proofs.Playing.{length-answers}
 
 module _ (file : List ℕ) where
   abbrev practiceBy : Bool → Practice
@@ -79,3 +82,24 @@ file-legs-legal legs e =
   where
     fits : (n : ℕ) → LegKnown n → Between 1 longestLeg n
     fits n k = record { least = k .low; most = k .high }
+
+-- ---- of every file
+
+pub answers-count : (file : List ℕ) → playedOf file .requests ≡ length (answersOf file)
+unfolding playedOf requestsOfFile answersOf
+answers-count file = by (practiceOf file)
+  where
+    by : (p : Practice) → length (requestsHeld p) ≡ length (answersHeld p)
+    by (refused n) = refl
+    by (holds legs requests) = sym (length-answers (legsInMiles legs) requests)
+
+pub requests-few : (file : List ℕ) → playedOf file .requests ≤ mostRequests
+requests-few file = go (eqb (fileNumber file) 0) refl
+  where
+    go : (b : Bool) → eqb (fileNumber file) 0 ≡ b → playedOf file .requests ≤ mostRequests
+    go true e =
+        let z = eqb-true (fileNumber file) 0 e in
+        let n = ap (λ (p : Played). p .requests) (played-held file z) in
+        let h = held file (legsOf (legsBody file)) (requestsInside file) (practice-holds file z) in
+        omega (arith, h .few)
+    go false e = let n = ap (λ (p : Played). p .requests) (played-none file (eqb-false (fileNumber file) 0 e)) in omega arith

@@ -3,11 +3,11 @@ use mathlib.Core.Path.{_≡_, refl, sym, ap, _∙_}
 use mathlib.Core.List.{List, [], _∷_, _++_}
 use Prim.Native.Nat.{ℕ, zero, suc, _+_, _*_, _≤_, _<_}
 use native.Mathlib.Omega.{arith}
-use lib.ListN.{length, set, getD, drop, length-append}
+use lib.ListN.{length, set, getD, drop, length-append, length-drop, List·getD-append}
 use lib.Seq.{sets, sets-eq}
 use Rattle.request.specs.declared.Request.{Request}
 use Rattle.rules.specs.declared.Answer.{Answer}
-use Rattle.playing.specs.Log.{entryOf, logOf}
+use Rattle.playing.specs.Log.{entryOf, logOf, kindAt}
 
 -- seven stores, one after the other
 pub seven-stores : (l : List ℕ) (at a b c d e f g : ℕ)
@@ -36,3 +36,37 @@ pub log-written : (log : List ℕ) (ps : List (Request × Answer)) (n : ℕ) →
 log-written log ps n e h =
     let l = log-length ps in
     sets-eq (logOf ps) log 0 (omega arith) ∙ ap (λ (k : ℕ). logOf ps ++ drop k log) {x = 0 + length (logOf ps)} {y = 7 * n} (omega arith)
+
+-- the log keeps its length
+pub log-kept : (log : List ℕ) (ps : List (Request × Answer)) (n : ℕ) → n ≡ length ps → 7 * n ≤ length log → length (logOf ps ++ drop (7 * n) log) ≡ length log
+log-kept log ps n e h =
+    let l = log-length ps in
+    let a = length-append (logOf ps) (drop (7 * n) log) in
+    let d = length-drop (7 * n) log in
+    omega arith
+
+-- ---- the i-th request in a log, and its answer
+pub record Here (ps : List (Request × Answer)) (log : List ℕ) (i : ℕ) : Type 0 where
+  pub pair : Request × Answer
+  pub rest : drop i ps ≡ pair ∷ drop (suc i) ps
+  pub entry : (k : ℕ) → k < 7 → getD log (7 * i + k) 0 ≡ getD (entryOf pair) k 0
+
+pub here-in : (ps : List (Request × Answer)) (rest : List ℕ) (i : ℕ) → i < length ps → Here ps (logOf ps ++ rest) i
+here-in [] rest i h = absurd (omega arith)
+here-in (p ∷ ps) rest zero h =
+    record {
+      pair = p;
+      rest = refl;
+      entry = λ k g. ap (λ (n : ℕ). getD (entryOf p ++ logOf ps ++ rest) n 0) {x = 7 * 0 + k} {y = k} (omega arith) ∙ List·getD-append (entryOf p) (logOf ps ++ rest) 0 k g;
+    }
+here-in (p ∷ ps) rest (suc i) h =
+    let t = here-in ps rest i (omega arith) in
+    record {
+      pair = t .pair;
+      rest = t .rest;
+      entry = λ k g. ap (λ (n : ℕ). getD (entryOf p ++ logOf ps ++ rest) n 0) {x = 7 * suc i + k} {y = suc (suc (suc (suc (suc (suc (suc (7 * i + k)))))))} (omega arith) ∙ t .entry k g;
+    }
+
+-- its kind
+pub kind-here : {ps : List (Request × Answer)} {log : List ℕ} {i : ℕ} (t : Here ps log i) → kindAt log i ≡ t .pair .0 .kind
+kind-here {log = log} {i} t = ap (λ (n : ℕ). getD log n 0) {x = 7 * i} {y = 7 * i + 0} (omega arith) ∙ t .entry 0 (omega arith)

@@ -1,6 +1,7 @@
 -- The log of a file that was played: seven numbers for each request, one request after the other. Definitions only.
-use Prim.Native.Nat.{ℕ}
+use Prim.Native.Nat.{ℕ, _+_, _*_, _<_}
 use mathlib.Core.List.{List, [], _∷_, _++_}
+use lib.ListN.{getD}
 use Rattle.request.specs.declared.Request.{Request}
 use Rattle.rules.specs.declared.Answer.{Answer}
 
@@ -12,3 +13,15 @@ entryOf p = p .0 .kind ∷ p .1 .number ∷ p .1 .aircraft ∷ p .1 .zone ∷ p 
 abbrev pub logOf : List (Request × Answer) → List ℕ
 logOf [] = []
 logOf (p ∷ ps) = entryOf p ++ logOf ps
+
+-- the kind of the i-th request in a log, counted from 0
+abbrev pub kindAt : List ℕ → ℕ → ℕ
+kindAt log i = getD log (7 * i) 0
+
+-- the number of its answer
+abbrev pub numberAt : List ℕ → ℕ → ℕ
+numberAt log i = getD log (7 * i + 1) 0
+
+-- every number of a log has 16 bits
+abbrev pub HasWords : List ℕ → Type 0
+HasWords log = (i : ℕ) → getD log i 0 < 65536

@@ -77,6 +77,9 @@ put-more {ys = ys} p q =
     let all = after-them ys p in
     record { buffer = q .buffer ∙ ap (λ (r : List ℕ × ℕ). r .0) all; next = q .next ∙ ap (λ (r : List ℕ × ℕ). r .1) all }
 
+pub put-none : (b : List ℕ) (at : ℕ) → Put b at [] b at
+put-none b at = record { buffer = refl; next = refl }
+
 -- the buffer keeps its length
 put-length : (b : List ℕ) (at : ℕ) (xs : List ℕ) → length (put b at xs .0) ≡ length b
 put-length b at [] = refl

@@ -53,8 +53,7 @@ returns : tie.Need-returns
 returns c =
     let file = file-of (c .before) in
     let n = c .before .file-number .ensures in
-    let log = now (c .before .before .before .before .args .log) in
-    (
+    let log = now (c .before .before .before .before .args .log) in (
       ap (λ (k : ℕ). record { number = k; requests = 0; present = 0 }) n ∙ sym (played-none file (refused c)),
       sym (ap (λ ps. logOf ps ++ drop (7 * 0) log) (answers-none file (refused c))),
     )
@@ -91,17 +90,16 @@ returns-2 c =
     let answers = answersFrom (legsHeld file) (requestsInside file) in
     let count : c .play-body .result .requests ≡ length answers =
     ap (λ (p : Played). p .requests) (c .play-body .ensures .0) ∙ ap length rs ∙ sym (length-answers (legsHeld file) (requestsInside file)) in
-    let n = length-answers (legsHeld file) (requestsInside file) in
-    (
+    let n = length-answers (legsHeld file) (requestsInside file) in (
       c .play-body .ensures .0
-      ∙ ap (λ (l : Legs). record { number = 0; requests = length (requestsOf (take (length file - 34) (drop 34 file))); present = presentFrom l (requestsOf (take (length file - 34) (drop 34 file))) }) legs
-      ∙ ap (λ (r : List Request). record { number = 0; requests = length r; present = presentFrom (legsHeld file) r }) rs
-      ∙ sym (played-held file (accepted k)),
+          ∙ ap (λ (l : Legs). record { number = 0; requests = length (requestsOf (take (length file - 34) (drop 34 file))); present = presentFrom l (requestsOf (take (length file - 34) (drop 34 file))) }) legs
+          ∙ ap (λ (r : List Request). record { number = 0; requests = length r; present = presentFrom (legsHeld file) r }) rs
+          ∙ sym (played-held file (accepted k)),
       c .play-body .ensures .1
-      ∙ ap (λ (l : Legs). sets log 0 (logOf (answersFrom l (requestsOf (take (length file - 34) (drop 34 file)))))) legs
-      ∙ ap (λ (r : List Request). sets log 0 (logOf (answersFrom (legsHeld file) r))) rs
-      ∙ log-written log answers (c .play-body .result .requests) count (omega (arith, count, n, holding k .few))
-      ∙ sym (ap (λ ps. logOf ps ++ drop (7 * c .play-body .result .requests) log) (answers-held file (accepted k))),
+          ∙ ap (λ (l : Legs). sets log 0 (logOf (answersFrom l (requestsOf (take (length file - 34) (drop 34 file)))))) legs
+          ∙ ap (λ (r : List Request). sets log 0 (logOf (answersFrom (legsHeld file) r))) rs
+          ∙ log-written log answers (c .play-body .result .requests) count (omega (arith, count, n, holding k .few))
+          ∙ sym (ap (λ ps. logOf ps ++ drop (7 * c .play-body .result .requests) log) (answers-held file (accepted k))),
     )
 
 pub play-spec : {M : Type 1} → statement M

@@ -155,8 +155,7 @@ returns c =
     let e = l .before .empty-field .ensures in
     let z = no-reading k in
     let count = all-played rs (l .loop .inv .1 (empty l)) z in
-    let present = c .present-on .ensures ∙ ap presentOn (last-field rs (l .loop .inv .1 _) z) ∙ ap (λ (f : Field). presentOn (fieldAfter f rs)) e in
-    (
+    let present = c .present-on .ensures ∙ ap presentOn (last-field rs (l .loop .inv .1 _) z) ∙ ap (λ (f : Field). presentOn (fieldAfter f rs)) e in (
       (λ i. record { number = 0; requests = count i; present = present i }),
       all-logged rs (l .loop .inv .1 (empty l)) z ∙ ap (λ (f : Field). sets (now (start l .args .log)) 0 (logOf (played f rs))) e,
     )
