@@ -1,6 +1,8 @@
 -- The log of a file that was played: seven numbers for each request, one request after the other. Definitions only.
 use Prim.Native.Nat.{ℕ, _+_, _*_, _<_}
+use mathlib.Core.Bool.{Bool, cond, _&&_}
 use mathlib.Core.List.{List, [], _∷_, _++_}
+use lib.Dec.{eqb}
 use lib.ListN.{getD}
 use Rattle.request.specs.declared.Request.{Request}
 use Rattle.rules.specs.declared.Answer.{Answer}
@@ -25,3 +27,7 @@ numberAt log i = getD log (7 * i + 1) 0
 -- every number of a log has 16 bits
 abbrev pub HasWords : List ℕ → Type 0
 HasWords log = (i : ℕ) → getD log i 0 < 65536
+
+-- 1 for a request of these kinds that was answered 0, else 0
+abbrev pub ofKinds : (ℕ → Bool) → ℕ → ℕ → ℕ
+ofKinds kinds kind number = cond (eqb number 0 && kinds kind) 1 0

@@ -9,8 +9,8 @@ use Rattle.field.specs.declared.Field.{Field}
 use Rattle.rules.specs.declared.Answer.{Answer}
 use Rattle.rules.specs.Step.{stepOf}
 use Rattle.rules.specs.Play.{played}
-use Rattle.text.specs.Text.{decimal, markBefore, line}
-use Rattle.text.proofs.Texts.{decimal-short}
+use Rattle.text.specs.Text.{line}
+use Rattle.text.proofs.Texts.{line-length}
 use Rattle.playing.specs.Log.{entryOf, logOf, kindAt, numberAt, HasWords}
 use Rattle.playing.proofs.Answers.{Short, short-step}
 use Rattle.playing.proofs.Logs.{Here, here-in, kind-here}
@@ -72,11 +72,6 @@ module _ (ps : List (Request × Answer)) (rest : List ℕ) where
       adds-all (subst (λ (l : List (Request × Answer)). Adds (countedTo log (length ps)) l ps) (drop-of-length-le ps {i = length ps} (omega arith)) (counted-so-far (length ps) (omega arith)))
 
 -- ---- how long a line is
-line-length : (n : ℕ) (ns : List ℕ) (k : ℕ) → n < 10 ^ suc k → length (line (n ∷ ns)) ≤ suc (suc k) + length (line ns)
-line-length n ns k h =
-    let d = decimal-short k n h in
-    let a = length-append (decimal n) (markBefore ns ∷ line ns) in
-    omega arith
 
 -- the longest line: 4 + 2 + 5 + 2 + 1 + 5 + 5 digits, 6 spaces and a newline
 pub answer-length : (index : ℕ) (a : Answer) → index < 10000 → Short a → a .aircraft < 65536 → a .leader < 65536 → a .along < 65536 → length (answerLine index a) ≤ 31

@@ -9,10 +9,10 @@ use borrow.Author.Tests.{eq-eqb, ne-eqb}
 use Rattle.request.specs.declared.Request.{Request}
 use Rattle.request.specs.Input.{isEntry}
 use Rattle.rules.specs.declared.Answer.{Answer}
-use Rattle.playing.specs.Log.{kindAt, numberAt}
+use Rattle.playing.specs.Log.{kindAt, numberAt, ofKinds}
 use Rattle.rules.specs.Play.{letIn, taxiedOff, exitedFrom, misses}
 use Rattle.session.specs.declared.tally.Tally.{Tally}
-use Rattle.session.specs.Tally.{tallyOf, none, ofKinds, counted, Under}
+use Rattle.session.specs.Tally.{tallyOf, none, counted, Under}
 use Rattle.session.specs.Entries.{countedTo}
 
 -- 1 or 0 by a test

@@ -1,12 +1,12 @@
 -- Document 01, "The practice file": the closing counts, of a list of answers and answer by answer. Definitions only.
 use Prim.Native.Nat.{ℕ, _+_, _<_}
-use mathlib.Core.Bool.{Bool, cond, _&&_}
 use mathlib.Core.List.{List}
 use lib.Dec.{eqb}
 use Rattle.request.specs.declared.Request.{Request}
 use Rattle.request.specs.Input.{isEntry}
 use Rattle.rules.specs.declared.Answer.{Answer}
 use Rattle.rules.specs.Play.{letIn, taxiedOff, exitedFrom, misses}
+use Rattle.playing.specs.Log.{ofKinds}
 use Rattle.session.specs.declared.tally.Tally.{Tally}
 
 -- "accepted entries, taxis, exits, misses, .. counted as for demand 3"
@@ -16,10 +16,6 @@ tallyOf ps = record { entries = letIn ps; taxis = taxiedOff ps; exits = exitedFr
 -- the counts before the first request
 abbrev pub none : Tally
 none = record { entries = 0; taxis = 0; exits = 0; misses = 0 }
-
--- 1 for a request of these kinds that was answered 0, else 0
-abbrev pub ofKinds : (ℕ → Bool) → ℕ → ℕ → ℕ
-ofKinds kinds kind number = cond (eqb number 0 && kinds kind) 1 0
 
 -- the counts with one more request, of this kind and answered with this number
 unfoldable pub counted : Tally → ℕ → ℕ → Tally

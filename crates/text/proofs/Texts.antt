@@ -108,6 +108,10 @@ written {before} {after} {bytes} {n} p l h =
       fits = omega arith;
     }
 
+-- the same, as a contract says it
+pub stated : {bytes before after : List ℕ} {n : ℕ} → Written bytes before n after → (n ≡ length bytes) × ((after ≡ bytes ++ drop n before) × (n ≤ room))
+stated w = (w .size, (w .buffer, w .fits))
+
 -- ---- a loop that puts: when what is left is put, all is put
 pub record Left (before : List ℕ) (at : ℕ) (all : List ℕ) (buffer : List ℕ) (end : ℕ) (rest : List ℕ) : Type 0 where
   pub same : length buffer ≡ length before
@@ -157,3 +161,18 @@ mark-last l i h = ap markBefore (past-all l i h)
 pub line-more : {b m n o all : List ℕ} {at e f g : ℕ} (l : List ℕ) (i mark : ℕ) → i < length l → markBefore (drop (i + 1) l) ≡ mark
     → Left b at all m e (line (drop i l)) → Put m e (decimal (getD l i 0)) n f → Put n f (mark ∷ []) o g → Left b at all o g (line (drop (i + 1) l))
 line-more l i mark h k rest p q = left-more (decimal (getD l i 0) ++ (mark ∷ [])) (line (drop (i + 1) l)) rest (line-here l i mark h k) (put-more p q)
+
+-- ---- how long a line is
+pub line-length : (n : ℕ) (ns : List ℕ) (k : ℕ) → n < 10 ^ suc k → length (line (n ∷ ns)) ≤ suc (suc k) + length (line ns)
+line-length n ns k h =
+    let d = decimal-short k n h in
+    let a = length-append (decimal n) (markBefore ns ∷ line ns) in
+    omega arith
+
+-- a line of numbers of 64 bits
+pub line-short : (ns : List ℕ) → ((i : ℕ) → getD ns i 0 < 2 ^ 64) → length (line ns) ≤ 21 * length ns
+line-short [] w = omega arith
+line-short (n ∷ ns) w =
+    let first = line-length n ns 19 (let h = w 0 in omega arith) in
+    let rest = line-short ns (λ i. w (suc i)) in
+    omega arith

@@ -13,7 +13,7 @@ use Rattle.playing.specs.Log.{logOf, HasWords}
 use Rattle.playing.proofs.Files.{answers-count, requests-few}
 use Rattle.playing.proofs.Logs.{log-kept}
 use Rattle.text.specs.Buffer.{room, Put, Written}
-use Rattle.text.proofs.Texts.{put-more, written}
+use Rattle.text.proofs.Texts.{put-more, written, stated}
 use Rattle.session.specs.declared.tally.Tally.{Tally}
 use Rattle.session.specs.Tally.{tallyOf}
 use Rattle.session.specs.Report.{answerLines, endLine, refusedReport, reportOf}
@@ -22,10 +22,6 @@ use Rattle.session.proofs.Entries.{lines-all, counted-all, lines-short,
 use Rattle.session.proofs.Reports.{report-refused, report-played, answers-short}
 use Rattle.session.proofs.report_by.Statement.{statement}
 use Rattle.session.proofs.report_by.Tie as tie
-
--- what is written, as the contract says it
-stated : {bytes before after : List ℕ} {n : ℕ} → Written bytes before n after → (n ≡ length bytes) × ((after ≡ bytes ++ drop n before) × (n ≤ room))
-stated w = (w .size, (w .buffer, w .fits))
 
 abbrev file-of : tie.After-play → List ℕ
 file-of c = now (c .before .before .before .before .args .file)

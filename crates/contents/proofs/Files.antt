@@ -9,8 +9,8 @@ use lib.Seq.{length-take-le}
 use denote.Ref.{RefT, ptr, now}
 use borrow.Author.Tests.{lt-ltb, le-ltb}
 use Rattle.practice.specs.Sections.{placeAt, stretch}
-use Rattle.binder.specs.Binder.{offsetAt, lengthAt, fileCount, fileOffset, fileLength, fileAt}
-use Rattle.binder.proofs.Accepted.{held}
+use Rattle.contents.specs.Contents.{offsetAt, lengthAt, fileCount, fileOffset, fileLength, fileAt}
+use Rattle.contents.proofs.Accepted.{held}
 
 -- a place in memory and the bytes there are the i-th file
 abbrev pub IsFile : RefT (List ℕ) → ℕ → ℕ × ℕ → List ℕ → Type 0

@@ -1,10 +1,10 @@
--- `binder::table_allowed` meets its contract: what each test gave stands in the branches. Assumes nothing.
+-- `contents::table_allowed` meets its contract: what each test gave stands in the branches. Assumes nothing.
 use native.Mathlib.Omega.{arith}
 use denote.Ref.{now}
 use borrow.Author.Needs.{needs}
-use Rattle.binder.proofs.Table.{too-small, too-large, too-few, too-many, if-it-fits}
-use Rattle.binder.proofs.table_allowed.Statement.{statement}
-use Rattle.binder.proofs.table_allowed.Tie as tie
+use Rattle.contents.proofs.Table.{too-small, too-large, too-few, too-many, if-it-fits}
+use Rattle.contents.proofs.table_allowed.Statement.{statement}
+use Rattle.contents.proofs.table_allowed.Tie as tie
 
 returns : tie.Need-returns
 returns c = too-small (now (c .before .before .args .binder)) (omega arith)

@@ -10,8 +10,8 @@ use lib.Seq.{drop-drop}
 use borrow.Author.Tests.{lt-ltb, eqb-true, ne-eqb}
 use Rattle.request.proofs.Tests.{both-left, both-right}
 use Rattle.practice.specs.Sections.{stretch}
-use Rattle.binder.specs.Binder.{entryCount, offsetAt, lengthAt, tableEnd, backToBack, filesPlaced, binderNumber, fileCount, fileAt, filesFrom, filesOf}
-use Rattle.binder.proofs.Accepted.{accepted, count-of}
+use Rattle.contents.specs.Contents.{entryCount, offsetAt, lengthAt, tableEnd, backToBack, filesPlaced, binderNumber, fileCount, fileAt, filesFrom, filesOf}
+use Rattle.contents.proofs.Accepted.{accepted, count-of}
 
 module _ (bytes : List ℕ) where
   -- the bytes of a file that the binder holds

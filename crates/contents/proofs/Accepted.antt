@@ -8,9 +8,9 @@ use lib.Dec.{eqb}
 use lib.ListN.{length}
 use borrow.Author.Tests.{eq-eqb, eqb-true}
 use Rattle.request.proofs.Tests.{both-left, both-right}
-use Rattle.binder.specs.Binder.{entryCount, entryPlace, offsetAt, lengthAt, tableEnd, tableAllowed, filesPlaced, binderNumber, fileCount}
-use Rattle.binder.proofs.Table.{TableKnown, table-known}
-use Rattle.binder.proofs.Placed.{file-within}
+use Rattle.contents.specs.Contents.{entryCount, entryPlace, offsetAt, lengthAt, tableEnd, tableAllowed, filesPlaced, binderNumber, fileCount}
+use Rattle.contents.proofs.Table.{TableKnown, table-known}
+use Rattle.contents.proofs.Placed.{file-within}
 
 -- an accepted binder passes both tests
 pub record Accepted (bytes : List ℕ) : Type 0 where
@@ -61,3 +61,12 @@ held bytes i h =
       entry = omega arith;
       whole = rw z at (file-within bytes (entryCount bytes) (tableEnd bytes) 0 i (a .placed) (omega arith));
     }
+
+-- no binder holds more than 64 files
+pub count-high : (bytes : List ℕ) → fileCount bytes ≤ 64
+unfolding fileCount
+count-high bytes = by (eqb (binderNumber bytes) 0) refl
+  where
+    by : (t : Bool) → eqb (binderNumber bytes) 0 ≡ t → cond t (entryCount bytes) 0 ≤ 64
+    by true e = accepted bytes (eqb-true (binderNumber bytes) 0 e) .table .high
+    by false e = omega arith

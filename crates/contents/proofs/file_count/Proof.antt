@@ -1,13 +1,13 @@
--- `binder::file_count` meets its contract: the binder's number is as the branches found it. Assumes nothing.
+-- `contents::file_count` meets its contract: the binder's number is as the branches found it. Assumes nothing.
 use mathlib.Core.Path.{_≡_, sym, _∙_}
 use native.Mathlib.Omega.{arith}
 use denote.Ref.{now}
 use borrow.Author.Needs.{needs}
 use Rattle.practice.proofs.Tests.{differs}
-use Rattle.binder.specs.Binder.{binderNumber, fileCount}
-use Rattle.binder.proofs.Accepted.{accepted, count-of}
-use Rattle.binder.proofs.file_count.Statement.{statement}
-use Rattle.binder.proofs.file_count.Tie as tie
+use Rattle.contents.specs.Contents.{binderNumber, fileCount}
+use Rattle.contents.proofs.Accepted.{accepted, count-of}
+use Rattle.contents.proofs.file_count.Statement.{statement}
+use Rattle.contents.proofs.file_count.Tie as tie
 
 -- an accepted binder
 zero-read : (c : tie.Else1) → binderNumber (now (c .before .before .before .args .binder)) ≡ 0

@@ -1,13 +1,13 @@
--- `binder::files_placed` meets its contract: the loop has passed the files before the i-th. The measure is what is left of the count.
+-- `contents::files_placed` meets its contract: the loop has passed the files before the i-th. The measure is what is left of the count.
 -- Assumes nothing.
 use Prim.Native.Nat.{_-_}
 use native.Mathlib.Omega.{arith}
 use denote.Ref.{now}
 use borrow.Author.Needs.{needs}
-use Rattle.binder.proofs.Table.{table-known}
-use Rattle.binder.proofs.Placed.{Passed, passed-none, passed-more, passed-stop, passed-all}
-use Rattle.binder.proofs.files_placed.Statement.{statement}
-use Rattle.binder.proofs.files_placed.Tie as tie
+use Rattle.contents.proofs.Table.{table-known}
+use Rattle.contents.proofs.Placed.{Passed, passed-none, passed-more, passed-stop, passed-all}
+use Rattle.contents.proofs.files_placed.Statement.{statement}
+use Rattle.contents.proofs.files_placed.Tie as tie
 
 abbrev Inv-loop : tie.InvT-loop
 Inv-loop binder count end₀ i₀ end i = Passed binder count end i

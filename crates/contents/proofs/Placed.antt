@@ -9,7 +9,7 @@ use lib.Dec.{eqb}
 use lib.ListN.{length}
 use borrow.Author.Tests.{eq-eqb, ne-eqb, eqb-true}
 use Rattle.request.proofs.Tests.{both-left, both-right, left-fails}
-use Rattle.binder.specs.Binder.{entryCount, entryPlace, offsetAt, lengthAt, backToBack, filesPlaced}
+use Rattle.contents.specs.Contents.{entryCount, entryPlace, offsetAt, lengthAt, backToBack, filesPlaced}
 
 module _ (bytes : List ℕ) where
   -- the test of the files from the i-th on is that of the i-th and that of the rest

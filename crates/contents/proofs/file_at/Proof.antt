@@ -1,13 +1,13 @@
--- `binder::file_at` meets its contract: whether the binder holds the file is as the branches found it. Assumes nothing.
+-- `contents::file_at` meets its contract: whether the binder holds the file is as the branches found it. Assumes nothing.
 use Prim.Native.Nat.{_<_}
 use native.Mathlib.Omega.{arith}
 use denote.Ref.{now}
 use borrow.Author.Needs.{needs}
-use Rattle.binder.specs.Binder.{fileCount}
-use Rattle.binder.proofs.Accepted.{Held, held}
-use Rattle.binder.proofs.Files.{is-held, is-none}
-use Rattle.binder.proofs.file_at.Statement.{statement}
-use Rattle.binder.proofs.file_at.Tie as tie
+use Rattle.contents.specs.Contents.{fileCount}
+use Rattle.contents.proofs.Accepted.{Held, held}
+use Rattle.contents.proofs.Files.{is-held, is-none}
+use Rattle.contents.proofs.file_at.Statement.{statement}
+use Rattle.contents.proofs.file_at.Tie as tie
 
 -- a file that the binder holds
 below : (c : tie.Else1) → let a = c .before .before .before .args in a .i < fileCount (now (a .binder))

@@ -1,12 +1,12 @@
--- `binder::binder_number` meets its contract: what each test gave stands in the branches. Assumes nothing.
+-- `contents::binder_number` meets its contract: what each test gave stands in the branches. Assumes nothing.
 use mathlib.Core.Path.{_≡_}
 use mathlib.Core.Bool.{true}
 use denote.Ref.{now}
 use borrow.Author.Needs.{needs}
 use Rattle.practice.proofs.Tests.{fails, passes}
-use Rattle.binder.specs.Binder.{tableAllowed, binderNumber}
-use Rattle.binder.proofs.binder_number.Statement.{statement}
-use Rattle.binder.proofs.binder_number.Tie as tie
+use Rattle.contents.specs.Contents.{tableAllowed, binderNumber}
+use Rattle.contents.proofs.binder_number.Statement.{statement}
+use Rattle.contents.proofs.binder_number.Tie as tie
 
 -- the test that was passed
 table-read : (c : tie.Else1) → tableAllowed (now (c .before .before .before .args .binder)) ≡ true

@@ -9,7 +9,7 @@ use lib.ListN.{length}
 use borrow.Author.Tests.{leb-true, le-leb, lt-leb}
 use Rattle.request.specs.Input.{within}
 use Rattle.request.proofs.Tests.{both-left, both-right, left-fails, right-fails, within-yes, within-below, within-above, within-low, within-high}
-use Rattle.binder.specs.Binder.{entryCount, tableEnd, tableAllowed}
+use Rattle.contents.specs.Contents.{entryCount, tableEnd, tableAllowed}
 
 pub record TableKnown (bytes : List ℕ) : Type 0 where
   pub size : length bytes ≤ 65536
