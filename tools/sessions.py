@@ -10,6 +10,9 @@ written as its bytes in hexadecimal instead (NAME.hex).
   sessions.py bytes NAME.txt|NAME.hex [OUT]   the bytes, to OUT or standard output
   sessions.py text FILE [OUT]                 a practice file in readable form
   sessions.py hex FILE [OUT]                  any file in hexadecimal
+  sessions.py binder FILE...                  the binder of these files, in their order,
+                                              to standard output; NAME.txt and NAME.hex
+                                              are packed as their bytes
   sessions.py cases CRATE                     of the sessions in CRATE/data: their
                                               bytes beside them as NAME.scap, their
                                               names in CRATE/args, and the expected
@@ -18,8 +21,8 @@ written as its bytes in hexadecimal instead (NAME.hex).
                                               and writes NAME.expected
   sessions.py check SESSIONS PROGRAM          plays them and compares
 
-FILE may be - for standard input. Legs and requests are written as given, also
-where the rules would refuse them.
+FILE may be - for standard input. Legs, requests and files are written as given,
+also where the rules would refuse them.
 """
 import os
 import struct
@@ -91,6 +94,20 @@ def all_sessions(directory):
             yield stem, session_bytes(os.path.join(directory, name))
 
 
+def binder(files):
+    """A count, a table of offsets and lengths, and the files back to back."""
+    table, offset = struct.pack('<H', len(files)), 2 + 8 * len(files)
+    for data in files:
+        table += struct.pack('<II', offset, len(data))
+        offset += len(data)
+    return table + b''.join(files)
+
+
+def packed(path):
+    """The bytes of a file that goes into a binder."""
+    return session_bytes(path) if path.endswith(('.txt', '.hex')) else read(path)
+
+
 def played(program, data):
     return subprocess.run([program], input=data, stdout=subprocess.PIPE, check=True).stdout
 
@@ -123,6 +140,9 @@ def write_cases(crate):
 
 
 def main(args):
+    if len(args) > 1 and args[0] == 'binder':
+        write(binder([packed(path) for path in args[1:]]), None)
+        return
     if len(args) not in (2, 3):
         raise SystemExit(__doc__)
     command, source = args[:2]

@@ -79,10 +79,10 @@ fn contents_as_said(file: &[u8]) -> bool {
         && REQUESTS_AT + length == file.len()
 }
 
-fn u16_at(file: &[u8], at: usize) -> u16 {
+pub(crate) fn u16_at(file: &[u8], at: usize) -> u16 {
     u16::from_le_bytes([file[at], file[at + 1]])
 }
 
-fn u32_at(file: &[u8], at: usize) -> u32 {
+pub(crate) fn u32_at(file: &[u8], at: usize) -> u32 {
     u32::from_le_bytes([file[at], file[at + 1], file[at + 2], file[at + 3]])
 }

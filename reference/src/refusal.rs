@@ -1,4 +1,14 @@
-//! The numbers by which a file or a request is turned away.
+//! The numbers by which a binder, a file or a request is turned away.
+
+/// A binder whose count, size or placing is not as said.
+#[derive(Clone, Copy, Debug, PartialEq, Eq)]
+pub struct BinderRefusal;
+
+impl BinderRefusal {
+    pub fn number(self) -> u8 {
+        30
+    }
+}
 
 /// Why a practice file is not played.
 #[derive(Clone, Copy, Debug, PartialEq, Eq)]

@@ -1,4 +1,4 @@
-//! Links the static library that `rt staticlib session` writes.
+//! Links the static libraries that `rt staticlib session` and `rt staticlib binder` write.
 
 use std::env;
 use std::path::Path;
@@ -6,7 +6,9 @@ use std::path::Path;
 fn main() {
     let package = env::var("CARGO_MANIFEST_DIR").expect("the package's folder");
     let folder = Path::new(&package).join("../../target/staticlib");
-    println!("cargo:rerun-if-changed={}", folder.join("libsession.a").display());
     println!("cargo:rustc-link-search=native={}", folder.display());
-    println!("cargo:rustc-link-lib=static=session");
+    for library in ["session", "binder"] {
+        println!("cargo:rerun-if-changed={}", folder.join(format!("lib{library}.a")).display());
+        println!("cargo:rustc-link-lib=static={library}");
+    }
 }

@@ -24,9 +24,9 @@ use Rattle.rules.specs.Play.{played}
 use Rattle.rules.proofs.Checks.{numberedIn, checks-numbered, input-numbered}
 use Rattle.rules.proofs.StepLaws.{number-is}
 use Rattle.line.proofs.Counted.{total-add, total-none}
-use Rattle.session.specs.Report.{legsInMiles}
-use Rattle.session.proofs.Playing.{length-played}
-use Rattle.binder.specs.Counting.{requestsHeld, answersHeld, requestsIn, answersIn, rowOf, rows, columns, isAnswered, answered, tableSum, filesNumbered, CountedOnce}
+use Rattle.playing.specs.Playing.{legsInMiles, answersFrom, requestsHeld, answersHeld, requestsOfFile, answersOf}
+use Rattle.playing.proofs.Playing.{length-answers}
+use Rattle.binder.specs.Counting.{requestsIn, answersIn, rowOf, rows, columns, isAnswered, answered, tableSum, filesNumbered, CountedOnce}
 
 -- ---- sums over the table
 
@@ -45,7 +45,7 @@ table-add g h =
     ∙ total-add (λ row. total (g row) columns) (λ row. total (h row) columns) rows
 
 -- how often a number is listed
-abbrev listed : List ℕ → ℕ → ℕ
+abbrev pub listed : List ℕ → ℕ → ℕ
 listed ns m = total (λ n. cond (eqb m n) 1 0) ns
 
 -- in a row that is the one or not
@@ -103,7 +103,7 @@ number-column f r =
 -- ---- lists of answers
 
 -- each answer's number heads a column
-abbrev Headed : List (Request × Answer) → Type 0
+abbrev pub Headed : List (Request × Answer) → Type 0
 Headed [] = Unit
 Headed (p ∷ ps) = (listed columns (p .1 .number) ≡ 1) × Headed ps
 
@@ -132,25 +132,33 @@ table-sum [] h = sum-none
 table-sum (p ∷ ps) h = let more = sum-more p ps (h .0) in let rest = table-sum ps (h .1) in omega arith
 
 -- ---- files
-headed-held : (p : Practice) → Headed (answersHeld p)
-headed-held (refused number) = tt
-headed-held (holds legs requests) = headed-played (emptyField (legsInMiles legs)) requests
+pub headed-file : (file : List ℕ) → Headed (answersOf file)
+unfolding answersOf answersFrom
+headed-file file = by (practiceOf file)
+  where
+    by : (p : Practice) → Headed (answersHeld p)
+    by (refused number) = tt
+    by (holds legs requests) = headed-played (emptyField (legsInMiles legs)) requests
 
 headed-in : (files : List (List ℕ)) → Headed (answersIn files)
 headed-in [] = tt
-headed-in (file ∷ files) = headed-append (answersHeld (practiceOf file)) (answersIn files) (headed-held (practiceOf file)) (headed-in files)
+headed-in (file ∷ files) = headed-append (answersOf file) (answersIn files) (headed-file file) (headed-in files)
 
 -- one answer for each request
-length-held : (p : Practice) → length (answersHeld p) ≡ length (requestsHeld p)
-length-held (refused number) = refl
-length-held (holds legs requests) = length-played (emptyField (legsInMiles legs)) requests
+length-file : (file : List ℕ) → length (answersOf file) ≡ length (requestsOfFile file)
+unfolding answersOf requestsOfFile
+length-file file = by (practiceOf file)
+  where
+    by : (p : Practice) → length (answersHeld p) ≡ length (requestsHeld p)
+    by (refused number) = refl
+    by (holds legs requests) = length-answers (legsInMiles legs) requests
 
 length-in : (files : List (List ℕ)) → length (answersIn files) ≡ length (requestsIn files)
 length-in [] = refl
 length-in (file ∷ files) =
-    let a = length-append (answersHeld (practiceOf file)) (answersIn files) in
-    let r = length-append (requestsHeld (practiceOf file)) (requestsIn files) in
-    let here = length-held (practiceOf file) in
+    let a = length-append (answersOf file) (answersIn files) in
+    let r = length-append (requestsOfFile file) (requestsIn files) in
+    let here = length-file file in
     let rest = length-in files in
     omega arith
 

@@ -1,6 +1,7 @@
-pub mod Table
-pub mod Placed
-pub mod Accepted
-pub mod Files
-pub mod Listed
 pub mod Counted
+pub mod Cells
+pub mod Adding
+pub mod Sums
+pub mod Rows
+pub mod Reported
+pub mod Known

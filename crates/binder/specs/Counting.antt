@@ -9,34 +9,22 @@ use lib.ListN.{length}
 use Rattle.request.specs.Input.{within}
 use Rattle.request.specs.declared.Request.{Request}
 use Rattle.practice.specs.File.{fileNumber}
-use Rattle.practice.specs.Practice.{Practice, refused, holds, practiceOf}
-use Rattle.field.specs.Boxes.{emptyField}
 use Rattle.questions.specs.Counts.{total}
 use Rattle.rules.specs.declared.Answer.{Answer}
-use Rattle.rules.specs.Play.{played, accepted}
-use Rattle.session.specs.Report.{legsInMiles}
+use Rattle.rules.specs.Play.{accepted}
+use Rattle.playing.specs.Playing.{requestsOfFile, answersOf}
 
 -- ---- what is counted
 
--- the requests of a file that plays; a refused file adds none (02, 2.1)
-abbrev pub requestsHeld : Practice → List Request
-requestsHeld (refused number) = []
-requestsHeld (holds legs requests) = requests
-
--- each request of a file that plays with its answer, played from the empty field with the file's legs; a refused file adds none (02, 2.1)
-abbrev pub answersHeld : Practice → List (Request × Answer)
-answersHeld (refused number) = []
-answersHeld (holds legs requests) = played (emptyField (legsInMiles legs)) requests
-
--- the requests of all files that play, in order (02, 2.1)
+-- the requests of all files that play, in order; a refused file adds none (02, 2.1)
 abbrev pub requestsIn : List (List ℕ) → List Request
 requestsIn [] = []
-requestsIn (file ∷ files) = requestsHeld (practiceOf file) ++ requestsIn files
+requestsIn (file ∷ files) = requestsOfFile file ++ requestsIn files
 
 -- the answers of all files that play, in order, each with its request (02, 2.1)
 abbrev pub answersIn : List (List ℕ) → List (Request × Answer)
 answersIn [] = []
-answersIn (file ∷ files) = answersHeld (practiceOf file) ++ answersIn files
+answersIn (file ∷ files) = answersOf file ++ answersIn files
 
 -- ---- the table of numbers by kind
 

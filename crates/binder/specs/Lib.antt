@@ -1,3 +1,3 @@
-pub mod Binder
 pub mod Counting
 pub mod Week
+pub mod Counts

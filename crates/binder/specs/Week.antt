@@ -6,54 +6,55 @@ use lib.Dec.{eqb}
 use Rattle.request.specs.declared.Request.{Request}
 use Rattle.rules.specs.declared.Answer.{Answer}
 use Rattle.rules.specs.Play.{moves}
-use Rattle.session.specs.Text.{space, line}
-use Rattle.binder.specs.Binder.{binderNumber, filesOf}
+use Rattle.text.specs.Text.{space, decimal, line}
+use Rattle.contents.specs.Contents.{binderNumber, filesOf}
 use Rattle.binder.specs.Counting.{answersIn, rows, columns, answered, landings, filesNumbered}
 
 -- `files` and how many files play (02, 2.1)
-unfoldable pub filesLine : List (List ℕ) → List ℕ
-filesLine files = 102 ∷ 105 ∷ 108 ∷ 101 ∷ 115 ∷ space ∷ line (filesNumbered 0 files ∷ [])
+unfoldable pub filesLine : ℕ → List ℕ
+filesLine n = 102 ∷ 105 ∷ 108 ∷ 101 ∷ 115 ∷ space ∷ line (n ∷ [])
 
 -- `refused`, the number, and how many files were refused with it (02, 2.1)
-unfoldable pub refusedLine : ℕ → List (List ℕ) → List ℕ
-refusedLine number files = 114 ∷ 101 ∷ 102 ∷ 117 ∷ 115 ∷ 101 ∷ 100 ∷ space ∷ line (number ∷ filesNumbered number files ∷ [])
+unfoldable pub refusedLine : ℕ → ℕ → List ℕ
+refusedLine number n = 114 ∷ 101 ∷ 102 ∷ 117 ∷ 115 ∷ 101 ∷ 100 ∷ space ∷ line (number ∷ n ∷ [])
 
 -- `kind`, and the numbers that head the columns (02, 2.1)
 unfoldable pub headingLine : List ℕ
 headingLine = 107 ∷ 105 ∷ 110 ∷ 100 ∷ space ∷ line columns
 
--- a row of the table: the kind, or `other` for row 0, and how often each number was answered (02, 2.1)
-unfoldable pub rowLine : ℕ → List (Request × Answer) → List ℕ
-rowLine row ps =
-    let counts = map (λ number. answered row number ps) columns in
-    cond (eqb row 0) (111 ∷ 116 ∷ 104 ∷ 101 ∷ 114 ∷ space ∷ line counts) (line (row ∷ counts))
+-- a row of the table: the kind, or `other` for row 0, a space, and how often each number was answered (02, 2.1)
+unfoldable pub rowLine : ℕ → List ℕ → List ℕ
+rowLine row counts = cond (eqb row 0) (111 ∷ 116 ∷ 104 ∷ 101 ∷ 114 ∷ []) (decimal row) ++ (space ∷ line counts)
 
 -- the listed rows, one after the other (02, 2.1)
 abbrev pub rowLines : List ℕ → List (Request × Answer) → List ℕ
 rowLines [] ps = []
-rowLines (row ∷ rest) ps = rowLine row ps ++ rowLines rest ps
+rowLines (row ∷ rest) ps = rowLine row (map (λ number. answered row number ps) columns) ++ rowLines rest ps
 
 -- `moves` and the accepted requests of kinds 3 to 11 (02, 2.1)
-unfoldable pub movesLine : List (Request × Answer) → List ℕ
-movesLine ps = 109 ∷ 111 ∷ 118 ∷ 101 ∷ 115 ∷ space ∷ line (moves ps ∷ [])
+unfoldable pub movesLine : ℕ → List ℕ
+movesLine n = 109 ∷ 111 ∷ 118 ∷ 101 ∷ 115 ∷ space ∷ line (n ∷ [])
 
 -- `landings` and the accepted requests of kind 7 (02, 2.1)
-unfoldable pub landingsLine : List (Request × Answer) → List ℕ
-landingsLine ps = 108 ∷ 97 ∷ 110 ∷ 100 ∷ 105 ∷ 110 ∷ 103 ∷ 115 ∷ space ∷ line (landings ps ∷ [])
-
--- the lines about the files (02, 2.1)
-unfoldable pub fileLines : List (List ℕ) → List ℕ
-fileLines files = filesLine files ++ refusedLine 5 files ++ refusedLine 6 files ++ refusedLine 7 files
-
--- the lines about the answers: the table, moves and landings (02, 2.1)
-unfoldable pub countLines : List (Request × Answer) → List ℕ
-countLines ps = headingLine ++ rowLines rows ps ++ movesLine ps ++ landingsLine ps
+unfoldable pub landingsLine : ℕ → List ℕ
+landingsLine n = 108 ∷ 97 ∷ 110 ∷ 100 ∷ 105 ∷ 110 ∷ 103 ∷ 115 ∷ space ∷ line (n ∷ [])
 
 -- a refused binder gives only `binder` and the number (02, 2.1)
 unfoldable pub refusedBinder : ℕ → List ℕ
 refusedBinder number = 98 ∷ 105 ∷ 110 ∷ 100 ∷ 101 ∷ 114 ∷ space ∷ line (number ∷ [])
 
+-- the report of files: how many play and how many are refused, the table, moves and landings (02, 2.1)
+unfoldable pub filesReport : List (List ℕ) → List ℕ
+filesReport files =
+    filesLine (filesNumbered 0 files)
+    ++ refusedLine 5 (filesNumbered 5 files)
+    ++ refusedLine 6 (filesNumbered 6 files)
+    ++ refusedLine 7 (filesNumbered 7 files)
+    ++ headingLine
+    ++ rowLines rows (answersIn files)
+    ++ movesLine (moves (answersIn files))
+    ++ landingsLine (landings (answersIn files))
+
 -- the report of a binder of these bytes (02, 2.1)
 unfoldable pub weekOf : List ℕ → List ℕ
-weekOf bytes =
-    cond (eqb (binderNumber bytes) 0) (fileLines (filesOf bytes) ++ countLines (answersIn (filesOf bytes))) (refusedBinder (binderNumber bytes))
+weekOf bytes = cond (eqb (binderNumber bytes) 0) (filesReport (filesOf bytes)) (refusedBinder (binderNumber bytes))

@@ -1,112 +1,65 @@
-// A binder of practice files, from the bytes that the caller lends: the number that refuses it, how many files it holds, and each file
-// as a stretch of those bytes.
+// The report of a binder, from the binder's bytes: what was answered in the files that play, by kind and number.
+mod counts;
+mod lines;
+
+use crate::counts::Counts;
+use crate::counts::none;
+use crate::counts::with_answers;
+use crate::counts::with_number;
+use crate::lines::put_refused;
+use crate::lines::put_week;
+use contents::binder_number;
+use contents::file_at;
+use contents::file_count;
+use playing::play;
+use text::Buffer;
 ghost use mathlib.Core.Path.{_≡_};
-ghost use mathlib.Core.Bool.{true};
-ghost use Prim.Native.Nat.{_+_, _≤_};
-ghost use lib.ListN.{length};
-ghost use denote.Ref.{ptr};
-ghost use Rattle.practice.specs.File.{number16, number32};
-ghost use Rattle.practice.specs.Sections.{placeAt};
-ghost use Rattle.binder.specs.Binder.{entryCount, tableAllowed, filesPlaced, binderNumber, fileCount, fileOffset, fileLength, fileAt};
+ghost use mathlib.Core.List.{_++_};
+ghost use Prim.Native.Nat.{_≤_};
+ghost use lib.ListN.{length, drop};
+ghost use Rattle.text.specs.Buffer.{room};
+ghost use Rattle.contents.specs.Contents.{filesOf};
+ghost use Rattle.binder.specs.Week.{weekOf};
+ghost use Rattle.binder.specs.Counts.{countsOf};
 
-// The number of 16 bits at a place of the binder.
-fn number16(binder: &[u8], at: usize) -> u16
-    requires { ⌜ at + 2 ≤ length (now binder) ⌝ }
-    ensures { λ r. ⌜ r ≡ number16 (now (binder .entry)) at ⌝ }
+// What the files of a binder add up to; nothing where it is refused.
+fn counts_of(binder: &[u8]) -> Counts
+    ensures { λ c. ⌜ c ≡ countsOf (filesOf (now (binder .entry))) ⌝ }
 {
-    request::word(binder[at], binder[at + 1])
-}
-
-// The number of 32 bits at a place of the binder.
-fn number32(binder: &[u8], at: usize) -> u32
-    requires { ⌜ at + 4 ≤ length (now binder) ⌝ }
-    ensures { λ r. ⌜ r ≡ number32 (now (binder .entry)) at ⌝ }
-{
-    number16(binder, at) as u32 + 65536 * (number16(binder, at + 2) as u32)
-}
-
-// How many entries the contents table has.
-fn entry_count(binder: &[u8]) -> usize
-    requires { ⌜ 2 ≤ length (now binder) ⌝ }
-    ensures { λ r. ⌜ r ≡ entryCount (now (binder .entry)) ⌝ }
-{
-    number16(binder, 0) as usize
-}
-
-// Whether the binder's size and its count are allowed and the table fits.
-fn table_allowed(binder: &[u8]) -> bool
-    ensures { λ r. ⌜ r ≡ tableAllowed (now (binder .entry)) ⌝ }
-{
-    let n = binder.len();
-    if n < 2 {
-        return false;
-    }
-    if 65536 < n {
-        return false;
-    }
-    let count = entry_count(binder);
-    if count < 1 {
-        return false;
-    }
-    if 64 < count {
-        return false;
-    }
-    2 + 8 * count <= n
-}
-
-// Whether each file begins where the one before ends, the first right after the table, and the last ends the binder.
-fn files_placed(binder: &[u8]) -> bool
-    requires { ⌜ tableAllowed (now binder) ≡ true ⌝ }
-    ensures { λ r. ⌜ r ≡ filesPlaced (now (binder .entry)) ⌝ }
-{
-    let count = entry_count(binder);
-    let mut end = 2 + 8 * count;
+    let count = file_count(binder);
+    let mut log = [0u16; 28672];
+    let mut c = none();
     let mut i = 0;
     while i < count {
-        let at = 2 + 8 * i;
-        if number32(binder, at) as usize != end {
-            return false;
-        }
-        end += number32(binder, at + 4) as usize;
+        let p = play(file_at(binder, i), false, &mut log);
+        let number = p.number;
+        let n = p.requests;
+        c = with_answers(with_number(c, number), &log, n);
         i += 1;
     }
-    end == binder.len()
+    c
 }
 
-// The number that refuses the binder; 0 where it is accepted.
-pub fn binder_number(binder: &[u8]) -> u16
-    ensures { λ r. ⌜ r ≡ binderNumber (now (binder .entry)) ⌝ }
+// Writes the report of a binder into the buffer, and yields its length.
+pub fn week(binder: &[u8], out: &mut Buffer) -> usize
+    ensures { λ r. ⌜ r ≡ length (weekOf (now (binder .entry))) ⌝ }
+    ensures { λ r. ⌜ now (out .exit) ≡ weekOf (now (binder .entry)) ++ drop r (now (out .entry)) ⌝ }
+    ensures { λ r. ⌜ r ≤ room ⌝ }
 {
-    if !table_allowed(binder) {
-        return 30;
+    let bytes: &mut [u8] = out;
+    let number = binder_number(binder);
+    if number != 0 {
+        return put_refused(bytes, number);
     }
-    if !files_placed(binder) {
-        return 30;
-    }
-    0
+    put_week(bytes, counts_of(binder))
 }
 
-// How many files the binder holds; 0 where it is refused.
-pub fn file_count(binder: &[u8]) -> usize
-    ensures { λ r. ⌜ r ≡ fileCount (now (binder .entry)) ⌝ }
+// `week` for C and Rust (include/binder.h).
+#[no_mangle]
+pub extern "C" fn baguymo_week(binder: &[u8], out: &mut Buffer) -> usize
+    ensures { λ r. ⌜ r ≡ length (weekOf (now (binder .entry))) ⌝ }
+    ensures { λ r. ⌜ now (out .exit) ≡ weekOf (now (binder .entry)) ++ drop r (now (out .entry)) ⌝ }
+    ensures { λ r. ⌜ r ≤ room ⌝ }
 {
-    if binder_number(binder) != 0 {
-        return 0;
-    }
-    entry_count(binder)
-}
-
-// The i-th file, counted from 0: that stretch of the lent binder, empty at its first byte where there is no such file.
-pub fn file_at(binder: &[u8], i: usize) -> &[u8]
-    ensures { λ r. ⌜ ptr r ≡ placeAt (binder .entry) (fileOffset (now (binder .entry)) i) ⌝ }
-    ensures { λ r. ⌜ length (now r) ≡ fileLength (now (binder .entry)) i ⌝ }
-    ensures { λ r. ⌜ now r ≡ fileAt (now (binder .entry)) i ⌝ }
-{
-    if file_count(binder) <= i {
-        return &binder[..0];
-    }
-    let at = 2 + 8 * i;
-    let start = number32(binder, at) as usize;
-    let end = start + number32(binder, at + 4) as usize;
-    &binder[start..end]
+    week(binder, out)
 }

@@ -1,6 +1,4 @@
-pub mod Answers
-pub mod Texts
 pub mod Tallies
-pub mod Playing
+pub mod Entries
 pub mod Reports
 pub mod Balance

@@ -1,4 +1,4 @@
-pub mod Text
 pub mod Tally
 pub mod Report
+pub mod Entries
 pub mod Balance

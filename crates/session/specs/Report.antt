@@ -1,23 +1,14 @@
 -- Document 01, "The practice file": what the program `play` prints. Definitions only.
-use Prim.Native.Nat.{ℕ, suc, _≤_}
-use mathlib.Core.Path.{_≡_}
+use Prim.Native.Nat.{ℕ, suc}
 use mathlib.Core.List.{List, [], _∷_, _++_}
-use lib.ListN.{length, drop}
 use Rattle.request.specs.declared.Request.{Request}
-use Rattle.practice.specs.declared.FileLegs.{FileLegs}
 use Rattle.practice.specs.Practice.{Practice, refused, holds, practiceOf}
 use Rattle.field.specs.declared.Legs.{Legs}
-use Rattle.field.specs.Boxes.{legsIn64ths, emptyField}
-use Rattle.questions.specs.Counts.{presentOn}
 use Rattle.rules.specs.declared.Answer.{Answer}
-use Rattle.rules.specs.Play.{fieldAfter, played}
+use Rattle.text.specs.Text.{space, line}
+use Rattle.playing.specs.Playing.{legsInMiles, answersFrom, presentFrom}
 use Rattle.session.specs.declared.tally.Tally.{Tally}
-use Rattle.session.specs.Text.{space, line, room}
 use Rattle.session.specs.Tally.{tallyOf}
-
--- the legs of a file, "in 64ths of a mile", as the field holds them
-abbrev pub legsInMiles : FileLegs → Legs
-legsInMiles legs = legsIn64ths (legs .missed) (legs .base) (legs .intermediate) (legs .last)
 
 -- "prints for each request: index .., number, aircraft, zone, fix, leader, along"
 unfoldable pub answerLine : ℕ → Answer → List ℕ
@@ -35,8 +26,7 @@ endLine t present = 101 ∷ 110 ∷ 100 ∷ space ∷ line (t .entries ∷ t .ta
 -- "starts empty, and prints for each request: index from 1, .. The last line is `end`"
 unfoldable pub sessionReport : Legs → List Request → List ℕ
 sessionReport legs requests =
-    answerLines 1 (played (emptyField legs) requests)
-    ++ endLine (tallyOf (played (emptyField legs) requests)) (presentOn (fieldAfter (emptyField legs) requests))
+    answerLines 1 (answersFrom legs requests) ++ endLine (tallyOf (answersFrom legs requests)) (presentFrom legs requests)
 
 -- "A refused file gives only `file` and the number."
 unfoldable pub refusedReport : ℕ → List ℕ
@@ -50,9 +40,3 @@ practiceReport (holds legs requests) = sessionReport (legsInMiles legs) requests
 -- "The program `play` reads one file .. and prints": the report of a file of these bytes
 unfoldable pub reportOf : List ℕ → List ℕ
 reportOf file = practiceReport (practiceOf file)
-
--- a report of n bytes is written: the buffer holds it, and after it what stood there before
-pub record Written (report : List ℕ) (before : List ℕ) (n : ℕ) (after : List ℕ) : Type 0 where
-  pub size : n ≡ length report
-  pub buffer : after ≡ report ++ drop n before
-  pub fits : n ≤ room

@@ -5,21 +5,26 @@ use lib.Dec.{eqb}
 use Rattle.request.specs.declared.Request.{Request}
 use Rattle.request.specs.Input.{isEntry}
 use Rattle.rules.specs.declared.Answer.{Answer}
-use Rattle.rules.specs.Play.{countedOnce, letIn, taxiedOff, exitedFrom, misses}
+use Rattle.rules.specs.Play.{letIn, taxiedOff, exitedFrom, misses}
+use Rattle.playing.specs.Log.{ofKinds}
 use Rattle.session.specs.declared.tally.Tally.{Tally}
 
 -- "accepted entries, taxis, exits, misses, .. counted as for demand 3"
 unfoldable pub tallyOf : List (Request × Answer) → Tally
 tallyOf ps = record { entries = letIn ps; taxis = taxiedOff ps; exits = exitedFrom ps; misses = misses ps }
 
--- the counts with one more request and its answer
-unfoldable pub counted : Tally → Request × Answer → Tally
-counted t p =
+-- the counts before the first request
+abbrev pub none : Tally
+none = record { entries = 0; taxis = 0; exits = 0; misses = 0 }
+
+-- the counts with one more request, of this kind and answered with this number
+unfoldable pub counted : Tally → ℕ → ℕ → Tally
+counted t kind number =
     record {
-      entries = t .entries + countedOnce isEntry p;
-      taxis = t .taxis + countedOnce (λ kind. eqb kind 8) p;
-      exits = t .exits + countedOnce (λ kind. eqb kind 9) p;
-      misses = t .misses + countedOnce (λ kind. eqb kind 10) p;
+      entries = t .entries + ofKinds isEntry kind number;
+      taxis = t .taxis + ofKinds (λ k. eqb k 8) kind number;
+      exits = t .exits + ofKinds (λ k. eqb k 9) kind number;
+      misses = t .misses + ofKinds (λ k. eqb k 10) kind number;
     }
 
 -- each count is below n

@@ -1,8 +1,10 @@
 // The closing counts of a session, kept answer by answer.
-use request::Request;
-use rules::Answer;
 ghost use mathlib.Core.Path.{_≡_};
-ghost use Rattle.session.specs.Tally.{Under, counted};
+ghost use Prim.Native.Nat.{_*_, _≤_};
+ghost use lib.ListN.{length};
+ghost use Rattle.limits.specs.Limits.{mostRequests};
+ghost use Rattle.session.specs.Tally.{Under, none, counted};
+ghost use Rattle.session.specs.Entries.{countedTo};
 
 // How many entries, taxis, exits and misses were accepted.
 pub(crate) struct Tally {
@@ -13,8 +15,8 @@ pub(crate) struct Tally {
 }
 
 // The counts before the first request.
-pub(crate) fn none() -> Tally
-    ensures { λ t. ⌜ t ≡ record { entries = 0; taxis = 0; exits = 0; misses = 0 } ⌝ }
+fn none() -> Tally
+    ensures { λ t. ⌜ t ≡ none ⌝ }
 {
     Tally {
         entries: 0,
@@ -24,15 +26,14 @@ pub(crate) fn none() -> Tally
     }
 }
 
-// The counts with a request and its answer counted.
-pub(crate) fn counted(t: Tally, r: Request, a: Answer) -> Tally
+// The counts with a request of this kind and its answer's number counted.
+fn counted(t: Tally, kind: u16, number: u16) -> Tally
     requires { ⌜ Under 65536 t ⌝ }
-    ensures { λ u. ⌜ u ≡ counted t (r, a) ⌝ }
+    ensures { λ u. ⌜ u ≡ counted t kind number ⌝ }
 {
-    if a.number != 0 {
+    if number != 0 {
         return t;
     }
-    let kind = r.kind;
     match kind {
         1..=2 => Tally {
             entries: t.entries + 1,
@@ -60,4 +61,18 @@ pub(crate) fn counted(t: Tally, r: Request, a: Answer) -> Tally
         },
         _ => t,
     }
+}
+
+// The counts of the first n answers in a log.
+pub(crate) fn tally_of(log: &[u16], n: usize) -> Tally
+    requires { ⌜ (7 * n ≤ length (now log)) × (n ≤ mostRequests) ⌝ }
+    ensures { λ t. ⌜ t ≡ countedTo (now (log .entry)) n ⌝ }
+{
+    let mut t = none();
+    let mut i = 0;
+    while i < n {
+        t = counted(t, log[7 * i], log[7 * i + 1]);
+        i += 1;
+    }
+    t
 }

@@ -1,23 +1,32 @@
-//! Where the two programs differ, as a readable session.
+//! Where the two programs differ, as readable sessions.
 
-use crate::library::{Library, PLAYERS};
-use reference::{PracticeFile, Request};
+use crate::library::{Library, Player, PLAYERS, WEEK};
+use reference::{binder, PracticeFile, Request};
 
 /// The report that both programs give of a file, the library judging the fields or not, or how they differ.
 pub fn same_report(library: &mut Library, file: &[u8]) -> Result<Vec<u8>, String> {
-    let expected = reference::report(file);
-    for (name, play) in PLAYERS {
-        match library.report(play, file) {
+    same(library, &PLAYERS, file, reference::report(file))
+}
+
+/// The report that both give of a binder, or how they differ.
+pub fn same_week(library: &mut Library, binder: &[u8]) -> Result<Vec<u8>, String> {
+    same(library, &WEEK, binder, reference::week(binder))
+}
+
+fn same(
+    library: &mut Library,
+    players: &[(&str, Player)],
+    input: &[u8],
+    expected: Vec<u8>,
+) -> Result<Vec<u8>, String> {
+    for &(name, play) in players {
+        match library.report(play, input) {
             Ok(report) if report == expected => {}
             Ok(report) => return Err(first_line(&expected, name, report)),
             Err(fault) => return Err(format!("{name} {fault}")),
         }
     }
     Ok(expected)
-}
-
-fn how(library: &mut Library, file: &[u8]) -> String {
-    same_report(library, file).err().unwrap_or_default()
 }
 
 /// The first line in which two reports differ.
@@ -33,29 +42,47 @@ fn first_line(expected: &[u8], name: &str, report: &[u8]) -> String {
     format!("{name}'s report goes on after the reference's")
 }
 
-/// The readable session of a file on which the two differ: without the requests that do not matter.
+/// How the two differ on a file, and its readable session without the requests that do not matter.
 /// A file that cannot be read as one is given in hexadecimal.
 pub fn readable(library: &mut Library, file: &[u8]) -> String {
-    let Ok(practice) = PracticeFile::read(file) else { return hexadecimal(library, file) };
-    let practice = shortened(library, practice);
-    let [base, intermediate, final_, missed] = practice.legs_64ths;
-    let how = how(library, &practice.to_bytes());
-    let mut text = format!("{base} {intermediate} {final_} {missed}\n# {how}\n");
-    for Request { kind, side, number, amount } in practice.requests {
-        text += &format!("{kind} {side} {number} {amount}\n");
-    }
-    text
+    let file = shortened(file.to_vec(), |file| same_report(library, file).is_err());
+    let how = same_report(library, &file).err().unwrap_or_default();
+    format!("{how}\n{}", text(&file))
 }
 
-/// The shortest beginning that differs; then one request after another is left out.
-fn shortened(library: &mut Library, mut practice: PracticeFile) -> PracticeFile {
-    let mut differs = |requests: &[Request]| {
-        let file = PracticeFile { legs_64ths: practice.legs_64ths, requests: requests.to_vec() };
-        same_report(library, &file.to_bytes()).is_err()
+/// How the two differ on a binder, and its files without those and the requests that do not matter.
+/// A binder that is refused is given in hexadecimal.
+pub fn readable_binder(library: &mut Library, binder: &[u8]) -> String {
+    let Ok(files) = binder::files(binder) else {
+        let how = same_week(library, binder).err().unwrap_or_default();
+        return format!("{how}\n{}", hexadecimal(binder));
     };
-    let all = &practice.requests;
-    let length = (0..=all.len()).find(|&length| differs(&all[..length])).unwrap_or(all.len());
-    let mut kept = all[..length].to_vec();
+    let mut differs =
+        |files: &[Vec<u8>]| !files.is_empty() && same_week(library, &binder::to_bytes(files)).is_err();
+    let mut files = fewer(files.into_iter().map(<[u8]>::to_vec).collect(), &mut differs);
+    for place in 0..files.len() {
+        let mut others = files.clone();
+        files[place] = shortened(files[place].clone(), |file| {
+            others[place] = file.to_vec();
+            differs(&others)
+        });
+    }
+    let how = same_week(library, &binder::to_bytes(&files)).err().unwrap_or_default();
+    let texts: Vec<String> = files.iter().map(|file| text(file)).collect();
+    format!("{how}\n{}", texts.join("# the next file\n"))
+}
+
+/// A file that plays, and differs, with fewer requests: the shortest beginning
+/// that differs; then one request after another is left out.
+fn shortened(file: Vec<u8>, mut differs: impl FnMut(&[u8]) -> bool) -> Vec<u8> {
+    let Ok(PracticeFile { legs_64ths, requests: all }) = PracticeFile::read(&file) else { return file };
+    let with = |requests: &[Request]| PracticeFile { legs_64ths, requests: requests.to_vec() }.to_bytes();
+    let length = (0..=all.len()).find(|&length| differs(&with(&all[..length]))).unwrap_or(all.len());
+    with(&fewer(all[..length].to_vec(), |requests| differs(&with(requests))))
+}
+
+/// One after another is left out, where the others differ without it.
+fn fewer<T: Clone>(mut kept: Vec<T>, mut differs: impl FnMut(&[T]) -> bool) -> Vec<T> {
     let mut at = 0;
     while at < kept.len() {
         let mut fewer = kept.clone();
@@ -66,18 +93,28 @@ fn shortened(library: &mut Library, mut practice: PracticeFile) -> PracticeFile 
             at += 1;
         }
     }
-    practice.requests = kept;
-    practice
+    kept
+}
+
+/// A file as a readable session, or in hexadecimal.
+fn text(file: &[u8]) -> String {
+    let Ok(practice) = PracticeFile::read(file) else { return hexadecimal(file) };
+    let [base, intermediate, final_, missed] = practice.legs_64ths;
+    let mut text = format!("{base} {intermediate} {final_} {missed}\n");
+    for Request { kind, side, number, amount } in practice.requests {
+        text += &format!("{kind} {side} {number} {amount}\n");
+    }
+    text
 }
 
 /// At most this many bytes are printed.
 const PRINTED: usize = 256;
 
-fn hexadecimal(library: &mut Library, file: &[u8]) -> String {
-    let mut text = format!("# {}\n# {} bytes", how(library, file), file.len());
-    for (at, byte) in file.iter().take(PRINTED).enumerate() {
+fn hexadecimal(bytes: &[u8]) -> String {
+    let mut text = format!("# {} bytes", bytes.len());
+    for (at, byte) in bytes.iter().take(PRINTED).enumerate() {
         text.push(if at % 16 == 0 { '\n' } else { ' ' });
         text += &format!("{byte:02x}");
     }
-    text + if file.len() > PRINTED { " ..\n" } else { "\n" }
+    text + if bytes.len() > PRINTED { " ..\n" } else { "\n" }
 }

@@ -1,6 +1,7 @@
-//! Practice files, and the two programs that play them: the proved library
-//! ([`library`]) and the reference.
+//! Practice files, binders of them, and the two programs that play them: the
+//! proved library ([`library`]) and the reference.
 
+pub mod binders;
 pub mod damaged;
 pub mod dice;
 pub mod difference;

@@ -4,6 +4,7 @@ extern "C" {
     /// A `&[u8]` as pointer and length, and the buffer as a pointer.
     fn baguymo_report(file: *const u8, length: usize, out: *mut u8) -> usize;
     fn baguymo_report_judged(file: *const u8, length: usize, out: *mut u8) -> usize;
+    fn baguymo_week(binder: *const u8, length: usize, out: *mut u8) -> usize;
 }
 
 /// Bytes of the buffer that the library is lent.
@@ -11,12 +12,15 @@ pub const ROOM: usize = 131_072;
 
 pub type Buffer = [u8; ROOM];
 
-/// Plays a file into a buffer, and yields the length of the report.
+/// Plays a file or a binder into a buffer, and yields the length of the report.
 pub type Player = fn(&[u8], &mut Buffer) -> usize;
 
-/// Both functions of the library. The second judges the field before and after every request.
+/// Both functions of the library for a file. The second judges the field before and after every request.
 pub const PLAYERS: [(&str, Player); 2] =
     [("the library", report_into), ("the judging library", judged_report_into)];
+
+/// Its function for a binder.
+pub const WEEK: [(&str, Player); 1] = [("the library", week_into)];
 
 pub fn report_into(file: &[u8], out: &mut Buffer) -> usize {
     // SAFETY: both pointers are valid for the lengths that the library's signature states.
@@ -26,6 +30,11 @@ pub fn report_into(file: &[u8], out: &mut Buffer) -> usize {
 pub fn judged_report_into(file: &[u8], out: &mut Buffer) -> usize {
     // SAFETY: as above.
     unsafe { baguymo_report_judged(file.as_ptr(), file.len(), out.as_mut_ptr()) }
+}
+
+pub fn week_into(binder: &[u8], out: &mut Buffer) -> usize {
+    // SAFETY: as above.
+    unsafe { baguymo_week(binder.as_ptr(), binder.len(), out.as_mut_ptr()) }
 }
 
 /// Bytes before and after the buffer that must stay as they are.
@@ -44,13 +53,13 @@ impl Default for Library {
 }
 
 impl Library {
-    /// The report of a file, or what else the library wrote than a report.
-    /// What the buffer holds before is another byte each time.
-    pub fn report(&mut self, play: Player, file: &[u8]) -> Result<&[u8], String> {
+    /// The report of a file or a binder, or what else the library wrote than a
+    /// report. What the buffer holds before is another byte each time.
+    pub fn report(&mut self, play: Player, input: &[u8]) -> Result<&[u8], String> {
         self.fill = self.fill.wrapping_add(101);
         self.memory.fill(self.fill);
         let buffer = &mut self.memory[MARGIN..MARGIN + ROOM];
-        let length = play(file, buffer.try_into().expect("the buffer's length"));
+        let length = play(input, buffer.try_into().expect("the buffer's length"));
         if length > ROOM {
             return Err(format!("says that its report has {length} bytes"));
         }

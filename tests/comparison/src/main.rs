@@ -1,18 +1,22 @@
 //! Plays many practice files by the proved library, with the fields judged
-//! and not, and by the reference: comparison [SEED [COUNT]], COUNT random
-//! sessions. The last line says how many files were compared, and the verdict.
+//! and not, and by the reference, and many binders by both: comparison [SEED
+//! [COUNT]], COUNT random sessions and a tenth as many random binders. The
+//! last line says how many of them were compared, and the verdict.
 
 use comparison::dice::Dice;
-use comparison::difference::{readable, same_report};
+use comparison::difference::{readable, readable_binder, same_report, same_week};
 use comparison::library::Library;
-use comparison::table::Table;
-use comparison::{damaged, fields, sessions};
+use comparison::table::{Table, Weeks};
+use comparison::{binders, damaged, fields, sessions};
+use reference::binder::to_bytes;
 use std::path::Path;
 use std::process::ExitCode;
 use std::{env, fs};
 
 const SEED: u64 = 1;
 const COUNT: usize = 20_000;
+/// Random sessions for each random binder.
+const A_BINDER: usize = 10;
 
 #[derive(Default)]
 struct Comparison {
@@ -21,6 +25,8 @@ struct Comparison {
     /// How often a file was played, and refused 5, 6 and 7.
     played: usize,
     refused: [usize; 3],
+    binders: usize,
+    weeks: Weeks,
 }
 
 impl Comparison {
@@ -28,7 +34,7 @@ impl Comparison {
     fn file(&mut self, file: &[u8]) -> Result<Vec<u8>, String> {
         self.compared += 1;
         let Ok(report) = same_report(&mut self.library, file) else {
-            return Err(format!("file {} differs:\n{}", self.compared, readable(&mut self.library, file)));
+            return Err(format!("file {} differs: {}", self.compared, readable(&mut self.library, file)));
         };
         match report.strip_prefix(b"file ") {
             None => self.played += 1,
@@ -56,10 +62,28 @@ impl Comparison {
         }
         println!("random sessions: {count} files, {} requests, answered so often:", table.requests);
         print!("{table}");
-        match table.faults() {
-            faults if faults.is_empty() => Ok(()),
-            faults => Err(faults.join("\n") + "\n"),
+        none_of(table.faults())
+    }
+
+    fn binders(&mut self, what: &str, binders: impl IntoIterator<Item = Vec<u8>>) -> Result<(), String> {
+        let before = self.binders;
+        for binder in binders {
+            self.binders += 1;
+            let Ok(report) = same_week(&mut self.library, &binder) else {
+                let how = readable_binder(&mut self.library, &binder);
+                return Err(format!("binder {} differs: {how}", self.binders));
+            };
+            self.weeks.count(&report);
         }
+        println!("{what}: {} binders", self.binders - before);
+        Ok(())
+    }
+}
+
+fn none_of(faults: Vec<String>) -> Result<(), String> {
+    match faults {
+        faults if faults.is_empty() => Ok(()),
+        faults => Err(faults.join("\n") + "\n"),
     }
 }
 
@@ -89,7 +113,18 @@ fn all(comparison: &mut Comparison, seed: u64, count: usize) -> Result<(), Strin
     if [played, five, six, seven].contains(&0) {
         return Err(String::from("one of these never came\n"));
     }
-    Ok(())
+    all_binders(comparison, &mut dice, count / A_BINDER)
+}
+
+fn all_binders(comparison: &mut Comparison, dice: &mut Dice, count: usize) -> Result<(), String> {
+    let packed = binders::packed(dice).into_iter().chain([to_bytes(&stored())]);
+    comparison.binders("one, two and 64 files, of each kind at each place, and the stored ones", packed)?;
+    comparison.binders("damaged tables", binders::damaged_tables(dice))?;
+    comparison.binders("sums that pass 32 bits or less", binders::wrapping(dice))?;
+    comparison.binders("sizes and counts at the limits", binders::at_the_limits(dice))?;
+    comparison.binders("random binders", (0..count).map(|_| binders::random(dice)))?;
+    println!("{}", comparison.weeks);
+    none_of(comparison.weeks.faults())
 }
 
 fn argument<T: std::str::FromStr>(place: usize, default: T) -> T {
@@ -103,15 +138,15 @@ fn main() -> ExitCode {
     let (seed, count) = (argument(1, SEED), argument(2, COUNT));
     let mut comparison = Comparison::default();
     let outcome = all(&mut comparison, seed, count);
-    let compared = comparison.compared;
+    let Comparison { compared, binders, .. } = comparison;
     match outcome {
         Ok(()) => {
-            println!("compare: {compared} files compared (seed {seed}), fields judged and not: every report the same");
+            println!("compare: {compared} files compared (seed {seed}), fields judged and not, and {binders} binders: every report the same");
             ExitCode::SUCCESS
         }
         Err(fault) => {
             print!("{fault}");
-            println!("compare: FAILED after {compared} files (seed {seed})");
+            println!("compare: FAILED after {compared} files and {binders} binders (seed {seed})");
             ExitCode::FAILURE
         }
     }

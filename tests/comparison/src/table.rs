@@ -1,12 +1,10 @@
 //! How often each number was answered for each kind.
 
+use reference::binder::NUMBERS;
 use reference::PracticeFile;
 use std::fmt;
 
-/// Every number that a request can be answered with; 10 and 25 are not reachable from an empty field.
-const NUMBERS: [u8; 21] = [0, 1, 2, 3, 4, 10, 11, 12, 13, 14, 15, 16, 17, 18, 19, 20, 21, 22, 23, 24, 25];
-
-/// What can be answered to a kind from an empty field; kind 0 stands for every other than 1 to 12.
+/// What can be answered to a kind from an empty field, never 10 and 25; kind 0 stands for every other than 1 to 12.
 fn reachable(kind: u8) -> &'static [u8] {
     match kind {
         0 => &[1],
@@ -39,6 +37,17 @@ impl Table {
             let kind = if request.kind <= 12 { request.kind } else { 0 };
             self.counts[usize::from(kind)][answered(line)] += 1;
             self.requests += 1;
+        }
+    }
+
+    /// Adds the rows of a binder's report, one for each kind and the last for all others.
+    pub fn add<'a>(&mut self, rows: impl Iterator<Item = &'a str>) {
+        for (kind, row) in (1..=12).chain([0]).zip(rows) {
+            for (number, count) in NUMBERS.into_iter().zip(row.split(' ').skip(1)) {
+                let count: usize = count.parse().expect("a count");
+                self.counts[kind][usize::from(number)] += count;
+                self.requests += count;
+            }
         }
     }
 
@@ -86,5 +95,50 @@ impl fmt::Display for Table {
             writeln!(f)?;
         }
         Ok(())
+    }
+}
+
+/// What came of binders, by their reports.
+#[derive(Default)]
+pub struct Weeks {
+    read: usize,
+    refused: usize,
+    /// How many of their files were played, and refused 5, 6 and 7.
+    files: [usize; 4],
+    table: Table,
+}
+
+impl Weeks {
+    pub fn count(&mut self, report: &[u8]) {
+        let report = std::str::from_utf8(report).expect("ASCII");
+        if report == "binder 30\n" {
+            self.refused += 1;
+            return;
+        }
+        self.read += 1;
+        let mut lines = report.lines();
+        for (sum, line) in self.files.iter_mut().zip(&mut lines) {
+            let files = line.rsplit(' ').next().unwrap_or_default();
+            *sum += files.parse::<usize>().expect("a count");
+        }
+        self.table.add(lines.skip(1));
+    }
+
+    /// As for the table of answers; and whether each kind of binder and of file came.
+    pub fn faults(&self) -> Vec<String> {
+        let mut faults = self.table.faults();
+        if [self.read, self.refused].contains(&0) || self.files.contains(&0) {
+            faults.push(String::from("one of these never came"));
+        }
+        faults
+    }
+}
+
+impl fmt::Display for Weeks {
+    fn fmt(&self, f: &mut fmt::Formatter) -> fmt::Result {
+        let Weeks { read, refused, files: [played, five, six, seven], .. } = self;
+        let requests = self.table.requests;
+        write!(f, "{refused} binders refused 30, {read} read; of their files {played} played, ")?;
+        write!(f, "{five} refused 5, {six} refused 6, {seven} refused 7; {requests} answers counted")
     }
 }

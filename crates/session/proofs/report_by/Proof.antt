@@ -1,43 +1,54 @@
--- `session::report_by` meets its contract: the report of a refused file, or of the session that the file holds. Assumes nothing.
+-- `session::report_by` meets its contract: the report of a refused file, or of the answers that were played. Assumes nothing.
 use mathlib.Core.Path.{_≡_, sym, ap, _∙_, subst, subst⁻¹}
 use mathlib.Core.List.{List, _++_}
-use Prim.Native.Nat.{ℕ, _-_, _≤_}
+use Prim.Native.Nat.{ℕ, _*_, _≤_}
 use native.Mathlib.Omega.{arith}
-use lib.Dec.{T}
-use lib.ListN.{length, take, drop}
+use lib.ListN.{length, drop, replicate, length-append, length-replicate}
 use denote.Ref.{now}
-use borrow.Rule.Slice.PartAt.{part-to-end}
-use Rattle.practice.specs.File.{legsOf, legsBody, requestsBody, fileNumber}
-use Rattle.practice.specs.Requests.{requestsOf}
-use Rattle.practice.proofs.Meaning.{Held, held}
-use Rattle.field.specs.declared.Legs.{Legs}
-use Rattle.bounds.specs.Bounds.{legalLegs}
-use Rattle.session.specs.Text.{room}
-use Rattle.session.specs.Report.{legsInMiles, sessionReport, refusedReport, Written}
-use Rattle.session.proofs.Balance.{file-legs-legal}
-use Rattle.session.proofs.Reports.{practice-holds, report-holds, report-refused}
 use borrow.Author.Needs.{needs}
+use Rattle.practice.specs.File.{fileNumber}
+use Rattle.playing.specs.declared.Played.{Played}
+use Rattle.playing.specs.Playing.{playedOf, answersOf}
+use Rattle.playing.specs.Log.{logOf, HasWords}
+use Rattle.playing.proofs.Files.{answers-count, requests-few}
+use Rattle.playing.proofs.Logs.{log-kept}
+use Rattle.text.specs.Buffer.{room, Put, Written}
+use Rattle.text.proofs.Texts.{put-more, written, stated}
+use Rattle.session.specs.declared.tally.Tally.{Tally}
+use Rattle.session.specs.Tally.{tallyOf}
+use Rattle.session.specs.Report.{answerLines, endLine, refusedReport, reportOf}
+use Rattle.session.specs.Entries.{linesTo, countedTo}
+use Rattle.session.proofs.Entries.{lines-all, counted-all, lines-short, end-length, refused-length}
+use Rattle.session.proofs.Reports.{report-refused, report-played, answers-short}
 use Rattle.session.proofs.report_by.Statement.{statement}
 use Rattle.session.proofs.report_by.Tie as tie
 
--- a file that is refused, and one that holds a session
-refused : (c : tie.Then1) → fileNumber (now (c .before .before .before .args .file)) ≡ 0 → ⊥
-refused c e = c .if1 .taken (c .before .file-number .ensures ∙ e)
+abbrev file-of : tie.After-play → List ℕ
+file-of c = now (c .before .before .before .before .args .file)
 
-accepted : (c : tie.Else1) → fileNumber (now (c .before .before .before .args .file)) ≡ 0
-accepted c = sym (c .before .file-number .ensures) ∙ c .if1 .left
+-- the file's number is told
+number-told : (c : tie.After-play) → c .play .result .number ≡ fileNumber (file-of c)
+unfolding playedOf
+number-told c = ap (λ (p : Played). p .number) (c .play .ensures .0)
 
-holding : (c : tie.Else1) → Held (now (c .before .before .before .args .file)) (legsOf (legsBody (now (c .before .before .before .args .file)))) (requestsOf (requestsBody (now (c .before .before .before .args .file))))
-holding c =
-    let file = now (c .before .before .before .args .file) in
-    held file (legsOf (legsBody file)) (requestsOf (requestsBody file)) (practice-holds file (accepted c))
+-- how many requests were played: no more than the most, and one answer for each
+count-told : (c : tie.After-play) → c .play .result .requests ≡ playedOf (file-of c) .requests
+count-told c = ap (λ (p : Played). p .requests) (c .play .ensures .0)
 
--- what is written, as the contract says it
-stated : {bytes before after : List ℕ} {n : ℕ} → Written bytes before n after → (n ≡ length bytes) × ((after ≡ bytes ++ drop n before) × (n ≤ room))
-stated w = (w .size, (w .buffer, w .fits))
+-- the buffer's length
+room-known : (c : tie.After-bytes) → length (now (c .before .before .args .out)) ≡ room
+room-known c = c .bytes .given .0 .1
 
-file-number-requires : tie.Need-file-number-requires
-file-number-requires c κs = search needs
+-- the log keeps its length
+log-known : (c : tie.After-play) → length (c .play .last .1 .1 .0) ≡ 28672
+log-known c =
+    let few = requests-few (file-of c) in
+    let n = count-told c in
+    let k = n ∙ answers-count (file-of c) in
+    ap length (c .play .ensures .1) ∙ log-kept _ (answersOf (file-of c)) (c .play .result .requests) k (omega arith) ∙ length-replicate {A = ℕ} 28672 0
+
+play-requires : tie.Need-play-requires
+play-requires c κs = search needs
 
 put-refused-requires : tie.Need-put-refused-requires
 put-refused-requires c κs = search needs
@@ -45,55 +56,80 @@ put-refused-requires c κs = search needs
 returns : tie.Need-returns
 returns c =
     let k = c .before .before in
-    let file = now (k .before .before .before .args .file) in
-    stated
-    (subst (λ (bytes : List ℕ). Written bytes (now (k .before .before .before .args .out)) (c .put-refused .result) (c .put-refused .last .0))
-    (ap refusedReport (k .before .file-number .ensures) ∙ sym (report-refused file (refused k))) (c .put-refused .ensures))
+    let file = file-of k in
+    let n = number-told k in
+    let refused : fileNumber file ≡ 0 → ⊥ = λ e. c .before .if1 .taken (n ∙ e) in
+    let bytes = ap refusedReport n ∙ sym (report-refused file refused) in
+    let short = refused-length (k .play .result .number) (omega (arith, k .play .ok)) in
+    let room = written (c .put-refused .ensures) (room-known (k .before .before)) (omega arith) in
+    stated (subst (λ (b : List ℕ). Written b (now (k .before .before .before .before .args .out)) (c .put-refused .result) (c .put-refused .last .0)) bytes room)
 
-sub-play-all : tie.Need-sub-play-all
-sub-play-all c = holding c .long
+slice-aggregate-put-answers : tie.Need-slice-aggregate-put-answers
+slice-aggregate-put-answers c = sym (log-known (c .before .before .before))
 
-part-play-all-start : tie.Need-part-play-all-start
-part-play-all-start c = holding c .long
+put-answers-requires : tie.Need-put-answers-requires
+put-answers-requires c κs =
+    let k = c .before .before .before in
+    let few = requests-few (file-of k) in
+    let n = count-told k in
+    let l = log-known k in
+    omega arith
 
-part-play-all-end : tie.Need-part-play-all-end
-part-play-all-end c = search needs
+slice-aggregate-tally-of : tie.Need-slice-aggregate-tally-of
+slice-aggregate-tally-of c = sym (log-known (c .before .before .before .before .before .before .before))
 
-file-legs-requires : tie.Need-file-legs-requires
-file-legs-requires c κs = search needs
+tally-of-requires : tie.Need-tally-of-requires
+tally-of-requires c κs =
+    let k = c .before .before .before .before .before .before .before in
+    let few = requests-few (file-of k) in
+    let n = count-told k in
+    let l = log-known k in
+    (omega arith, omega arith)
 
-legs-in-miles-requires : tie.Need-legs-in-miles-requires
-legs-in-miles-requires c κs = search needs
-
-play-all-requires : tie.Need-play-all-requires
-play-all-requires c κs =
-    let k = c .before .before .before .before in
-    let file = now (k .before .before .before .args .file) in
-    let n = ap (λ (body : List ℕ). length (requestsOf body)) (part-to-end file 34) in
-    let legs = c .before .legs-in-miles .ensures ∙ ap legsInMiles (c .before .before .file-legs .ensures ∙ holding k .legs-read) in
-    (omega (arith, holding k .few), subst⁻¹ (λ (l : Legs). T (legalLegs l)) legs (file-legs-legal (legsOf (legsBody file)) (holding k .legs-legal)))
+put-end-requires : tie.Need-put-end-requires
+put-end-requires c κs = search needs
 
 returns-2 : tie.Need-returns-2
 returns-2 c =
-    let k = c .before .before .before .before .before in
-    let s = k .before .before .before in
-    let file = now (s .args .file) in
-    let legs = c .before .before .legs-in-miles .ensures ∙ ap legsInMiles (c .before .before .before .file-legs .ensures ∙ holding k .legs-read) in
-    let body = ap requestsOf (part-to-end file 34) in
-    let all = ap (λ (l : Legs). sessionReport l (requestsOf (take (length file - 34) (drop 34 file)))) legs ∙ ap (sessionReport (legsInMiles (legsOf (legsBody file)))) body ∙ sym (report-holds file (accepted k)) in
-    stated (subst (λ (bytes : List ℕ). Written bytes (now (s .args .out)) (c .play-all .result) (c .play-all .last .1 .1 .1 .0)) all (c .play-all .ensures))
+    let t = c .before in
+    let a = t .before .before .before .before in
+    let e = a .before .before .before in
+    let k = e .before in
+    let file = file-of k in
+    let ps = answersOf file in
+    let accepted : fileNumber file ≡ 0 = sym (number-told k) ∙ e .if1 .left in
+    let n = count-told k in
+    let count = n ∙ answers-count file in
+    let rest : List ℕ = drop (7 * k .play .result .requests) (replicate 28672 0) in
+    let log : k .play .last .1 .1 .0 ≡ logOf ps ++ rest = k .play .ensures .1 in
+    let lines : linesTo (k .play .last .1 .1 .0) (k .play .result .requests) ≡ answerLines 1 ps =
+    ap (λ (l : List ℕ). linesTo l (k .play .result .requests)) log ∙ ap (linesTo (logOf ps ++ rest)) count ∙ lines-all ps rest in
+    let counts : t .tally-of .result ≡ tallyOf ps =
+    t .tally-of .ensures ∙ ap (λ (l : List ℕ). countedTo l (k .play .result .requests)) log ∙ ap (countedTo (logOf ps ++ rest)) count ∙ counted-all ps rest in
+    let present = ap (λ (p : Played). p .present) (k .play .ensures .0) in
+    let bytes = ap (λ (l : List ℕ). l ++ endLine (t .tally-of .result) (k .play .result .present)) lines
+    ∙ ap (λ (u : Tally). answerLines 1 ps ++ endLine u (k .play .result .present)) counts
+    ∙ ap (λ (m : ℕ). answerLines 1 ps ++ endLine (tallyOf ps) m) present
+    ∙ sym (report-played file accepted) in
+    let words : HasWords (logOf ps ++ rest) = subst HasWords log (a .put-answers .ensures .1) in
+    let few = requests-few file in
+    let short = lines-short ps rest 1 (answers-short file accepted) words (omega arith) in
+    let last = end-length (t .tally-of .result) (k .play .result .present) (omega (arith, t .tally-of .ok)) (omega (arith, t .tally-of .ok)) (omega (arith, t .tally-of .ok)) (omega (arith, t .tally-of .ok)) (omega (arith, k .play .ok)) in
+    let both = length-append (linesTo (k .play .last .1 .1 .0) (k .play .result .requests)) (endLine (t .tally-of .result) (k .play .result .present)) in
+    let same = ap length lines in
+    let room = written (put-more (a .put-answers .ensures .0) (c .put-end .ensures)) (room-known (k .before .before)) (omega arith) in
+    stated (subst (λ (b : List ℕ). Written b (now (k .before .before .before .before .args .out)) (c .put-end .result) (c .put-end .last .0)) bytes room)
 
 pub report-by-spec : {M : Type 1} → statement M
 report-by-spec =
     tie.close
     (tie.spec
-    file-number-requires
+    play-requires
     put-refused-requires
     returns
-    sub-play-all
-    part-play-all-start
-    part-play-all-end
-    file-legs-requires
-    legs-in-miles-requires
-    play-all-requires
+    slice-aggregate-put-answers
+    put-answers-requires
+    slice-aggregate-tally-of
+    tally-of-requires
+    put-end-requires
     returns-2)

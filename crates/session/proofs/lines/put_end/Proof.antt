@@ -1,8 +1,7 @@
 -- `session::lines::put_end` meets its contract: `end`, and the line of the five counts. Assumes nothing.
-use native.Mathlib.Omega.{arith}
-use Rattle.session.specs.Report.{endLine}
-use Rattle.session.proofs.Texts.{put-more}
 use borrow.Author.Needs.{needs}
+use Rattle.text.proofs.Texts.{put-more, put-same}
+use Rattle.session.specs.Report.{endLine}
 use Rattle.session.proofs.lines.put_end.Statement.{statement}
 use Rattle.session.proofs.lines.put_end.Tie as tie
 
@@ -10,19 +9,24 @@ slice-aggregate-put-text : tie.Need-slice-aggregate-put-text
 slice-aggregate-put-text c = search needs
 
 put-text-requires : tie.Need-put-text-requires
-unfolding endLine
-put-text-requires c κs = omega (arith, c .before .before .pre)
+put-text-requires c κs = search needs
 
 slice-aggregate-put-line : tie.Need-slice-aggregate-put-line
 slice-aggregate-put-line c = search needs
 
 put-line-requires : tie.Need-put-line-requires
-unfolding endLine
-put-line-requires c κs = omega (arith, c .before .before .before .before .before .pre, c .before .before .put-text .ensures .0 .next)
+put-line-requires c κs = search needs
+
+same-length : tie.Need-same-length
+same-length c =
+    let k = c .before .before in
+    put-same (put-more (k .before .before .before .before .before .put-text .ensures) (k .put-line .ensures))
 
 returns : tie.Need-returns
 unfolding endLine
-returns c = (put-more (c .before .before .before .put-text .ensures .0) (c .put-line .ensures), c .before .before .before .put-text .ensures .1)
+returns c =
+    let k = c .before .before in
+    put-more (k .before .before .before .before .before .put-text .ensures) (k .put-line .ensures)
 
 pub put-end-spec : {M : Type 1} → statement M
 put-end-spec =
@@ -32,4 +36,5 @@ put-end-spec =
     put-text-requires
     slice-aggregate-put-line
     put-line-requires
+    same-length
     returns)

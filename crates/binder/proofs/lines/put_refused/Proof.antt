@@ -1,0 +1,28 @@
+-- `binder::lines::put_refused` meets its contract: `binder`, and the line of its number. Assumes nothing.
+use Rattle.text.proofs.Texts.{put-same}
+use Rattle.binder.specs.Week.{refusedBinder}
+use borrow.Author.Needs.{needs}
+use Rattle.binder.proofs.lines.put_refused.Statement.{statement}
+use Rattle.binder.proofs.lines.put_refused.Tie as tie
+
+slice-aggregate-put-count : tie.Need-slice-aggregate-put-count
+slice-aggregate-put-count c = search needs
+
+put-count-requires : tie.Need-put-count-requires
+put-count-requires c κs = search needs
+
+same-length : tie.Need-same-length
+same-length c = put-same (c .before .before .put-count .ensures)
+
+returns : tie.Need-returns
+unfolding refusedBinder
+returns c = c .before .before .put-count .ensures
+
+pub put-refused-spec : {M : Type 1} → statement M
+put-refused-spec =
+    tie.close
+    (tie.spec
+    slice-aggregate-put-count
+    put-count-requires
+    same-length
+    returns)

@@ -1,0 +1,53 @@
+-- A practice file played from the empty field (01, "The practice file"): its requests, their answers, and the field at the end. A refused
+-- file plays nothing. Definitions only.
+use Prim.Native.Nat.{ℕ}
+use mathlib.Core.List.{List, []}
+use lib.ListN.{length}
+use Rattle.request.specs.declared.Request.{Request}
+use Rattle.practice.specs.declared.FileLegs.{FileLegs}
+use Rattle.practice.specs.File.{fileNumber}
+use Rattle.practice.specs.Practice.{Practice, refused, holds, practiceOf}
+use Rattle.field.specs.declared.Legs.{Legs}
+use Rattle.field.specs.Boxes.{legsIn64ths, emptyField}
+use Rattle.questions.specs.Counts.{presentOn}
+use Rattle.rules.specs.declared.Answer.{Answer}
+use Rattle.rules.specs.Play.{fieldAfter, played}
+use Rattle.playing.specs.declared.Played.{Played}
+
+-- the legs of a file, "in 64ths of a mile", as the field holds them
+abbrev pub legsInMiles : FileLegs → Legs
+legsInMiles legs = legsIn64ths (legs .missed) (legs .base) (legs .intermediate) (legs .last)
+
+-- each request of a list with its answer, played from the empty field with these legs: "starts empty"
+unfoldable pub answersFrom : Legs → List Request → List (Request × Answer)
+answersFrom legs requests = played (emptyField legs) requests
+
+-- how many aircraft are present after the last of them
+unfoldable pub presentFrom : Legs → List Request → ℕ
+presentFrom legs requests = presentOn (fieldAfter (emptyField legs) requests)
+
+-- the requests that a file plays
+abbrev pub requestsHeld : Practice → List Request
+requestsHeld (refused number) = []
+requestsHeld (holds legs requests) = requests
+
+-- each of them with its answer
+abbrev pub answersHeld : Practice → List (Request × Answer)
+answersHeld (refused number) = []
+answersHeld (holds legs requests) = answersFrom (legsInMiles legs) requests
+
+-- how many aircraft are present at the end
+abbrev pub presentHeld : Practice → ℕ
+presentHeld (refused number) = 0
+presentHeld (holds legs requests) = presentFrom (legsInMiles legs) requests
+
+-- the same, of the bytes of a file
+unfoldable pub requestsOfFile : List ℕ → List Request
+requestsOfFile file = requestsHeld (practiceOf file)
+
+unfoldable pub answersOf : List ℕ → List (Request × Answer)
+answersOf file = answersHeld (practiceOf file)
+
+-- what playing a file tells beside its answers: its number, how many requests were played, and how many aircraft are present at the end
+unfoldable pub playedOf : List ℕ → Played
+playedOf file = record { number = fileNumber file; requests = length (requestsOfFile file); present = presentHeld (practiceOf file) }

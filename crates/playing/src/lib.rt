@@ -1,0 +1,126 @@
+// A practice file played from the empty field: the answers to its requests, written into a lent log of numbers.
+use field::Field;
+use field::Legs;
+use field::boxes::empty_field;
+use leg::of_sixty_fourths;
+use practice::FileLegs;
+use practice::Reading;
+use practice::file_legs;
+use practice::file_number;
+use practice::request_at;
+use questions::counts::present_on;
+use request::Request;
+use rules::Answer;
+use rules::Stepped;
+use step::step;
+use step::step_unjudged;
+ghost use mathlib.Core.Path.{_≡_};
+ghost use mathlib.Core.List.{_++_};
+ghost use Prim.Native.Nat.{_+_, _*_, _≤_, _<_};
+ghost use lib.Dec.{T};
+ghost use lib.ListN.{length, drop};
+ghost use lib.Seq.{sets};
+ghost use Rattle.limits.specs.Limits.{mostRequests};
+ghost use Rattle.practice.specs.Requests.{requestsOf};
+ghost use Rattle.practice.specs.Practice.{practiceOf};
+ghost use Rattle.bounds.specs.Bounds.{legalLegs};
+ghost use Rattle.rules.specs.Step.{numberOf, stepOf};
+ghost use Rattle.playing.specs.Playing.{legsInMiles, answersFrom, presentFrom, answersOf, playedOf};
+ghost use Rattle.playing.specs.Log.{entryOf, logOf};
+
+// The caller's log, long enough for the requests of every file.
+pub type Log = [u16; 28672];
+
+// What playing a file tells beside the log: the file's number, how many requests were played, and how many aircraft are present at the end.
+pub struct Played {
+    pub number: u16,
+    pub requests: usize,
+    pub present: usize,
+}
+
+// The legs of a file as the field holds them.
+fn legs_in_miles(legs: FileLegs) -> Legs
+    ensures { λ r. ⌜ r ≡ legsInMiles legs ⌝ }
+{
+    Legs {
+        missed: of_sixty_fourths(legs.missed),
+        base: of_sixty_fourths(legs.base),
+        intermediate: of_sixty_fourths(legs.intermediate),
+        final_approach: of_sixty_fourths(legs.last),
+    }
+}
+
+// The step of a request whose number is neither 10 nor 25, with the field judged before and after, or not.
+fn stepped(f: Field, r: Request, judged: bool) -> Stepped
+    requires { ⌜ (numberOf f r ≡ 10 → ⊥) × (numberOf f r ≡ 25 → ⊥) ⌝ }
+    ensures { λ s. ⌜ s ≡ stepOf f r ⌝ }
+{
+    if judged {
+        return step(f, r);
+    }
+    step_unjudged(f, r)
+}
+
+// Writes what the log holds of a request and its answer, from a place on.
+fn put_entry(log: &mut [u16], at: usize, r: Request, a: Answer)
+    requires { ⌜ at + 7 ≤ length (now log) ⌝ }
+    requires { ⌜ a .zone < 65536 ⌝ }
+    ensures { λ _. ⌜ now (log .exit) ≡ sets (now (log .entry)) at (entryOf (r, a)) ⌝ }
+{
+    log[at] = r.kind as u16;
+    log[at + 1] = a.number;
+    log[at + 2] = a.aircraft;
+    log[at + 3] = a.zone as u16;
+    log[at + 4] = a.fix as u16;
+    log[at + 5] = a.leader;
+    log[at + 6] = a.along;
+}
+
+// Plays the requests of a body from the empty field into the log.
+// Two fields take turns, the one before a request and the one after it. They need not be judged, since from an empty field with legal
+// legs neither 10 nor 25 is answered.
+fn play_body(body: &[u8], legs: Legs, judged: bool, log: &mut [u16]) -> Played
+    requires { ⌜ (length (requestsOf (now body)) ≤ mostRequests) × (7 * mostRequests ≤ length (now log)) ⌝ }
+    requires { ⌜ T (legalLegs legs) ⌝ }
+    ensures { λ r. ⌜ r ≡ record { number = 0; requests = length (requestsOf (now (body .entry))); present = presentFrom legs (requestsOf (now (body .entry))) } ⌝ }
+    ensures { λ r. ⌜ now (log .exit) ≡ sets (now (log .entry)) 0 (logOf (answersFrom legs (requestsOf (now (body .entry))))) ⌝ }
+{
+    let empty = empty_field(legs);
+    let mut fields = [empty; 2];
+    let mut i = 0;
+    loop {
+        let Reading::One(r) = request_at(body, i) else {
+            break;
+        };
+        let f = fields[i % 2];
+        let s = stepped(f, r, judged);
+        let a = s.answer;
+        put_entry(log, 7 * i, r, a);
+        let g = s.field;
+        i += 1;
+        fields[i % 2] = g;
+    }
+    let last = fields[i % 2];
+    Played {
+        number: 0,
+        requests: i,
+        present: present_on(last),
+    }
+}
+
+// Plays a practice file into the log, with each field judged or not. A refused file plays nothing.
+pub fn play(file: &[u8], judged: bool, log: &mut Log) -> Played
+    ensures { λ r. ⌜ r ≡ playedOf (now (file .entry)) ⌝ }
+    ensures { λ r. ⌜ now (log .exit) ≡ logOf (answersOf (now (file .entry))) ++ drop (7 * r .requests) (now (log .entry)) ⌝ }
+{
+    let numbers: &mut [u16] = log;
+    let number = file_number(file);
+    if number != 0 {
+        return Played {
+            number: number,
+            requests: 0,
+            present: 0,
+        };
+    }
+    play_body(&file[34..], legs_in_miles(file_legs(file)), judged, numbers)
+}
