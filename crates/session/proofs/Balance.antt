@@ -16,7 +16,7 @@ use Rattle.field.specs.Boxes.{emptyField}
 use Rattle.questions.specs.Counts.{presentOn}
 use Rattle.bounds.specs.Bounds.{legalLegs}
 use Rattle.rules.specs.Play.{fieldAfter, played}
-use Rattle.demand.proofs.Exact.{legs-legal}
+use Rattle.demand.proofs.Flights.{legs-legal}
 use Rattle.demand.proofs.Demand.{demand-3}
 use Rattle.session.specs.Tally.{tallyOf}
 use Rattle.session.specs.Report.{legsInMiles, sessionReport}

@@ -1,5 +1,6 @@
 // Writes a line for each of some fields that no session reaches: what the field is, the answer of one step on it, and of the field
-// after it the sequence, the next fix, and whether the head of final has flown its leg out.
+// after it the sequence, the next fix, and whether the head of final has flown its leg out. Then the miles waited of one aircraft after a
+// step, as the 16 hexadecimal digits of the `f64`'s bit pattern.
 use field::Aircraft;
 use field::Field;
 use field::Legs;
@@ -85,6 +86,18 @@ fn with_seven(p: Progress) -> Field {
         12,
         with_tail(empty_zone(), with_progress(into(12, 7, 1), p)),
     )
+}
+
+// An aircraft with other miles waited.
+fn with_waited(a: Aircraft, miles: f64) -> Aircraft {
+    let p = a.progress;
+    Aircraft {
+        number: a.number,
+        fix: a.fix,
+        speed: a.speed,
+        progress: p,
+        waited: miles,
+    }
 }
 
 // The crowded field with a zone 2 of this length, and this aircraft at its first place.
@@ -212,6 +225,18 @@ fn within() {
     tick(b"7 at minus 0", with_seven(Progress::Flying(-0.0)));
     tick(b"legs of 64 miles", flown(64.0));
     tick(b"one on the runway", standing(f, 13, into(13, 10, 2)));
+    tick(
+        b"9 with 4096 miles waited",
+        with_nine(with_waited(entering(9, 1, 64), 4096.0)),
+    );
+    tick(
+        b"9 with minus 0 waited",
+        with_nine(with_waited(entering(9, 1, 64), -0.0)),
+    );
+    tick(
+        b"minus 0 waited past a zone's length",
+        with_left(with_waited(nobody(), -0.0), 0),
+    );
 }
 
 // Bounds a to d. Five in the operation area are more than the sequence names, and of three with one fix two stand one behind the other.
@@ -265,6 +290,14 @@ fn out_of_order() {
         with_left(with_progress(nobody(), Progress::Flying(0.0)), 0),
     );
     tick(
+        b"e: miles waited past a zone's length",
+        with_left(with_waited(nobody(), 5e-324), 0),
+    );
+    tick(
+        b"e: waited not a number past a zone's length",
+        with_left(with_waited(nobody(), 0.0 / 0.0), 0),
+    );
+    tick(
         b"e: a number past the sequence's length",
         in_order([7, 8, 9, 10], 3, 2),
     );
@@ -302,6 +335,18 @@ fn not_as_said() {
         b"g: miles not a number",
         with_seven(Progress::Flying(0.0 / 0.0)),
     );
+    tick(
+        b"g: waited past 4096 miles",
+        with_nine(with_waited(entering(9, 1, 64), 4096.000000000001)),
+    );
+    tick(
+        b"g: waited below 0",
+        with_nine(with_waited(entering(9, 1, 64), -5e-324)),
+    );
+    tick(
+        b"g: waited not a number",
+        with_nine(with_waited(entering(9, 1, 64), 0.0 / 0.0)),
+    );
     tick(b"g: legs of 0", flown(0.0));
     tick(b"g: legs past 64 miles", flown(64.00000000000001));
     tick(b"g: legs not a number", flown(0.0 / 0.0));
@@ -313,10 +358,74 @@ fn not_as_said() {
     );
 }
 
+// Writes miles as the 16 hexadecimal digits of their bit pattern.
+fn print_miles(miles: f64) {
+    if miles == miles {
+        io::print_hex(STDOUT_FILENO, f64::to_bits(miles), 16);
+    } else {
+        io::write_all(STDOUT_FILENO, b"NaN");
+    }
+}
+
+// Writes the number of a request of a kind on a field, and the miles waited of the head of a zone after it. A tick is of a minute, and for nobody.
+fn waited(name: &[u8], f: Field, kind: u8, number_of: u16, zone: usize) {
+    let amount = if kind == 12 { 64 } else { 0 };
+    let r = Request {
+        kind: kind,
+        side: 0,
+        number: number_of,
+        amount: amount,
+    };
+    let after = step(f, r);
+    io::write_all(STDOUT_FILENO, name);
+    io::write_all(STDOUT_FILENO, b":");
+    let a = after.answer;
+    number(a.number as u64);
+    let g = after.field;
+    let head = aircraft_at(g, zone, 1);
+    io::write_all(STDOUT_FILENO, b" ");
+    print_miles(head.waited);
+    io::write_all(STDOUT_FILENO, b"\n");
+}
+
+// 7 alone in a flying zone, its leg of a mile flown to these miles, with these miles waited.
+fn alone(zone: usize, miles: f64, before: f64) -> Field {
+    let f = more(empty_field(legs(1.0)), zone, 7, 1);
+    let a = with_progress(into(zone, 7, 1), Progress::Flying(miles));
+    with_zone(f, zone, with_tail(empty_zone(), with_waited(a, before)))
+}
+
+// 7 in the missed zone, its leg flown out, and behind it 8 at 3000, with miles waited.
+fn behind() -> Field {
+    let f = more(alone(7, 1.0, 2.5), 1, 8, 2);
+    with_zone(
+        f,
+        1,
+        with_tail(empty_zone(), with_waited(into(1, 8, 2), 0.5)),
+    )
+}
+
+// The miles waited: added up by a tick, and carried by everything that moves an aircraft.
+fn miles_waited() {
+    waited(b"tick to the end", alone(12, -0.0, 2.5), 12, 0, 12);
+    waited(b"tick at the end", alone(12, 1.0, 2.5), 12, 0, 12);
+    waited(b"tick past the end", alone(12, 0.75, 2.5), 12, 0, 12);
+    waited(b"tick near 4096", alone(12, 1.0, 4095.5), 12, 0, 12);
+    waited(b"tick at minus 0", alone(12, 0.0, -0.0), 12, 0, 12);
+    waited(b"8 waits at 3000", behind(), 12, 0, 1);
+    waited(b"7 lands", alone(12, 1.0, 2.5), 7, 7, 13);
+    waited(b"7 misses", alone(12, 0.5, 2.5), 10, 7, 7);
+    waited(b"7 holds", alone(7, 1.0, 2.5), 11, 7, 3);
+    waited(b"7 holds beside 8", behind(), 11, 7, 1);
+    waited(b"8 goes along", behind(), 11, 7, 3);
+    waited(b"7 merges", alone(9, 1.0, 2.5), 5, 7, 11);
+}
+
 // Writes the lines of all cases.
 fn main() {
     within();
     too_many();
     out_of_order();
     not_as_said();
+    miles_waited();
 }
