@@ -88,7 +88,7 @@ pub record Account (w : WholeLegs) (s : Flight) (z : ℕ) (a : Aircraft) : Type 
   -- in zones 7 to 12 the miles times 4096 are the smaller of 64 times the leg and the speed times the tick amounts since the leg began
   pub miles : T (isFlyingZone z) → FlownExactly (a .progress) (min (64 * in64ths w z) (a .speed * s .ticks))
   -- in whichever zone, the miles waited times 4096 are the smaller of 4096 times 4096 and what the aircraft flew past the ends of its legs,
-  -- this one included: "The exactness rule now speaks of this sum too." (02, 2.2)
+  -- this one included (02, 2.2)
   pub waited : Exactly (a .waited) (min (4096 * mostWaited) (s .before + pastIn w z (a .speed * s .ticks)))
 
 -- after the list that is so of everyone on the field

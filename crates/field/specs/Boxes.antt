@@ -129,7 +129,7 @@ progressInto z = cond (isFlyingZone z) (Flying (whole 0)) Waiting
 unfoldable pub entering : ℕ → ℕ → ℕ → Aircraft
 entering number fix speed = record { number = number; fix = fix; speed = speed; progress = Waiting; waited = whole 0 }
 
--- an aircraft with another progress: "Everything that advances or copies an aircraft carries the sum" (02, 2.2)
+-- an aircraft with another progress; all else stays, the miles waited too (02, 2.2)
 unfoldable pub withProgress : Aircraft → Progress → Aircraft
 withProgress a p = record { number = a .number; fix = a .fix; speed = a .speed; progress = p; waited = a .waited }
 
@@ -137,7 +137,7 @@ withProgress a p = record { number = a .number; fix = a .fix; speed = a .speed; 
 unfoldable pub arrived : ℕ → Aircraft → Aircraft
 arrived z a = withProgress a (progressInto z)
 
--- an aircraft with another fix
+-- an aircraft with another fix; all else stays, the miles waited too (02, 2.2)
 unfoldable pub withFix : Aircraft → ℕ → Aircraft
 withFix a fix = record { number = a .number; fix = fix; speed = a .speed; progress = a .progress; waited = a .waited }
 

@@ -67,7 +67,7 @@ pub one-tick-exact-in-4096ths : (p : Progress) (leg : Float) (k m : ℕ) {speed 
 one-tick-exact-in-4096ths Waiting leg k m r s a h = absurd h
 one-tick-exact-in-4096ths (Flying miles) leg k m r s a h = grid-tick s a miles leg k m r h
 
--- And with n / 4096 miles waited, exactly min 4096 miles (n + (m + speed * amount - k) / 4096) after it, where the last is 0 unless m + speed * amount exceeds k.
+-- With n / 4096 miles waited before it, exactly min (4096 * mostWaited) (n + (m + speed * amount - k)) / 4096 after it: what exceeds the leg is added.
 pub one-tick-waited-in-4096ths : (p : Progress) (leg waited : Float) (k m n : ℕ) {speed amount : ℕ} → LegIn4096ths leg k → Between 1 fastest speed → Between 1 longestTick amount → m < 2 ^ 52 → FlownExactly p m
     → Exactly waited n → Exactly (waitedWith p waited speed amount leg) (min (4096 * mostWaited) (n + (m + speed * amount - k)))
 one-tick-waited-in-4096ths Waiting leg waited k m n r s a few h w = absurd h
@@ -97,7 +97,7 @@ pub one-tick-exact : (p : Progress) (k m : ℕ) {speed amount : ℕ} → Between
     → FlownExactly (progressAfter p speed amount (sixtyFourths k)) (min (64 * k) (m + speed * amount))
 one-tick-exact p k m r = one-tick-exact-in-4096ths p (sixtyFourths k) (64 * k) m (sixty-fourths-in-4096ths k r)
 
--- with min 4096 miles (n + (m + speed * amount - 64 k) / 4096) waited,
+-- with min (4096 * mostWaited) (n + (m + speed * amount - 64 k)) / 4096 miles waited,
 pub one-tick-waited : (p : Progress) (waited : Float) (k m n : ℕ) {speed amount : ℕ} → Between 1 longestLeg k → Between 1 fastest speed → Between 1 longestTick amount → m ≤ 64 * k → FlownExactly p m → Exactly waited n
     → Exactly (waitedWith p waited speed amount (sixtyFourths k)) (min (4096 * mostWaited) (n + (m + speed * amount - 64 * k)))
 one-tick-waited p waited k m n r s a few = one-tick-waited-in-4096ths p (sixtyFourths k) waited (64 * k) m n (sixty-fourths-in-4096ths k r) s a (omega arith)

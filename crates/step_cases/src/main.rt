@@ -1,137 +1,35 @@
 // Writes a line for each of some fields that no session reaches: what the field is, the answer of one step on it, and of the field
 // after it the sequence, the next fix, and whether the head of final has flown its leg out. Then the miles waited of one aircraft after a
 // step, as the 16 hexadecimal digits of the `f64`'s bit pattern.
-use field::Aircraft;
+use crate::fields::alone;
+use crate::fields::behind;
+use crate::fields::crowded;
+use crate::fields::flown;
+use crate::fields::in_order;
+use crate::fields::into;
+use crate::fields::legs;
+use crate::fields::more;
+use crate::fields::standing;
+use crate::fields::two;
+use crate::fields::with_left;
+use crate::fields::with_nine;
+use crate::fields::with_seven;
+use crate::fields::with_waited;
 use field::Field;
-use field::Legs;
 use field::Sequence;
-use field::Zone;
-use field::boxes::arrived;
 use field::boxes::empty_field;
-use field::boxes::empty_zone;
 use field::boxes::entering;
 use field::boxes::flown_out_in;
 use field::boxes::nobody;
-use field::boxes::opposite;
 use field::boxes::with_progress;
-use field::boxes::zone_of;
-use field::edits::appended;
-use field::edits::with_sequence;
-use field::edits::with_tail;
-use field::edits::with_zone;
 use leg::Progress;
-use leg::of_sixty_fourths;
 use libc::STDOUT_FILENO;
 use questions::find::aircraft_at;
 use request::Request;
 use rules::Answer;
 use step::step;
 
-// ---- the fields
-
-// Four legs of one length, in miles.
-fn legs(miles: f64) -> Legs {
-    Legs {
-        missed: miles,
-        base: miles,
-        intermediate: miles,
-        final_approach: miles,
-    }
-}
-
-// An aircraft of speed 64 as it enters a zone.
-fn into(zone: usize, number: u16, fix: u8) -> Aircraft {
-    arrived(zone, entering(number, fix, 64))
-}
-
-// The field with an aircraft at the tail of a zone.
-fn standing(f: Field, zone: usize, a: Aircraft) -> Field {
-    with_zone(f, zone, with_tail(zone_of(f, zone), a))
-}
-
-// The field with an aircraft more, at the tail of a zone and last in the sequence.
-fn more(f: Field, zone: usize, number: u16, fix: u8) -> Field {
-    let s = f.sequence;
-    with_sequence(
-        standing(f, zone, into(zone, number, fix)),
-        appended(s, number),
-        opposite(fix),
-    )
-}
-
-// 7 on final with fix 1, and behind it 8 with fix 2 in a zone.
-fn two(zone: usize) -> Field {
-    more(
-        more(empty_field(legs(of_sixty_fourths(64))), 12, 7, 1),
-        zone,
-        8,
-        2,
-    )
-}
-
-// With 8 at 2000 right, and last 9 with fix 1 at 3000 right: within the bounds, with no room for 7 to miss.
-fn crowded() -> Field {
-    more(two(3), 1, 9, 1)
-}
-
-// The crowded field with another aircraft 9.
-fn with_nine(a: Aircraft) -> Field {
-    with_zone(crowded(), 1, with_tail(empty_zone(), a))
-}
-
-// The crowded field with 7 at another progress.
-fn with_seven(p: Progress) -> Field {
-    with_zone(
-        crowded(),
-        12,
-        with_tail(empty_zone(), with_progress(into(12, 7, 1), p)),
-    )
-}
-
-// An aircraft with other miles waited.
-fn with_waited(a: Aircraft, miles: f64) -> Aircraft {
-    let p = a.progress;
-    Aircraft {
-        number: a.number,
-        fix: a.fix,
-        speed: a.speed,
-        progress: p,
-        waited: miles,
-    }
-}
-
-// The crowded field with a zone 2 of this length, and this aircraft at its first place.
-fn with_left(a: Aircraft, length: usize) -> Field {
-    let z = nobody();
-    let aircraft = [a, z, z, z];
-    let q = Zone {
-        aircraft: aircraft,
-        length: length,
-    };
-    with_zone(crowded(), 2, q)
-}
-
-// The crowded field with another sequence and next fix.
-fn in_order(numbers: [u16; 4], length: usize, next: u8) -> Field {
-    let s = Sequence {
-        numbers: numbers,
-        length: length,
-    };
-    with_sequence(crowded(), s, next)
-}
-
-// The crowded field with four other legs.
-fn flown(length: f64) -> Field {
-    let f = crowded();
-    let zones = f.zones;
-    let sequence = f.sequence;
-    Field {
-        zones: zones,
-        sequence: sequence,
-        next: f.next,
-        legs: legs(length),
-    }
-}
+mod fields;
 
 // ---- the lines
 
@@ -267,7 +165,7 @@ fn too_many() {
     );
 }
 
-// Bounds e and f.
+// Bounds e and f, of numbers and the sequence.
 fn out_of_order() {
     tick(b"e: the number 0", more(two(3), 1, 0, 1));
     tick(b"e: 7 twice", more(two(3), 1, 7, 1));
@@ -280,6 +178,23 @@ fn out_of_order() {
         b"e: the head of final second",
         more(more(empty_field(legs(1.0)), 3, 8, 2), 12, 7, 1),
     );
+    tick(
+        b"f: two of one fix, one behind the other",
+        more(
+            more(more(empty_field(legs(1.0)), 12, 7, 1), 3, 8, 1),
+            1,
+            9,
+            2,
+        ),
+    );
+    tick(
+        b"f: the next fix is the last one's",
+        in_order([7, 8, 9, 0], 3, 1),
+    );
+}
+
+// Bound e, of lengths and of the places past them.
+fn past_a_length() {
     tick(b"e: a zone's length 5", with_left(nobody(), 5));
     tick(
         b"e: a number past a zone's length",
@@ -300,19 +215,6 @@ fn out_of_order() {
     tick(
         b"e: a number past the sequence's length",
         in_order([7, 8, 9, 10], 3, 2),
-    );
-    tick(
-        b"f: two of one fix, one behind the other",
-        more(
-            more(more(empty_field(legs(1.0)), 12, 7, 1), 3, 8, 1),
-            1,
-            9,
-            2,
-        ),
-    );
-    tick(
-        b"f: the next fix is the last one's",
-        in_order([7, 8, 9, 0], 3, 1),
     );
 }
 
@@ -388,23 +290,6 @@ fn waited(name: &[u8], f: Field, kind: u8, number_of: u16, zone: usize) {
     io::write_all(STDOUT_FILENO, b"\n");
 }
 
-// 7 alone in a flying zone, its leg of a mile flown to these miles, with these miles waited.
-fn alone(zone: usize, miles: f64, before: f64) -> Field {
-    let f = more(empty_field(legs(1.0)), zone, 7, 1);
-    let a = with_progress(into(zone, 7, 1), Progress::Flying(miles));
-    with_zone(f, zone, with_tail(empty_zone(), with_waited(a, before)))
-}
-
-// 7 in the missed zone, its leg flown out, and behind it 8 at 3000, with miles waited.
-fn behind() -> Field {
-    let f = more(alone(7, 1.0, 2.5), 1, 8, 2);
-    with_zone(
-        f,
-        1,
-        with_tail(empty_zone(), with_waited(into(1, 8, 2), 0.5)),
-    )
-}
-
 // The miles waited: added up by a tick, and carried by everything that moves an aircraft.
 fn miles_waited() {
     waited(b"tick to the end", alone(12, -0.0, 2.5), 12, 0, 12);
@@ -426,6 +311,7 @@ fn main() {
     within();
     too_many();
     out_of_order();
+    past_a_length();
     not_as_said();
     miles_waited();
 }
