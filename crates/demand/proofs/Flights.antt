@@ -7,7 +7,7 @@ use native.Mathlib.Omega.{arith}
 use lib.Dec.{T, leb, leb→le, le→leb}
 use lib.Ieee.{Float, ofInt}
 use lib.Ieee.Fits.{and-i, and-l, and-r}
-use Rattle.limits.specs.Limits.{longestTick, longestLeg, mostWaited}
+use Rattle.limits.specs.Limits.{longestTick, longestLeg}
 use Rattle.leg.specs.Progress.{whole, sixtyFourths, progressAfter, waitedWith, legalLeg}
 use Rattle.leg.specs.Ticks.{Between, Exactly, FlownExactly}
 use Rattle.leg.specs.declared.Progress.{Progress}
@@ -18,7 +18,7 @@ use Rattle.field.specs.declared.Aircraft.{Aircraft}
 use Rattle.field.specs.Boxes.{isFlyingZone, legOf, progressInto}
 use Rattle.bounds.specs.Bounds.{fitsZone, legalLegs}
 use Rattle.tick.specs.Tick.{tickedAircraft}
-use Rattle.demand.specs.Exact.{WholeLegs, inMiles, in64ths, pastIn, Flight, ticking, entry, onward, Account}
+use Rattle.demand.specs.Exact.{WholeLegs, inMiles, in64ths, pastIn, mostIn4096ths, Flight, ticking, entry, onward, Account}
 use Rattle.field.proofs.Tests.{pass, passed, if-true, if-false, either-way, each-zone}
 use Rattle.field.proofs.Arrival.{progress-by}
 use Rattle.laws.proofs.Fits.{fits-parts}
@@ -90,7 +90,7 @@ known-waiting w amount s z a e p =
       account = record {
         miles = λ u. absurd (false≢true (sym e ∙ passed {b = isFlyingZone z} u));
         waited =
-            subst (λ (n : ℕ). Exactly (a .waited) (min (4096 * mostWaited) (s .before + n))) (past-waiting w z (a .speed * s .ticks) e ∙ sym (past-waiting w z (a .speed * (s .ticks + amount)) e)) (p .account .waited);
+            subst (λ (n : ℕ). Exactly (a .waited) (min mostIn4096ths (s .before + n))) (past-waiting w z (a .speed * s .ticks) e ∙ sym (past-waiting w z (a .speed * (s .ticks + amount)) e)) (p .account .waited);
       };
       same-speed = p .same-speed;
       same-leg = p .same-leg;
@@ -108,10 +108,10 @@ module _ (w : WholeLegs) (amount : ℕ) (fits : Between 1 longestTick amount) (s
       let leg = sym (miles-are w z (zone-13 z u) u) in
       let long = leg-fits w z (zone-13 z u) in
       let flown = p .account .miles u in
-      let before = subst (λ (n : ℕ). Exactly (a .waited) (min (4096 * mostWaited) (s .before + n))) (past-flying w z (v * s .ticks) e) (p .account .waited) in
+      let before = subst (λ (n : ℕ). Exactly (a .waited) (min mostIn4096ths (s .before + n))) (past-flying w z (v * s .ticks) e) (p .account .waited) in
       let on : FlownExactly (progressAfter (a .progress) v amount (sixtyFourths k)) (min (64 * k) (m + v * amount)) = one-tick-exact (a .progress) k m long speeds fits flown in
-      let more : Exactly (waitedWith (a .progress) (a .waited) v amount (sixtyFourths k)) (min (4096 * mostWaited) (min (4096 * mostWaited) (s .before + (v * s .ticks - 64 * k)) + (m + v * amount - 64 * k))) =
-      one-tick-waited (a .progress) (a .waited) k m (min (4096 * mostWaited) (s .before + (v * s .ticks - 64 * k))) long speeds fits (omega arith) flown before in
+      let more : Exactly (waitedWith (a .progress) (a .waited) v amount (sixtyFourths k)) (min mostIn4096ths (min mostIn4096ths (s .before + (v * s .ticks - 64 * k)) + (m + v * amount - 64 * k))) =
+      one-tick-waited (a .progress) (a .waited) k m (min mostIn4096ths (s .before + (v * s .ticks - 64 * k))) long speeds fits (omega arith) flown before in
       record {
         account = record {
           miles =
@@ -119,9 +119,9 @@ module _ (w : WholeLegs) (amount : ℕ) (fits : Between 1 longestTick amount) (s
               subst (λ (l : Float). FlownExactly (progressAfter (a .progress) v amount l) (min (64 * k) (v * (s .ticks + amount)))) leg
               (subst (FlownExactly (progressAfter (a .progress) v amount (sixtyFourths k))) (joined (64 * k) v (s .ticks) amount) on);
           waited =
-              subst (λ (l : Float). Exactly (waitedWith (a .progress) (a .waited) v amount l) (min (4096 * mostWaited) (s .before + pastIn w z (v * (s .ticks + amount))))) leg
+              subst (λ (l : Float). Exactly (waitedWith (a .progress) (a .waited) v amount l) (min mostIn4096ths (s .before + pastIn w z (v * (s .ticks + amount))))) leg
               (subst (Exactly (waitedWith (a .progress) (a .waited) v amount (sixtyFourths k)))
-              (joined-past (4096 * mostWaited) (s .before) (64 * k) v (s .ticks) amount ∙ ap (λ (n : ℕ). min (4096 * mostWaited) (s .before + n)) (sym (past-flying w z (v * (s .ticks + amount)) e)))
+              (joined-past mostIn4096ths (s .before) (64 * k) v (s .ticks) amount ∙ ap (λ (n : ℕ). min mostIn4096ths (s .before + n)) (sym (past-flying w z (v * (s .ticks + amount)) e)))
               more);
         };
         same-speed = p .same-speed;
@@ -153,7 +153,7 @@ known-onward w s zone e g p on h =
     record {
       account = record {
         miles = begun w (g .zone) (g .aircraft) (on .begins);
-        waited = subst (λ (x : Float). Exactly x (min (4096 * mostWaited) (t .before + pastIn w (g .zone) (g .aircraft .speed * 0)))) (sym (on .same-waited)) (subst (λ (n : ℕ). Exactly (e .aircraft .waited) (min (4096 * mostWaited) n)) sum (p .account .waited));
+        waited = subst (λ (x : Float). Exactly x (min mostIn4096ths (t .before + pastIn w (g .zone) (g .aircraft .speed * 0)))) (sym (on .same-waited)) (subst (λ (n : ℕ). Exactly (e .aircraft .waited) (min mostIn4096ths n)) sum (p .account .waited));
       };
       same-speed = on .same-speed ∙ p .same-speed;
       same-leg = λ n. ap (λ (z : ℕ). pastIn w z n) h;
@@ -166,7 +166,7 @@ known-along w s e g p on i j =
     record {
       account = record {
         miles = λ u. absurd (false≢true (sym j ∙ passed {b = isFlyingZone (g .zone)} u));
-        waited = subst (λ (x : Float). Exactly x (min (4096 * mostWaited) (s .before + pastIn w (g .zone) (g .aircraft .speed * s .ticks)))) (sym (on .same-waited)) (subst (λ (n : ℕ). Exactly (e .aircraft .waited) (min (4096 * mostWaited) (s .before + n))) same (p .account .waited));
+        waited = subst (λ (x : Float). Exactly x (min mostIn4096ths (s .before + pastIn w (g .zone) (g .aircraft .speed * s .ticks)))) (sym (on .same-waited)) (subst (λ (n : ℕ). Exactly (e .aircraft .waited) (min mostIn4096ths (s .before + n))) same (p .account .waited));
       };
       same-speed = on .same-speed ∙ p .same-speed;
       same-leg = λ n. p .same-leg n ∙ past-waiting w (e .zone) n i ∙ sym (past-waiting w (g .zone) n j);
@@ -179,7 +179,7 @@ known-entry w speed zone z a v x j h =
     record {
       account = record {
         miles = λ u. absurd (false≢true (sym j ∙ passed {b = isFlyingZone z} u));
-        waited = subst (λ (y : Float). Exactly y (min (4096 * mostWaited) (0 + pastIn w z (a .speed * 0)))) (sym x) (subst (λ (n : ℕ). Exactly (whole 0) (min (4096 * mostWaited) n)) (none-yet w z (a .speed) 0) (refl, refl));
+        waited = subst (λ (y : Float). Exactly y (min mostIn4096ths (0 + pastIn w z (a .speed * 0)))) (sym x) (subst (λ (n : ℕ). Exactly (whole 0) (min mostIn4096ths n)) (none-yet w z (a .speed) 0) (refl, refl));
       };
       same-speed = v;
       same-leg = λ n. ap (λ (y : ℕ). pastIn w y n) h;

@@ -41,6 +41,10 @@ in64ths w z =
 abbrev pub pastIn : WholeLegs → ℕ → ℕ → ℕ
 pastIn w z flown = cond (isFlyingZone z) (flown - 64 * in64ths w z) 0
 
+-- the most miles waited, in 4096ths (02, 2.2)
+abbrev pub mostIn4096ths : ℕ
+mostIn4096ths = 4096 * mostWaited
+
 -- what the requests and answers tell of an aircraft: its speed, the zone that it is in, the tick amounts since its leg there began, and
 -- what it flew past the ends of its legs before that, in 4096ths
 pub record Flight : Type 0 where
@@ -89,7 +93,7 @@ pub record Account (w : WholeLegs) (s : Flight) (z : ℕ) (a : Aircraft) : Type 
   pub miles : T (isFlyingZone z) → FlownExactly (a .progress) (min (64 * in64ths w z) (a .speed * s .ticks))
   -- in whichever zone, the miles waited times 4096 are the smaller of 4096 times 4096 and what the aircraft flew past the ends of its legs,
   -- this one included (02, 2.2)
-  pub waited : Exactly (a .waited) (min (4096 * mostWaited) (s .before + pastIn w z (a .speed * s .ticks)))
+  pub waited : Exactly (a .waited) (min mostIn4096ths (s .before + pastIn w z (a .speed * s .ticks)))
 
 -- after the list that is so of everyone on the field
 abbrev pub Exact : WholeLegs → List Request → Type 0
