@@ -17,6 +17,8 @@ OTHER_LEGS = ("0.015625000000000003", "0.1", "0.3333333333333333", "2.7182818284
               "7.8500000000000005")
 AMOUNTS = ((1,) * 4, (2,) * 4, (3,) * 4, (31,) * 4, (63,) * 4, (64,) * 4, (64, 1, 31, 3))
 STARTS = ("0.0", "0.1", "1e-9", "1.1102230246251568e-16")
+WAITED = ("0.0", "0.1", "4090.7")
+MOST_WAITED = Fraction(4096)
 
 
 def unit(exact):
@@ -58,31 +60,39 @@ def just_below(value):
 
 
 def advanced(miles, speed, amount, leg):
-    """The miles after a tick, by document 01, kind 12."""
+    """The miles after a tick, by document 01, kind 12, and those past the end, by document 02, 2.2."""
     step = rounded(rounded(Fraction(speed, 64)) * rounded(Fraction(amount, 64)))
-    return min(rounded(miles + step), leg)
+    total = rounded(miles + step)
+    return min(total, leg), rounded(total - leg) if total > leg else Fraction(0)
 
 
-def line(leg, speed, start, amounts):
+def waited_after(waited, past):
+    """The miles waited after a tick, by document 02, 2.2."""
+    return min(rounded(waited + past), MOST_WAITED)
+
+
+def line(leg, speed, start, before, amounts):
     """The line of one combination."""
-    words = [bits(leg), str(speed), bits(start)]
-    miles = start
+    words = [bits(leg), str(speed), bits(start), bits(before)]
+    miles, waited = start, before
     for amount in amounts:
-        miles = advanced(miles, speed, amount, leg)
-        words += [str(amount), bits(miles)]
+        miles, past = advanced(miles, speed, amount, leg)
+        waited = waited_after(waited, past)
+        words += [str(amount), bits(miles), bits(past), bits(waited)]
     return " ".join(words + ["1" if miles == leg else "0"])
 
 
 def main():
     """Writes the lines of all combinations whose start is within the leg."""
     legs = [rounded(Fraction(k, 64)) for k in WHOLE_LEGS] + [rounded(Fraction(leg)) for leg in OTHER_LEGS]
+    before = [rounded(Fraction(waited)) for waited in WAITED]
     combination = 0
     for leg in legs:
         starts = [rounded(Fraction(start)) for start in STARTS] + [just_below(leg), leg]
         for speed in SPEEDS:
             for start in starts:
                 if start <= leg:
-                    print(line(leg, speed, start, AMOUNTS[combination % len(AMOUNTS)]))
+                    print(line(leg, speed, start, before[combination % len(before)], AMOUNTS[combination % len(AMOUNTS)]))
                 combination += 1
 
 

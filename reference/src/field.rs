@@ -118,7 +118,12 @@ pub struct Aircraft {
     /// 64ths of a nautical mile per minute.
     pub speed: u16,
     pub progress: Progress,
+    /// Miles that it would have flown past the ends of its legs, since its entry.
+    pub waited: f64,
 }
+
+/// The most miles that are added up as waited.
+pub const MOST_WAITED: f64 = 4096.0;
 
 /// Lengths of the legs in miles.
 #[derive(Clone, Copy, Debug, PartialEq)]
@@ -331,7 +336,8 @@ impl Field {
                     (Progress::Flying(miles), Some(leg)) => (0.0..=leg).contains(&miles),
                     _ => false,
                 };
-                (1..=FASTEST).contains(&aircraft.speed) && progress_fits
+                let waited_fits = (0.0..=MOST_WAITED).contains(&aircraft.waited);
+                (1..=FASTEST).contains(&aircraft.speed) && progress_fits && waited_fits
             })
     }
 }
@@ -514,7 +520,7 @@ impl Field {
         Ok(self.moved(number, from, to))
     }
 
-    /// Everyone flying advances and stops at the end of the leg.
+    /// Everyone flying advances and stops at the end of the leg. What is past it is added to the miles waited.
     fn ticked(&self, amount: u16) -> Field {
         let mut after = self.clone();
         for (zone, queue) in Zone::ALL.into_iter().zip(&mut after.zones) {
@@ -524,6 +530,9 @@ impl Field {
                     let advance = (f64::from(aircraft.speed) / 64.0) * (f64::from(amount) / 64.0);
                     let sum = *miles + advance;
                     *miles = if sum < leg { sum } else { leg };
+                    let past = if sum > leg { sum - leg } else { 0.0 };
+                    let waited = aircraft.waited + past;
+                    aircraft.waited = if waited < MOST_WAITED { waited } else { MOST_WAITED };
                 }
             }
         }
@@ -567,7 +576,7 @@ impl Field {
         let fix = if after.sequence.is_empty() { side } else { after.next_fix };
         after.next_fix = fix.opposite();
         after.sequence.push_back(number);
-        after.put(Aircraft { number, fix, speed, progress: Progress::Waiting }, to);
+        after.put(Aircraft { number, fix, speed, progress: Progress::Waiting, waited: 0.0 }, to);
         let answer = after.answer(number);
         (after, answer)
     }

@@ -10,7 +10,7 @@ use Zone::*;
 
 fn put(field: &mut Field, zone: Zone, number: u16, fix: Side) {
     let progress = if zone.is_flying() { Progress::Flying(0.0) } else { Progress::Waiting };
-    field.zone_mut(zone).push_back(Aircraft { number, fix, speed: 64, progress });
+    field.zone_mut(zone).push_back(Aircraft { number, fix, speed: 64, progress, waited: 0.0 });
     if zone != Runway {
         field.sequence.push_back(number);
         field.next_fix = fix.opposite();
@@ -160,6 +160,24 @@ fn bound_g_speeds_miles_and_legs() {
         field.zone_mut(zone)[0].progress =
             if zone.is_flying() { Progress::Waiting } else { Progress::Flying(0.0) };
         breaks(field, Bound::G);
+    }
+}
+
+#[test]
+fn bound_g_miles_waited() {
+    for zone in Zone::ALL {
+        let with = |waited| {
+            let mut field = empty();
+            put(&mut field, zone, 1, Right);
+            field.zone_mut(zone)[0].waited = waited;
+            field
+        };
+        for waited in [0.0, -0.0, 1.0 / 4096.0, 0.3, 4096.0] {
+            holds(&with(waited));
+        }
+        for waited in [-1.0 / 4096.0, 4096.0 + 1.0 / 4096.0, f64::NAN, f64::INFINITY, f64::NEG_INFINITY] {
+            breaks(with(waited), Bound::G);
+        }
     }
 }
 

@@ -4,8 +4,9 @@ use mathlib.Core.List.{List, [], _∷_, _++_, map}
 use Prim.Native.Nat.{ℕ}
 use lib.Dec.{eqb, leb}
 use lib.ListN.{length, drop}
+use lib.Ieee.{eq}
 use Rattle.limits.specs.Limits.{fastest}
-use Rattle.leg.specs.Progress.{withinLeg, legalLeg}
+use Rattle.leg.specs.Progress.{whole, waitedWithin, withinLeg, legalLeg}
 use Rattle.leg.specs.declared.Progress.{Progress}
 use Rattle.leg.specs.declared.Progress.the-variants.{Waiting, Flying}
 use Rattle.field.specs.declared.Aircraft.{Aircraft}
@@ -47,8 +48,9 @@ abbrev pub isWaiting : Progress → Bool
 isWaiting Waiting = true
 isWaiting (Flying miles) = false
 
+-- "places past them are as said", all zero and waiting, where a float's zero "is one that compares equal to 0" (02, 2.2)
 unfoldable pub isNobody : Aircraft → Bool
-isNobody a = eqb (a .number) 0 && eqb (a .fix) 0 && eqb (a .speed) 0 && isWaiting (a .progress)
+isNobody a = eqb (a .number) 0 && eqb (a .fix) 0 && eqb (a .speed) 0 && eq (a .waited) (whole 0) && isWaiting (a .progress)
 
 unfoldable pub zoneKept : Zone → Bool
 zoneKept q = leb (q .length) 4 && every isNobody (drop (q .length) (q .aircraft))
@@ -71,10 +73,10 @@ unfoldable pub boundF : Field → Bool
 boundF f = alternate (map (fixOf f) (orderOf (f .sequence)) ++ (f .next ∷ []))
 
 -- ---- g. "Sides are 1 or 2, speeds 1 to 512; miles compare between 0 and the leg; legs compare between 1/64 and 64 miles; flying
--- exactly in zones 7 to 12."
+-- exactly in zones 7 to 12." The miles waited are part of it, "between 0 and 4,096" (02, 2.2).
 unfoldable pub fitsZone : Legs → ℕ → Aircraft → Bool
 fitsZone legs z a =
-    isSide (a .fix) && (leb 1 (a .speed) && leb (a .speed) fastest)
+    isSide (a .fix) && (leb 1 (a .speed) && leb (a .speed) fastest) && waitedWithin (a .waited)
     && cond (isFlyingZone z) (not (isWaiting (a .progress)) && withinLeg (a .progress) (legOf legs z)) (isWaiting (a .progress))
 
 unfoldable pub legalLegs : Legs → Bool

@@ -18,6 +18,7 @@ use field::zones::MISSED;
 use field::zones::RUNWAY;
 use leg::Progress;
 use leg::legal;
+use leg::waited_within;
 use leg::within;
 use limits::FASTEST;
 use numbers::numbers_differ;
@@ -134,7 +135,7 @@ pub fn is_waiting(p: Progress) -> bool
     }
 }
 
-// Whether a place is all zero and waiting.
+// Whether a place is all zero and waiting, a zero of either sign.
 pub fn is_nobody(a: Aircraft) -> bool
     ensures { λ r. ⌜ r ≡ isNobody a ⌝ }
 {
@@ -147,8 +148,11 @@ pub fn is_nobody(a: Aircraft) -> bool
     if a.speed != 0 {
         return false;
     }
-    let p = a.progress;
-    is_waiting(p)
+    if a.waited == 0.0 {
+        let p = a.progress;
+        return is_waiting(p);
+    }
+    false
 }
 
 // Whether a zone's length fits its array, and the places past it are all zero and waiting.
@@ -245,8 +249,8 @@ pub fn bound_f(f: Field) -> bool
     true
 }
 
-// Whether an aircraft of a zone has a side as fix, a speed from 1 to the highest, and flies within the zone's leg where the zone is flown in
-// and waits elsewhere.
+// Whether an aircraft of a zone has a side as fix, a speed from 1 to the highest and miles waited from 0 to the most, and flies within the
+// zone's leg where the zone is flown in and waits elsewhere.
 pub fn fits_zone(legs: Legs, zone: usize, a: Aircraft) -> bool
     ensures { λ r. ⌜ r ≡ fitsZone legs zone a ⌝ }
 {
@@ -257,6 +261,9 @@ pub fn fits_zone(legs: Legs, zone: usize, a: Aircraft) -> bool
         return false;
     }
     if FASTEST < a.speed {
+        return false;
+    }
+    if !waited_within(a.waited) {
         return false;
     }
     let p = a.progress;

@@ -1,204 +1,238 @@
 -- Exactness holds after every list of requests from an empty field with legs in whole 64ths. Assumes nothing.
 use mathlib.Core.Path.{_≡_, refl, sym, ap, _∙_, subst}
 use mathlib.Core.Logic.{_⊎_, inl, inr}
-use mathlib.Core.Bool.{Bool, true, false, cond, _&&_, false≢true}
-use mathlib.Core.List.{List, [], _∷_, map}
-use Prim.Native.Nat.{ℕ, _+_, _*_, min}
-use native.Mathlib.Nat.{mul-add, mul-zero}
+use mathlib.Core.Bool.{Bool, true, false, cond, _&&_}
+use mathlib.Core.List.{List, [], _∷_, _++_, map, append-assoc}
+use Prim.Native.Nat.{ℕ}
 use native.Mathlib.Omega.{arith}
-use lib.Dec.{T, leb, eqb, leb→le, le→leb}
-use lib.Ieee.Fits.{and-i, and-l, and-r}
+use lib.Dec.{T, eqb}
+use lib.Ieee.Fits.{and-l, and-r}
 use borrow.Author.Tests.{eqb-true, eqb-false, eq-eqb, ne-eqb}
-use Rattle.limits.specs.Limits.{longestTick, longestLeg}
-use Rattle.leg.specs.Progress.{whole, sixtyFourths, progressAfter, legalLeg}
-use Rattle.leg.specs.Ticks.{Between, FlownExactly}
-use Rattle.leg.specs.declared.Progress.{Progress}
-use Rattle.leg.specs.declared.Progress.the-variants.{Flying}
-use Rattle.leg.proofs.Theorems.{zero-exact, sixty-fourths-legal, one-tick-exact}
-use Rattle.request.specs.Input.{within, isTick, inputNumber}
+use Rattle.limits.specs.Limits.{longestTick}
+use Rattle.leg.specs.Ticks.{Between}
+use Rattle.request.specs.Input.{isEntry, isTick}
 use Rattle.request.specs.declared.Request.{Request}
 use Rattle.request.proofs.ByKind.{tick-known}
 use Rattle.field.specs.declared.Aircraft.{Aircraft}
 use Rattle.field.specs.declared.Field.{Field}
-use Rattle.field.specs.Boxes.{isFlyingZone, legOf, progressInto, withProgress, inZone, emptyField}
+use Rattle.field.specs.declared.Legs.{Legs}
+use Rattle.field.specs.Boxes.{isFlyingZone, inZone, emptyField}
 use Rattle.field.specs.Lists.{every}
-use Rattle.bounds.specs.Bounds.{legalLegs}
-use Rattle.tick.specs.Tick.{tickedAircraft}
+use Rattle.questions.specs.declared.Place.{Place}
+use Rattle.questions.specs.Find.{placeOf}
 use Rattle.order.specs.Model.{Side, right}
 use Rattle.rules.specs.Step.{numberOf, stepOf}
 use Rattle.rules.specs.Play.{fieldAfter, played}
-use Rattle.demand.specs.Exact.{WholeLegs, inMiles, in64ths, ticksWith, ticksAfter, EachAircraft, Exact}
-use Rattle.field.proofs.Tests.{passed, decided, if-true, if-false, each-zone}
-use Rattle.field.proofs.Arrival.{progress-by}
-use Rattle.laws.proofs.Fits.{fits-parts}
-use Rattle.line.proofs.Line.{Placed, inside, fieldOf, empty-is}
-use Rattle.line.proofs.Counted.{in-line}
+use Rattle.demand.specs.Exact.{WholeLegs, inMiles, Flight, noFlight, ticking, entry, onward, flightWith, flightAfter, EachAircraft, Account, Exact}
+use Rattle.field.proofs.Tests.{decided, if-true, if-false}
+use Rattle.field.proofs.Lists.{alone}
+use Rattle.laws.proofs.TickLaws.{number-kept}
+use Rattle.line.proofs.Line.{Placed, numbersOf, inside, fieldOf, empty-is}
+use Rattle.line.proofs.Counted.{in-line, on-runway}
+use Rattle.line.proofs.Located.{zone-split, located, located-runway}
 use Rattle.line.proofs.Orderly.{Orderly}
 use Rattle.moves.proofs.Ticking.{tickPlaced}
 use Rattle.moves.proofs.Kept.{placedFits}
-use Rattle.moves.proofs.After.{Each}
-use Rattle.rules.proofs.StepLaws.{number-is, field-accepted, field-refused}
+use Rattle.moves.proofs.Carried.{Each, onRunway, Came, stayed, went, followed, came-in}
+use Rattle.moves.proofs.After.{zone-in}
+use Rattle.rules.proofs.StepLaws.{number-is, field-accepted, field-refused, input-of, zone-answered}
 use Rattle.moves.proofs.Outcomes.{Accepted, outcome}
 use Rattle.demand.proofs.Runs.{refusable-range}
 use Rattle.demand.proofs.Demand.{empty-orderly}
+use Rattle.demand.proofs.Flights.{legs-legal, Known, known-waiting, known-ticked, known-onward, known-along, known-entry}
 
--- ---- legs
-miles-are : (w : WholeLegs) (z : ℕ) → T (within 1 13 z) → T (isFlyingZone z) → legOf (inMiles w) z ≡ sixtyFourths (in64ths w z)
-unfolding isFlyingZone legOf
-miles-are w = each-zone (λ (z : ℕ). T (isFlyingZone z) → legOf (inMiles w) z ≡ sixtyFourths (in64ths w z)) ((λ u. absurd u), ((λ u. absurd u), ((λ u. absurd u), ((λ u. absurd u), ((λ u. absurd u), ((λ u. absurd u), ((λ u. refl), ((λ u. refl), ((λ u. refl), ((λ u. refl), ((λ u. refl), ((λ u. refl), ((λ u. absurd u), tt)))))))))))))
-
-leg-fits : (w : WholeLegs) (z : ℕ) → T (within 1 13 z) → Between 1 longestLeg (in64ths w z)
-leg-fits w = each-zone (λ (z : ℕ). Between 1 longestLeg (in64ths w z)) (w .final-fits, (w .final-fits, (w .final-fits, (w .final-fits, (w .final-fits, (w .final-fits, (w .missed-fits, (w .missed-fits, (w .base-fits, (w .base-fits, (w .intermediate-fits, (w .final-fits, (w .final-fits, tt)))))))))))))
-
-pub legs-legal : (w : WholeLegs) → T (legalLegs (inMiles w))
-unfolding legalLegs
-legs-legal w =
-    let m = legalLeg (sixtyFourths (w .missed-leg)) in
-    let b = legalLeg (sixtyFourths (w .base-leg)) in
-    let i = legalLeg (sixtyFourths (w .intermediate-leg)) in
-    let f = legalLeg (sixtyFourths (w .final-leg)) in
-    and-i (m && b && i) f (and-i (m && b) i (and-i m b (sixty-fourths-legal (w .missed-leg) (w .missed-fits)) (sixty-fourths-legal (w .base-leg) (w .base-fits))) (sixty-fourths-legal (w .intermediate-leg) (w .intermediate-fits))) (sixty-fourths-legal (w .final-leg) (w .final-fits))
-
--- ---- what is kept along the line, with the ticks of each number's leg
-abbrev Flown : WholeLegs → (ℕ → ℕ) → Placed → Type 0
-Flown w ticks e = T (isFlyingZone (e .zone)) → FlownExactly (e .aircraft .progress) (min (64 * in64ths w (e .zone)) (e .aircraft .speed * ticks (e .aircraft .number)))
-
--- a flying zone is one of 7 to 12
-zone-13 : (z : ℕ) → T (isFlyingZone z) → T (within 1 13 z)
-unfolding isFlyingZone
-zone-13 z t =
-    let l = leb→le 7 z (and-l (leb 7 z) (leb z 12) t) in
-    let h = leb→le z 12 (and-r (leb 7 z) (leb z 12) t) in
-    and-i (leb 1 z) (leb z 13) (le→leb 1 z (omega arith)) (le→leb z 13 (omega arith))
-
--- the ticks of another kind of count are as many
-flown-same : (w : WholeLegs) (s t : ℕ → ℕ) (e : Placed) → s (e .aircraft .number) ≡ t (e .aircraft .number) → Flown w s e → Flown w t e
-flown-same w s t e h p u = subst (λ (n : ℕ). FlownExactly (e .aircraft .progress) (min (64 * in64ths w (e .zone)) (e .aircraft .speed * n))) h (p u)
-
+-- ---- each one of a line
 each-map : (P Q : Placed → Type 0) (line : List Placed) → ((e : Placed) → P e → Q e) → Each P line → Each Q line
 each-map P Q [] h p = tt
 each-map P Q (e ∷ line) h p = (h e (p .0), each-map P Q line h (p .1))
 
+each-both : (P Q R : Placed → Type 0) (line : List Placed) → ((e : Placed) → P e → Q e → R e) → Each P line → Each Q line → Each R line
+each-both P Q R [] h p q = tt
+each-both P Q R (e ∷ line) h p q = (h e (p .0) (q .0), each-both P Q R line h (p .1) (q .1))
+
+-- one by the flight of its number
+abbrev KnownBy : WholeLegs → (ℕ → Flight) → Placed → Type 0
+KnownBy w s e = Known w (s (e .aircraft .number)) (e .zone) (e .aircraft)
+
+-- another account of the numbers that says the same of this one
+known-same : (w : WholeLegs) (s t : ℕ → Flight) (e : Placed) → s (e .aircraft .number) ≡ t (e .aircraft .number) → KnownBy w s e → KnownBy w t e
+known-same w s t e h p = subst (λ (x : Flight). Known w x (e .zone) (e .aircraft)) h p
+
 -- ---- a tick
-joined : (k s t a : ℕ) → min k (min k (s * t) + s * a) ≡ min k (s * (t + a))
-joined k s t a = let h = mul-add s t a in omega arith
+line-ticked : (w : WholeLegs) (amount : ℕ) → Between 1 longestTick amount → (s : ℕ → Flight) (line : List Placed) → T (every (placedFits (inMiles w)) line) → Each (KnownBy w s) line
+    → Each (KnownBy w (λ n. ticking (s n) amount)) (map (tickPlaced (inMiles w) amount) line)
+line-ticked w amount fits s [] t p = tt
+line-ticked w amount fits s (e ∷ line) t p =
+    let here = known-ticked w amount fits (s (e .aircraft .number)) (e .zone) (e .aircraft) (and-l (placedFits (inMiles w) e) (every (placedFits (inMiles w)) line) t) (p .0) in (
+      subst (λ (n : ℕ). Known w (ticking (s n) amount) (e .zone) (tickPlaced (inMiles w) amount e .aircraft)) (sym (number-kept (inMiles w) amount (e .zone) (e .aircraft))) here,
+      line-ticked w amount fits s line (and-r (placedFits (inMiles w) e) (every (placedFits (inMiles w)) line) t) (p .1),
+    )
 
-tick-flown : (w : WholeLegs) (amount : ℕ) → Between 1 longestTick amount → (ticks : ℕ → ℕ) (e : Placed) → T (placedFits (inMiles w) e) → Flown w ticks e → Flown w (λ n. ticks n + amount) (tickPlaced (inMiles w) amount e)
-unfolding tickedAircraft withProgress
-tick-flown w amount fits ticks e fit p u =
-    let a = e .aircraft in
-    let z = e .zone in
-    let k = in64ths w z in
-    let x = tickedAircraft (legOf (inMiles w) z) amount a in
-    let q : FlownExactly (progressAfter (a .progress) (a .speed) amount (sixtyFourths k)) (min (64 * k) (min (64 * k) (a .speed * ticks (a .number)) + a .speed * amount)) =
-    one-tick-exact (a .progress) k (min (64 * k) (a .speed * ticks (a .number))) (leg-fits w z (zone-13 z u)) (fits-parts (inMiles w) z a fit .speeds) fits (p u) in
-    let q₂ : FlownExactly (x .progress) (min (64 * k) (x .speed * (ticks (x .number) + amount))) =
-    subst (λ (n : ℕ). FlownExactly (progressAfter (a .progress) (a .speed) amount (legOf (inMiles w) z)) n) (joined (64 * k) (a .speed) (ticks (a .number)) amount)
-    (subst (λ l. FlownExactly (progressAfter (a .progress) (a .speed) amount l) (min (64 * k) (min (64 * k) (a .speed * ticks (a .number)) + a .speed * amount))) (sym (miles-are w z (zone-13 z u) u)) q) in
-    subst (λ (y : Aircraft). FlownExactly (y .progress) (min (64 * k) (y .speed * (ticks (y .number) + amount)))) (sym (if-true x a (passed {b = isFlyingZone z} u))) q₂
+runway-ticked : (w : WholeLegs) (amount : ℕ) (s : ℕ → Flight) (runway : List Aircraft) → Each (KnownBy w s) (map onRunway runway) → Each (KnownBy w (λ n. ticking (s n) amount)) (map onRunway runway)
+unfolding isFlyingZone
+runway-ticked w amount s [] p = tt
+runway-ticked w amount s (x ∷ runway) p = (known-waiting w amount (s (x .number)) 13 x refl (p .0), runway-ticked w amount s runway (p .1))
 
-line-ticked : (w : WholeLegs) (amount : ℕ) → Between 1 longestTick amount → (ticks : ℕ → ℕ) (line : List Placed) → T (every (placedFits (inMiles w)) line) → Each (Flown w ticks) line → Each (Flown w (λ n. ticks n + amount)) (map (tickPlaced (inMiles w) amount) line)
-line-ticked w amount fits ticks [] t p = tt
-line-ticked w amount fits ticks (e ∷ line) t p =
-    (tick-flown w amount fits ticks e (and-l (placedFits (inMiles w) e) (every (placedFits (inMiles w)) line) t) (p .0), line-ticked w amount fits ticks line (and-r (placedFits (inMiles w) e) (every (placedFits (inMiles w)) line) t) (p .1))
+-- ---- where each one is found
+module _ (f : Side) (line : List Placed) (runway : List Aircraft) (legs : Legs) (o : Orderly f line runway legs) where
+  abbrev Found : Placed → Type 0
+  Found e = placeOf (fieldOf f line runway legs) (e .aircraft .number) .zone ≡ e .zone
 
--- ---- any other accepted request: a leg begins at 0 miles
-begun : (w : WholeLegs) (ticks : ℕ → ℕ) (e : Placed) → e .aircraft .progress ≡ progressInto (e .zone) → ticks (e .aircraft .number) ≡ 0 → Flown w ticks e
-begun w ticks e h z u =
-    let p : e .aircraft .progress ≡ Flying (whole 0) = h ∙ progress-by (e .zone) (passed {b = isFlyingZone (e .zone)} u) in
-    let n : 0 ≡ min (64 * in64ths w (e .zone)) (e .aircraft .speed * ticks (e .aircraft .number)) = let m : e .aircraft .speed * ticks (e .aircraft .number) ≡ 0 = ap (λ (t : ℕ). e .aircraft .speed * t) z ∙ mul-zero (e .aircraft .speed) in omega arith in
-    subst (λ (q : Progress). FlownExactly q (min (64 * in64ths w (e .zone)) (e .aircraft .speed * ticks (e .aircraft .number)))) (sym p) (subst (FlownExactly (Flying (whole 0))) n zero-exact)
+  found-from : (a rest : List Placed) → line ≡ a ++ rest → Each Found rest
+  found-from a [] h = tt
+  found-from a (e ∷ b) h =
+      let there : Orderly f (a ++ e ∷ b) runway legs = subst (λ (l : List Placed). Orderly f l runway legs) h o in (
+        subst (λ (l : List Placed). placeOf (fieldOf f l runway legs) (e .aircraft .number) .zone ≡ e .zone) (sym h)
+            (ap (λ (p : Place). p .zone) (located f a e b runway legs (there .different) (zone-in f a e b runway legs there))),
+        found-from (a ++ (e ∷ [])) b (h ∙ sym (append-assoc a (e ∷ []) b)),
+      )
+
+  found-line : Each Found line
+  found-line = found-from [] line refl
+
+found-runway : (f : Side) (line : List Placed) (runway : List Aircraft) (legs : Legs) (o : Orderly f line runway legs) → Each (Found f line runway legs o) (map onRunway runway)
+found-runway f line [] legs o = tt
+found-runway f line (x ∷ []) legs o = (ap (λ (p : Place). p .zone) (located-runway f line x legs (alone (numbersOf line) (x .number) [] (o .different) .ahead)), tt)
+found-runway f line (x ∷ y ∷ rest) legs o = absurd (let h = o .one-landed in omega arith)
 
 -- ---- every list
-record Kept (w : WholeLegs) (g : Field) (ticks : ℕ → ℕ) (rs : List Request) : Type 0 where
+record Kept (w : WholeLegs) (g : Field) (s : ℕ → Flight) (rs : List Request) : Type 0 where
   first-then : Side
   line-then : List Placed
   runway-then : List Aircraft
   stands : fieldAfter g rs ≡ fieldOf first-then line-then runway-then (inMiles w)
-  orderly : Orderly first-then line-then runway-then (inMiles w)
-  flown : Each (Flown w (λ n. ticksAfter n (ticks n) (played g rs))) line-then
+  known-line : Each (KnownBy w (λ n. flightAfter w n (s n) (played g rs))) line-then
+  known-runway : Each (KnownBy w (λ n. flightAfter w n (s n) (played g rs))) (map onRunway runway-then)
 
-module _ (w : WholeLegs) (f : Side) (line : List Placed) (runway : List Aircraft) (o : Orderly f line runway (inMiles w)) (r : Request) (ticks : ℕ → ℕ) (p : Each (Flown w ticks) line) where
+module _ (w : WholeLegs) (f : Side) (line : List Placed) (runway : List Aircraft) (o : Orderly f line runway (inMiles w)) (r : Request) (s : ℕ → Flight) where
   abbrev F : Field
   F = fieldOf f line runway (inMiles w)
 
-  abbrev more : ℕ → ℕ
-  more n = ticksWith n (ticks n) (r, stepOf F r .answer)
+  abbrev zone : ℕ
+  zone = stepOf F r .answer .zone
 
-  refused-flown : (numberOf F r ≡ 0 → ⊥) → Each (Flown w more) line
-  refused-flown h =
-      let b : eqb (stepOf F r .answer .number) 0 ≡ false = ne-eqb (stepOf F r .answer .number) 0 (λ e. h (sym (number-is F r) ∙ e)) in
-      each-map (Flown w ticks) (Flown w more) line (λ e. flown-same w ticks more e (sym (ap (λ (c : Bool). cond (c && isTick (r .kind)) (ticks (e .aircraft .number) + r .amount) (cond (c && eqb (r .number) (e .aircraft .number)) 0 (ticks (e .aircraft .number)))) b))) p
+  abbrev more : ℕ → Flight
+  more n = flightWith w n (s n) (r, stepOf F r .answer)
+
+  abbrev by-name : ℕ → Flight
+  by-name n = cond (isEntry (r .kind)) (entry (r .amount) zone) (onward w (s n) zone)
+
+  -- the flight of a number after the request, by whether it is accepted
+  more-by : (n : ℕ) {b : Bool} → eqb (stepOf F r .answer .number) 0 ≡ b → more n ≡ cond (b && isTick (r .kind)) (ticking (s n) (r .amount)) (cond (b && eqb (r .number) n) (by-name n) (s n))
+  more-by n e = ap (λ (c : Bool). cond (c && isTick (r .kind)) (ticking (s n) (r .amount)) (cond (c && eqb (r .number) n) (by-name n) (s n))) e
+
+  refused-known : (numberOf F r ≡ 0 → ⊥) → (l : List Placed) → Each (KnownBy w s) l → Each (KnownBy w more) l
+  refused-known h l = each-map (KnownBy w s) (KnownBy w more) l (λ e. known-same w s more e (sym (more-by (e .aircraft .number) (ne-eqb (stepOf F r .answer .number) 0 (λ q. h (sym (number-is F r) ∙ q))))))
 
   module _ (a : Accepted f line runway (inMiles w) r) where
     b0 : eqb (stepOf F r .answer .number) 0 ≡ true
     b0 = eq-eqb (stepOf F r .answer .number) 0 (number-is F r ∙ a .number-0)
 
-    -- the count of a number after the request, by whether it is a tick and whether it names the number
-    more-is : (n : ℕ) → more n ≡ cond (isTick (r .kind)) (ticks n + r .amount) (cond (eqb (r .number) n) 0 (ticks n))
-    more-is n = ap (λ (c : Bool). cond (c && isTick (r .kind)) (ticks n + r .amount) (cond (c && eqb (r .number) n) 0 (ticks n))) b0
+    ticked-known : r .kind ≡ 12 → (l : List Placed) → Each (KnownBy w (λ n. ticking (s n) (r .amount))) l → Each (KnownBy w more) l
+    ticked-known h l =
+        each-map (KnownBy w (λ n. ticking (s n) (r .amount))) (KnownBy w more) l
+        (λ e. let n = e .aircraft .number in known-same w (λ n. ticking (s n) (r .amount)) more e (sym (more-by n b0 ∙ if-true (ticking (s n) (r .amount)) (cond (eqb (r .number) n) (by-name n) (s n)) (eq-eqb (r .kind) 12 h))))
 
-    by-tick : r .kind ≡ 12 → inputNumber r ≡ 0 → Each (Flown w more) (a .after .line-after)
-    by-tick h i =
-        let t = tick-known r i h in
-        let q = line-ticked w (r .amount) (record { least = t .amount-low; most = t .amount-high }) ticks line (o .fit-line) p in
-        subst (Each (Flown w more)) (sym (a .after .ticked-on h))
-        (each-map (Flown w (λ n. ticks n + r .amount)) (Flown w more) (map (tickPlaced (inMiles w) (r .amount)) line) (λ e. flown-same w (λ n. ticks n + r .amount) more e (sym (more-is (e .aircraft .number) ∙ if-true (ticks (e .aircraft .number) + r .amount) (cond (eqb (r .number) (e .aircraft .number)) 0 (ticks (e .aircraft .number))) (eq-eqb (r .kind) 12 h)))) q)
+    module _ (h : r .kind ≡ 12 → ⊥) where
+      -- the flight of a number after a request that is no tick
+      by-number : (n : ℕ) {b : Bool} → eqb (r .number) n ≡ b → more n ≡ cond b (by-name n) (s n)
+      by-number n e =
+          more-by n b0 ∙ if-false (ticking (s n) (r .amount)) (cond (eqb (r .number) n) (by-name n) (s n)) (ne-eqb (r .kind) 12 h)
+          ∙ ap (λ (b : Bool). cond b (by-name n) (s n)) e
 
-    by-other : (r .kind ≡ 12 → ⊥) → Each (Flown w more) (a .after .line-after)
-    by-other h =
-        let c : isTick (r .kind) ≡ false = ne-eqb (r .kind) 12 h in
-        let now : (n : ℕ) → more n ≡ cond (eqb (r .number) n) 0 (ticks n) = λ n. more-is n ∙ if-false (ticks n + r .amount) (cond (eqb (r .number) n) 0 (ticks n)) c in
-        a .after .carried h .carry (Flown w more)
-        (each-map (Flown w ticks) (λ (e : Placed). (e .aircraft .number ≡ r .number → ⊥) → Flown w more e) line
-        (λ e q d. flown-same w ticks more e (sym (now (e .aircraft .number) ∙ if-false 0 (ticks (e .aircraft .number)) (ne-eqb (r .number) (e .aircraft .number) (λ y. d (sym y))))) q) p)
-        (λ e q n. begun w more e q (now (e .aircraft .number) ∙ if-true 0 (ticks (e .aircraft .number)) (eq-eqb (r .number) (e .aircraft .number) (sym n))))
-        (λ e q u. absurd (false≢true (sym q ∙ passed {b = isFlyingZone (e .zone)} u)))
+      others : (n : ℕ) → (n ≡ r .number → ⊥) → s n ≡ more n
+      others n d = sym (by-number n (ne-eqb (r .number) n (λ q. d (sym q))))
 
-    pub accepted-flown : Each (Flown w more) (a .after .line-after)
-    accepted-flown = elim (decided (eqb (r .kind) 12)) [ inl e ↦ by-tick (eqb-true (r .kind) 12 e) (input-passed (a .number-0)) | inr e ↦ by-other (eqb-false (r .kind) 12 e) ]
-      where
-        input-passed : numberOf (fieldOf f line runway (inMiles w)) r ≡ 0 → inputNumber r ≡ 0
-        input-passed h = Rattle.rules.proofs.StepLaws.input-of (fieldOf f line runway (inMiles w)) r h
+      named : (n : ℕ) → n ≡ r .number → by-name n ≡ more n
+      named n d = sym (by-number n (eq-eqb (r .number) n (sym d)))
 
-exact-runs : (w : WholeLegs) (rs : List Request) (f : Side) (line : List Placed) (runway : List Aircraft) → Orderly f line runway (inMiles w) → (ticks : ℕ → ℕ) → Each (Flown w ticks) line → Kept w (fieldOf f line runway (inMiles w)) ticks rs
-exact-runs w [] f line runway o ticks p = record { first-then = f; line-then = line; runway-then = runway; stands = refl; orderly = o; flown = p }
-exact-runs w (r ∷ rs) f line runway o ticks p =
+      abbrev G : Field
+      G = fieldOf (a .after .first-after) (a .after .line-after) (a .after .runway-after) (inMiles w)
+
+      answered : (g : Placed) → g .aircraft .number ≡ r .number → placeOf G (g .aircraft .number) .zone ≡ g .zone → zone ≡ g .zone
+      answered g n p =
+          zone-answered F r (a .number-0) h ∙ ap (λ (k : Field). placeOf k (r .number) .zone) (a .after .effect) ∙ ap (λ (m : ℕ). placeOf G m .zone) (sym n) ∙ p
+
+      came : (g : Placed) → Came r (KnownBy w s) g → placeOf G (g .aircraft .number) .zone ≡ g .zone → KnownBy w more g
+      came g (stayed d p) q = known-same w s more g (others (g .aircraft .number) d) p
+      came g (went e p on n k) q =
+          let here = on .same-number ∙ n in
+          let known = known-onward w (s (e .aircraft .number)) zone e g p on (answered g here q) in
+          subst (λ (x : Flight). Known w x (g .zone) (g .aircraft))
+          (ap (λ (m : ℕ). onward w (s m) zone) (sym (on .same-number)) ∙ sym (if-false (entry (r .amount) zone) (onward w (s (g .aircraft .number)) zone) k) ∙ named (g .aircraft .number) here)
+          known
+      came g (followed e p on d i j) q =
+          subst (λ (x : Flight). Known w x (g .zone) (g .aircraft)) (ap s (sym (on .same-number)) ∙ others (g .aircraft .number) (λ n. d (sym (on .same-number) ∙ n))) (known-along w (s (e .aircraft .number)) e g p on i j)
+      came g (came-in v) q =
+          subst (λ (x : Flight). Known w x (g .zone) (g .aircraft)) (sym (if-true (entry (r .amount) zone) (onward w (s (g .aircraft .number)) zone) (v .an-entry)) ∙ named (g .aircraft .number) (v .new-number))
+          (known-entry w (r .amount) zone (g .zone) (g .aircraft) (v .new-speed) (v .none-waited) (v .not-flown) (answered g (v .new-number) q))
+
+  -- everyone after an accepted request
+  accepted-known : Each (KnownBy w s) line → Each (KnownBy w s) (map onRunway runway) → (a : Accepted f line runway (inMiles w) r) → Each (KnownBy w more) (a .after .line-after) × Each (KnownBy w more) (map onRunway (a .after .runway-after))
+  accepted-known p q a = elim (decided (eqb (r .kind) 12)) [ inl e ↦ by-tick (eqb-true (r .kind) 12 e) | inr e ↦ by-other (eqb-false (r .kind) 12 e) ]
+    where
+      by-tick : r .kind ≡ 12 → Each (KnownBy w more) (a .after .line-after) × Each (KnownBy w more) (map onRunway (a .after .runway-after))
+      by-tick h =
+          let t = tick-known r (input-of F r (a .number-0)) h in (
+            subst (Each (KnownBy w more)) (sym (a .after .ticked-on h)) (ticked-known a h (map (tickPlaced (inMiles w) (r .amount)) line) (line-ticked w (r .amount) (record { least = t .amount-low; most = t .amount-high }) s line (o .fit-line) p)),
+            subst (λ (l : List Aircraft). Each (KnownBy w more) (map onRunway l)) (sym (a .after .runway-on h)) (ticked-known a h (map onRunway runway) (runway-ticked w (r .amount) s runway q)),
+          )
+
+      by-other : (r .kind ≡ 12 → ⊥) → Each (KnownBy w more) (a .after .line-after) × Each (KnownBy w more) (map onRunway (a .after .runway-after))
+      by-other h =
+          let t = a .after in
+          let both = t .carried h .carry (KnownBy w s) p q in
+          let found = Found (t .first-after) (t .line-after) (t .runway-after) (inMiles w) (t .orderly) in (
+            each-both (Came r (KnownBy w s)) found (KnownBy w more) (t .line-after) (came a h) (both .0) (found-line (t .first-after) (t .line-after) (t .runway-after) (inMiles w) (t .orderly)),
+            each-both (Came r (KnownBy w s)) found (KnownBy w more) (map onRunway (t .runway-after)) (came a h) (both .1) (found-runway (t .first-after) (t .line-after) (t .runway-after) (inMiles w) (t .orderly)),
+          )
+
+exact-runs : (w : WholeLegs) (rs : List Request) (f : Side) (line : List Placed) (runway : List Aircraft) → Orderly f line runway (inMiles w) → (s : ℕ → Flight) → Each (KnownBy w s) line → Each (KnownBy w s) (map onRunway runway)
+    → Kept w (fieldOf f line runway (inMiles w)) s rs
+exact-runs w [] f line runway o s p q = record { first-then = f; line-then = line; runway-then = runway; stands = refl; known-line = p; known-runway = q }
+exact-runs w (r ∷ rs) f line runway o s p q =
     let g = fieldOf f line runway (inMiles w) in
-    let more : ℕ → ℕ = λ n. ticksWith n (ticks n) (r, stepOf g r .answer) in
-    let one-more : Kept w (stepOf g r .field) more rs → Kept w g ticks (r ∷ rs) =
-    λ k. record { first-then = k .first-then; line-then = k .line-then; runway-then = k .runway-then; stands = k .stands; orderly = k .orderly; flown = k .flown } in
+    let more : ℕ → Flight = λ n. flightWith w n (s n) (r, stepOf g r .answer) in
+    let one-more : Kept w (stepOf g r .field) more rs → Kept w g s (r ∷ rs) =
+    λ k. record { first-then = k .first-then; line-then = k .line-then; runway-then = k .runway-then; stands = k .stands; known-line = k .known-line; known-runway = k .known-runway } in
     elim (outcome f line runway (inMiles w) o r) [
       | inl a ↦
           let b = a .after in
           let e : stepOf g r .field ≡ fieldOf (b .first-after) (b .line-after) (b .runway-after) (inMiles w) = field-accepted g r (a .number-0) ∙ b .effect in
-          one-more (subst (λ (h : Field). Kept w h more rs) (sym e) (exact-runs w rs (b .first-after) (b .line-after) (b .runway-after) (b .orderly) more (accepted-flown w f line runway o r ticks p a)))
+          let both = accepted-known w f line runway o r s p q a in
+          one-more (subst (λ (h : Field). Kept w h more rs) (sym e) (exact-runs w rs (b .first-after) (b .line-after) (b .runway-after) (b .orderly) more (both .0) (both .1)))
       | inr t ↦
           let z = refusable-range (numberOf g r) t .0 in
           let e : stepOf g r .field ≡ g = field-refused g r z in
-          one-more (subst (λ (h : Field). Kept w h more rs) (sym e) (exact-runs w rs f line runway o more (refused-flown w f line runway o r ticks p z)))
+          one-more (subst (λ (h : Field). Kept w h more rs) (sym e) (exact-runs w rs f line runway o more (refused-known w f line runway o r s z line p) (refused-known w f line runway o r s z (map onRunway runway) q)))
     ]
 
 -- ---- by zone
-inside-each : (w : WholeLegs) (ticks : ℕ → ℕ) (z : ℕ) → T (isFlyingZone z) → (line : List Placed) → Each (Flown w ticks) line
-    → EachAircraft (λ a. FlownExactly (a .progress) (min (64 * in64ths w z) (a .speed * ticks (a .number)))) (inside z line)
-inside-each w ticks z t [] p = tt
-inside-each w ticks z t (e ∷ line) p = go (decided (eqb (e .zone) z)) (inside-each w ticks z t line (p .1))
-  where
-    go : (eqb (e .zone) z ≡ true) ⊎ (eqb (e .zone) z ≡ false) → EachAircraft (λ a. FlownExactly (a .progress) (min (64 * in64ths w z) (a .speed * ticks (a .number)))) (inside z line)
-        → EachAircraft (λ a. FlownExactly (a .progress) (min (64 * in64ths w z) (a .speed * ticks (a .number)))) (inside z (e ∷ line))
-    go (inl b) rest =
-        let q : e .zone ≡ z = eqb-true (e .zone) z b in
-        subst (EachAircraft (λ a. FlownExactly (a .progress) (min (64 * in64ths w z) (a .speed * ticks (a .number))))) (sym (if-true (e .aircraft ∷ inside z line) (inside z line) b))
-        (subst (λ (y : ℕ). FlownExactly (e .aircraft .progress) (min (64 * in64ths w y) (e .aircraft .speed * ticks (e .aircraft .number)))) q (p .0 (subst (λ (y : ℕ). T (isFlyingZone y)) (sym q) t)), rest)
-    go (inr b) rest = subst (EachAircraft (λ a. FlownExactly (a .progress) (min (64 * in64ths w z) (a .speed * ticks (a .number))))) (sym (if-false (e .aircraft ∷ inside z line) (inside z line) b)) rest
+module _ (w : WholeLegs) (s : ℕ → Flight) where
+  abbrev AccountIn : ℕ → Aircraft → Type 0
+  AccountIn z a = Account w (s (a .number)) z a
+
+  inside-each : (z : ℕ) (line : List Placed) → Each (KnownBy w s) line → EachAircraft (AccountIn z) (inside z line)
+  inside-each z [] p = tt
+  inside-each z (e ∷ line) p = go (decided (eqb (e .zone) z)) (inside-each z line (p .1))
+    where
+      go : (eqb (e .zone) z ≡ true) ⊎ (eqb (e .zone) z ≡ false) → EachAircraft (AccountIn z) (inside z line) → EachAircraft (AccountIn z) (inside z (e ∷ line))
+      go (inl b) rest =
+          subst (EachAircraft (AccountIn z)) (sym (if-true (e .aircraft ∷ inside z line) (inside z line) b))
+          (subst (λ (y : ℕ). AccountIn y (e .aircraft)) (eqb-true (e .zone) z b) (p .0 .account), rest)
+      go (inr b) rest = subst (EachAircraft (AccountIn z)) (sym (if-false (e .aircraft ∷ inside z line) (inside z line) b)) rest
+
+  runway-each : (runway : List Aircraft) → Each (KnownBy w s) (map onRunway runway) → EachAircraft (AccountIn 13) runway
+  runway-each [] p = tt
+  runway-each (x ∷ runway) p = (p .0 .account, runway-each runway (p .1))
 
 pub exactness : (w : WholeLegs) (rs : List Request) → Exact w rs
-unfolding isFlyingZone
-exactness w rs z t =
+exactness w rs =
     let g = emptyField (inMiles w) in
-    let k : Kept w g (λ n. 0) rs = subst (λ (h : Field). Kept w h (λ n. 0) rs) (sym (empty-is (inMiles w))) (exact-runs w rs right [] [] (empty-orderly (inMiles w) (legs-legal w)) (λ n. 0) tt) in
-    let u : T (within 1 12 z) = let l = leb→le 7 z (and-l (leb 7 z) (leb z 12) t) in let h = leb→le z 12 (and-r (leb 7 z) (leb z 12) t) in and-i (leb 1 z) (leb z 12) (le→leb 1 z (omega arith)) (le→leb z 12 h) in
-    subst (EachAircraft (λ a. FlownExactly (a .progress) (min (64 * in64ths w z) (a .speed * ticksAfter (a .number) 0 (played g rs)))))
-    (sym (ap (λ (h : Field). inZone h z) (k .stands) ∙ in-line (k .first-then) (k .line-then) (k .runway-then) (inMiles w) z u))
-    (inside-each w (λ n. ticksAfter n 0 (played g rs)) z t (k .line-then) (k .flown))
+    let none : ℕ → Flight = λ n. noFlight in
+    let k : Kept w g none rs = subst (λ (h : Field). Kept w h none rs) (sym (empty-is (inMiles w))) (exact-runs w rs right [] [] (empty-orderly (inMiles w) (legs-legal w)) none tt tt) in
+    let s : ℕ → Flight = λ n. flightAfter w n noFlight (played g rs) in
+    let In : ℕ → Type 0 = λ z. EachAircraft (AccountIn w s z) (inZone (fieldAfter g rs) z) in
+    zone-split {P = In}
+    (subst (EachAircraft (AccountIn w s 13)) (sym (ap (λ (h : Field). inZone h 13) (k .stands) ∙ on-runway (k .first-then) (k .line-then) (k .runway-then) (inMiles w))) (runway-each w s (k .runway-then) (k .known-runway)))
+    (λ z t. subst (EachAircraft (AccountIn w s z)) (sym (ap (λ (h : Field). inZone h z) (k .stands) ∙ in-line (k .first-then) (k .line-then) (k .runway-then) (inMiles w) z t)) (inside-each w s z (k .line-then) (k .known-line)))

@@ -1,4 +1,5 @@
 pub mod Runs
 pub mod Unstuck
 pub mod Demand
+pub mod Flights
 pub mod Exact

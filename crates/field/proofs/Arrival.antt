@@ -22,10 +22,15 @@ pub fix-arrived : (z : ℕ) (a : Aircraft) → arrived z a .fix ≡ a .fix
 unfolding arrived withProgress
 fix-arrived z a = refl
 
--- .. and its speed, ..
+-- .. its speed ..
 pub speed-arrived : (z : ℕ) (a : Aircraft) → arrived z a .speed ≡ a .speed
 unfolding arrived withProgress
 speed-arrived z a = refl
+
+-- .. and its miles waited, ..
+pub waited-arrived : (z : ℕ) (a : Aircraft) → arrived z a .waited ≡ a .waited
+unfolding arrived withProgress
+waited-arrived z a = refl
 
 -- .. and its progress is the zone's.
 pub progress-arrived : (z : ℕ) (a : Aircraft) → arrived z a .progress ≡ progressInto z

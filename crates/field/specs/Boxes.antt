@@ -87,9 +87,9 @@ isFlyingZone z = leb 7 z && leb z 12
 
 -- ---- queues
 
--- "Places past a length are all zero and waiting."
+-- "Places past a length are all zero and waiting.": a place as the empty field has it
 abbrev pub nobody : Aircraft
-nobody = record { number = 0; fix = 0; speed = 0; progress = Waiting }
+nobody = record { number = 0; fix = 0; speed = 0; progress = Waiting; waited = whole 0 }
 
 -- a zone at length 0
 abbrev pub emptyZone : Zone
@@ -125,21 +125,21 @@ orderLength s = length (orderOf s)
 unfoldable pub progressInto : ℕ → Progress
 progressInto z = cond (isFlyingZone z) (Flying (whole 0)) Waiting
 
--- an aircraft as it enters: waiting, in a holding or a lateral zone
+-- an aircraft as it enters: waiting, in a holding or a lateral zone, with no miles waited: they are added up "from entry to leaving" (02, 2.2)
 unfoldable pub entering : ℕ → ℕ → ℕ → Aircraft
-entering number fix speed = record { number = number; fix = fix; speed = speed; progress = Waiting }
+entering number fix speed = record { number = number; fix = fix; speed = speed; progress = Waiting; waited = whole 0 }
 
--- an aircraft with another progress
+-- an aircraft with another progress; all else stays, the miles waited too (02, 2.2)
 unfoldable pub withProgress : Aircraft → Progress → Aircraft
-withProgress a p = record { number = a .number; fix = a .fix; speed = a .speed; progress = p }
+withProgress a p = record { number = a .number; fix = a .fix; speed = a .speed; progress = p; waited = a .waited }
 
 -- an aircraft as it comes into zone z from another zone
 unfoldable pub arrived : ℕ → Aircraft → Aircraft
 arrived z a = withProgress a (progressInto z)
 
--- an aircraft with another fix
+-- an aircraft with another fix; all else stays, the miles waited too (02, 2.2)
 unfoldable pub withFix : Aircraft → ℕ → Aircraft
-withFix a fix = record { number = a .number; fix = fix; speed = a .speed; progress = a .progress }
+withFix a fix = record { number = a .number; fix = fix; speed = a .speed; progress = a .progress; waited = a .waited }
 
 -- ---- legs
 

@@ -59,6 +59,7 @@ pub fn nobody() -> Aircraft
         fix: 0,
         speed: 0,
         progress: Progress::Waiting,
+        waited: 0.0,
     }
 }
 
@@ -113,7 +114,7 @@ pub fn progress_into(zone: usize) -> Progress
     }
 }
 
-// An aircraft as it enters.
+// An aircraft as it enters, with nothing waited.
 pub fn entering(number: u16, fix: u8, speed: u16) -> Aircraft
     ensures { λ r. ⌜ r ≡ entering number fix speed ⌝ }
 {
@@ -122,10 +123,11 @@ pub fn entering(number: u16, fix: u8, speed: u16) -> Aircraft
         fix: fix,
         speed: speed,
         progress: Progress::Waiting,
+        waited: 0.0,
     }
 }
 
-// An aircraft with another progress.
+// An aircraft with another progress, and all else as it was.
 pub fn with_progress(a: Aircraft, p: Progress) -> Aircraft
     ensures { λ r. ⌜ r ≡ withProgress a p ⌝ }
 {
@@ -134,6 +136,7 @@ pub fn with_progress(a: Aircraft, p: Progress) -> Aircraft
         fix: a.fix,
         speed: a.speed,
         progress: p,
+        waited: a.waited,
     }
 }
 
@@ -144,7 +147,7 @@ pub fn arrived(zone: usize, a: Aircraft) -> Aircraft
     with_progress(a, progress_into(zone))
 }
 
-// An aircraft with another fix.
+// An aircraft with another fix, and all else as it was.
 pub fn with_fix(a: Aircraft, fix: u8) -> Aircraft
     ensures { λ r. ⌜ r ≡ withFix a fix ⌝ }
 {
@@ -154,6 +157,7 @@ pub fn with_fix(a: Aircraft, fix: u8) -> Aircraft
         fix: fix,
         speed: a.speed,
         progress: p,
+        waited: a.waited,
     }
 }
 

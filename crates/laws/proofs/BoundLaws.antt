@@ -5,6 +5,7 @@ use mathlib.Core.Bool.{not, _&&_}
 use Prim.Native.Nat.{ℕ, _≤_}
 use native.Mathlib.Omega.{arith}
 use lib.Dec.{T, eqb, leb, leb→le}
+use lib.Ieee.{eq, ofInt}
 use lib.Ieee.Fits.{and-i, and-l, and-r}
 use lib.ListN.{length, drop}
 use Rattle.field.specs.declared.Legs.{Legs}
@@ -20,7 +21,7 @@ use Rattle.field.proofs.Lists.{every-listed, zone-listed}
 
 -- The empty field is within the bounds exactly where its legs are legal.
 pub empty-within : (legs : Legs) → withinBounds (emptyField legs) ≡ legalLegs legs
-unfolding withinBounds boundA boundB boundC boundD boundE boundF boundG lateralRule numbersDiffer sequenceExact finalFirst isNobody zoneKept sequenceKept emptyField zoneOf queueOf inZone orderOf isSide howMany howManyWithFix presentOn inOperation inArea perFix
+unfolding withinBounds boundA boundB boundC boundD boundE boundF boundG lateralRule numbersDiffer sequenceExact finalFirst isNobody zoneKept sequenceKept emptyField zoneOf queueOf inZone orderOf isSide howMany howManyWithFix presentOn inOperation inArea perFix eq ofInt
 empty-within legs = refl
 
 -- The seven bounds, one by one: a field is within the bounds exactly where it is within each.

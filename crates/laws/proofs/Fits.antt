@@ -5,17 +5,18 @@ use mathlib.Core.Bool.{Bool, true, false, cond, not, _&&_, true≢false}
 use Prim.Native.Nat.{ℕ}
 use native.Mathlib.Omega.{arith}
 use lib.Dec.{T, leb, leb→le, le→leb}
+use lib.Ieee.{Float}
 use lib.Ieee.Fits.{and-i, and-l, and-r}
 use Rattle.limits.specs.Limits.{fastest}
-use Rattle.leg.specs.Progress.{legalLeg, withinLeg}
+use Rattle.leg.specs.Progress.{waitedWithin, legalLeg, withinLeg}
 use Rattle.leg.specs.Ticks.{Between}
 use Rattle.leg.specs.declared.Progress.{Progress}
-use Rattle.leg.proofs.Theorems.{zero-within}
+use Rattle.leg.proofs.Theorems.{zero-within, zero-waited}
 use Rattle.field.specs.declared.Aircraft.{Aircraft}
 use Rattle.field.specs.declared.Legs.{Legs}
 use Rattle.field.specs.Boxes.{isSide, isFlyingZone, entering, arrived, withFix, legOf}
 use Rattle.bounds.specs.Bounds.{isWaiting, fitsZone, legalLegs}
-use Rattle.field.proofs.Arrival.{progress-by, fix-arrived, speed-arrived, progress-arrived}
+use Rattle.field.proofs.Arrival.{progress-by, fix-arrived, speed-arrived, waited-arrived, progress-arrived}
 use Rattle.field.proofs.Tests.{pass, if-true, if-false, either-way, each-from}
 
 -- ---- an aircraft that fits its zone
@@ -24,6 +25,7 @@ use Rattle.field.proofs.Tests.{pass, if-true, if-false, either-way, each-from}
 pub record Fits (legs : Legs) (z : ℕ) (a : Aircraft) : Type 0 where
   pub side : T (isSide (a .fix))
   pub speeds : Between 1 fastest (a .speed)
+  pub waited : T (waitedWithin (a .waited))
   pub flies : isFlyingZone z ≡ true → T (not (isWaiting (a .progress)))
   pub along : isFlyingZone z ≡ true → T (withinLeg (a .progress) (legOf legs z))
   pub waits : isFlyingZone z ≡ false → T (isWaiting (a .progress))
@@ -31,6 +33,9 @@ pub record Fits (legs : Legs) (z : ℕ) (a : Aircraft) : Type 0 where
 module _ (legs : Legs) (z : ℕ) (a : Aircraft) where
   abbrev fast : Bool
   fast = leb 1 (a .speed) && leb (a .speed) fastest
+
+  abbrev numbers : Bool
+  numbers = isSide (a .fix) && fast
 
   abbrev flown : Bool
   flown = not (isWaiting (a .progress)) && withinLeg (a .progress) (legOf legs z)
@@ -42,13 +47,15 @@ module _ (legs : Legs) (z : ℕ) (a : Aircraft) where
   pub fits-parts : T (fitsZone legs z a) → Fits legs z a
   unfolding fitsZone
   fits-parts t =
-      let one = and-l (isSide (a .fix) && fast) progressed t in
-      let p = and-r (isSide (a .fix) && fast) progressed t in
+      let two = and-l (numbers && waitedWithin (a .waited)) progressed t in
+      let one = and-l numbers (waitedWithin (a .waited)) two in
+      let p = and-r (numbers && waitedWithin (a .waited)) progressed t in
       let s = and-r (isSide (a .fix)) fast one in
       let here : isFlyingZone z ≡ true → T flown = λ e. subst T (if-true flown (isWaiting (a .progress)) e) p in
       record {
         side = and-l (isSide (a .fix)) fast one;
         speeds = record { least = leb→le 1 (a .speed) (and-l (leb 1 (a .speed)) (leb (a .speed) fastest) s); most = leb→le (a .speed) fastest (and-r (leb 1 (a .speed)) (leb (a .speed) fastest) s) };
+        waited = and-r numbers (waitedWithin (a .waited)) two;
         flies = λ e. and-l (not (isWaiting (a .progress))) (withinLeg (a .progress) (legOf legs z)) (here e);
         along = λ e. and-r (not (isWaiting (a .progress))) (withinLeg (a .progress) (legOf legs z)) (here e);
         waits = λ e. subst T (if-false flown (isWaiting (a .progress)) e) p;
@@ -58,8 +65,10 @@ module _ (legs : Legs) (z : ℕ) (a : Aircraft) where
   pub fits-of : Fits legs z a → T (fitsZone legs z a)
   unfolding fitsZone
   fits-of p =
-      and-i (isSide (a .fix) && fast) progressed
+      and-i (numbers && waitedWithin (a .waited)) progressed
+      (and-i numbers (waitedWithin (a .waited))
       (and-i (isSide (a .fix)) fast (p .side) (and-i (leb 1 (a .speed)) (leb (a .speed) fastest) (le→leb 1 (a .speed) (p .speeds .least)) (le→leb (a .speed) fastest (p .speeds .most))))
+      (p .waited))
       (either-way (λ (b : Bool). T b) (isFlyingZone z) flown (isWaiting (a .progress)) (λ e. and-i (not (isWaiting (a .progress))) (withinLeg (a .progress) (legOf legs z)) (p .flies e) (p .along e)) (p .waits))
 
 -- The leg of a flying zone is legal where all legs are.
@@ -87,6 +96,7 @@ arrived-fits legs l from to a t =
     (record {
       side = subst (λ (s : ℕ). T (isSide s)) (sym (fix-arrived to a)) (p .side);
       speeds = subst (Between 1 fastest) (sym (speed-arrived to a)) (p .speeds);
+      waited = subst (λ (w : Float). T (waitedWithin w)) (sym (waited-arrived to a)) (p .waited);
       flies = λ e. subst (λ (q : Progress). T (not (isWaiting q))) (sym (progress-arrived to a ∙ progress-by to e)) tt;
       along = λ e. subst (λ (q : Progress). T (withinLeg q (legOf legs to))) (sym (progress-arrived to a ∙ progress-by to e)) (zero-within (legOf legs to) (leg-legal legs l to (pass e)));
       waits = λ e. subst (λ (q : Progress). T (isWaiting q)) (sym (progress-arrived to a ∙ progress-by to e)) tt;
@@ -99,7 +109,7 @@ pub refixed-fits : (legs : Legs) (z fix : ℕ) (a : Aircraft) → T (isSide fix)
 unfolding withFix
 refixed-fits legs z fix a s t =
     let p = fits-parts legs z a t in
-    fits-of legs z (withFix a fix) (record { side = s; speeds = p .speeds; flies = p .flies; along = p .along; waits = p .waits })
+    fits-of legs z (withFix a fix) (record { side = s; speeds = p .speeds; waited = p .waited; flies = p .flies; along = p .along; waits = p .waits })
 
 -- ---- an aircraft that enters
 
@@ -108,4 +118,4 @@ pub entering-fits : (legs : Legs) (z number fix speed : ℕ) → T (isSide fix) 
 unfolding entering
 entering-fits legs z number fix speed s r e =
     fits-of legs z (entering number fix speed)
-    (record { side = s; speeds = r; flies = λ u. absurd (true≢false (sym u ∙ e)); along = λ u. absurd (true≢false (sym u ∙ e)); waits = λ u. tt })
+    (record { side = s; speeds = r; waited = zero-waited; flies = λ u. absurd (true≢false (sym u ∙ e)); along = λ u. absurd (true≢false (sym u ∙ e)); waits = λ u. tt })

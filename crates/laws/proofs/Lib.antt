@@ -5,3 +5,4 @@ pub mod BoundLaws
 pub mod Alike
 pub mod Fits
 pub mod TickLaws
+pub mod SameQueues

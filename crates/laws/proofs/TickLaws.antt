@@ -9,20 +9,20 @@ use native.Mathlib.Numerals.{add-one}
 use native.Mathlib.Omega.{arith}
 use borrow.Author.Tests.{ltb-true, ltb-false}
 use lib.Dec.{T, eqb, leb, ltb}
-use lib.Ieee.{Float}
+use lib.Ieee.{Float, eq}
 use lib.Ieee.Fits.{and-i, and-l, and-r}
 use lib.ListN.{length, getD, take, drop, List·getD-eq-default}
 use Rattle.limits.specs.Limits.{longestTick}
-use Rattle.leg.specs.Progress.{progressAfter}
+use Rattle.leg.specs.Progress.{whole, progressAfter, waitedWith}
 use Rattle.leg.specs.Ticks.{Between, flying}
 use Rattle.leg.specs.declared.Progress.{Progress}
 use Rattle.leg.specs.declared.Progress.the-variants.{Waiting, Flying}
-use Rattle.leg.proofs.Theorems.{within-kept, flying-kept}
+use Rattle.leg.proofs.Theorems.{within-kept, waited-kept, flying-kept}
 use Rattle.field.specs.declared.Aircraft.{Aircraft}
 use Rattle.field.specs.declared.Zone.{Zone}
 use Rattle.field.specs.declared.Legs.{Legs}
 use Rattle.field.specs.declared.Field.{Field}
-use Rattle.field.specs.Boxes.{isSide, everywhere, isFlyingZone, emptyZone, zoneOf, queueOf, inZone, withProgress, legOf}
+use Rattle.field.specs.Boxes.{isSide, everywhere, isFlyingZone, emptyZone, zoneOf, queueOf, inZone, legOf}
 use Rattle.field.specs.Lists.{every}
 use Rattle.bounds.specs.Bounds.{isWaiting, isNobody, zoneKept, sequenceKept, boundE, fitsZone, legalLegs, boundG, withinBounds}
 use Rattle.tick.specs.Tick.{tickedAircraft, tickedZone, tickedFrom, ticked}
@@ -70,6 +70,14 @@ waiting-kept p speed amount leg = waits (progressAfter p speed amount leg) ∙ a
     waits Waiting = refl
     waits (Flying miles) = refl
 
+-- the numbers of an aircraft are 0
+abbrev zeros : Aircraft → Bool
+zeros a = eqb (a .number) 0 && eqb (a .fix) 0 && eqb (a .speed) 0
+
+never : (b : Bool) → (b && false) ≡ false
+never true = refl
+never false = refl
+
 abbrev pub tickedAt : Legs → ℕ → ℕ → Aircraft → Aircraft
 tickedAt legs amount z a = cond (isFlyingZone z) (tickedAircraft (legOf legs z) amount a) a
 
@@ -80,28 +88,32 @@ module _ (legs : Legs) (amount z : ℕ) where
 
   -- .. its number, ..
   pub number-kept : (a : Aircraft) → tickedAt legs amount z a .number ≡ a .number
-  unfolding tickedAircraft withProgress
+  unfolding tickedAircraft
   number-kept = tick-keeps numberOf (λ leg a. refl)
 
   -- .. its fix, ..
   pub fix-kept : (a : Aircraft) → tickedAt legs amount z a .fix ≡ a .fix
-  unfolding tickedAircraft withProgress
+  unfolding tickedAircraft
   fix-kept = tick-keeps fixOfOne (λ leg a. refl)
 
   -- .. and whether it is nobody.
   pub nobody-kept : (a : Aircraft) → isNobody (tickedAt legs amount z a) ≡ isNobody a
-  unfolding isNobody tickedAircraft withProgress
-  nobody-kept =
-      tick-keeps isNobody
-      (λ leg a. ap (λ (b : Bool). eqb (a .number) 0 && eqb (a .fix) 0 && eqb (a .speed) 0 && b) (waiting-kept (a .progress) (a .speed) amount leg))
+  unfolding isNobody tickedAircraft
+  nobody-kept = tick-keeps isNobody (λ leg a. go a (a .progress) leg)
+    where
+      -- where it waits nothing changes, and where it flies it is somebody before and after
+      go : (a : Aircraft) (p : Progress) (leg : Float)
+          → (zeros a && eq (waitedWith p (a .waited) (a .speed) amount leg) (whole 0) && isWaiting (progressAfter p (a .speed) amount leg)) ≡ (zeros a && eq (a .waited) (whole 0) && isWaiting p)
+      go a Waiting leg = refl
+      go a (Flying miles) leg = never (zeros a && eq (waitedWith (Flying miles) (a .waited) (a .speed) amount leg) (whole 0)) ∙ sym (never (zeros a && eq (a .waited) (whole 0)))
 
   -- ---- a zone after a tick
   empty-ticked : tickedIn legs amount z emptyZone ≡ emptyZone
-  unfolding tickedZone tickedAircraft withProgress
+  unfolding tickedZone tickedAircraft
   empty-ticked = either-way (λ q. q ≡ emptyZone) (isFlyingZone z) (tickedZone (legOf legs z) amount emptyZone) emptyZone (λ e. refl) (λ e. refl)
 
   -- its places, one by one
-  places-ticked : (q : Zone) → tickedIn legs amount z q .aircraft ≡ map (tickedAt legs amount z) (q .aircraft)
+  pub places-ticked : (q : Zone) → tickedIn legs amount z q .aircraft ≡ map (tickedAt legs amount z) (q .aircraft)
   unfolding tickedZone
   places-ticked q = go (isFlyingZone z)
     where
@@ -109,7 +121,7 @@ module _ (legs : Legs) (amount z : ℕ) where
       go true = refl
       go false = sym (map-id (q .aircraft))
 
-  length-kept : (q : Zone) → tickedIn legs amount z q .length ≡ q .length
+  pub length-kept : (q : Zone) → tickedIn legs amount z q .length ≡ q .length
   unfolding tickedZone
   length-kept q = either-way (λ r. r .length ≡ q .length) (isFlyingZone z) (tickedZone (legOf legs z) amount q) q (λ e. refl) (λ e. refl)
 
@@ -178,7 +190,7 @@ module _ (f : Field) (amount : ℕ) where
 
 -- Who fits its zone fits it after a tick.
 pub fits-ticked : (legs : Legs) (amount z : ℕ) → T (legalLegs legs) → Between 1 longestTick amount → (a : Aircraft) → T (fitsZone legs z a) → T (fitsZone legs z (tickedAt legs amount z a))
-unfolding tickedAircraft withProgress
+unfolding tickedAircraft
 fits-ticked legs amount z l r a h = either-way (λ x. T (fitsZone legs z x)) (isFlyingZone z) (tickedAircraft leg amount a) a flies (λ e. h)
   where
     leg : Float
@@ -191,6 +203,7 @@ fits-ticked legs amount z l r a h = either-way (λ x. T (fitsZone legs z x)) (is
         (record {
           side = p .side;
           speeds = p .speeds;
+          waited = waited-kept (a .progress) leg (a .waited) (leg-legal legs l z (pass e)) (p .speeds) r (p .along e) (p .waited);
           flies = λ u. subst (λ (b : Bool). T (not b)) (sym (waiting-kept (a .progress) (a .speed) amount leg)) (p .flies u);
           along = λ u. within-kept (a .progress) leg (leg-legal legs l z (pass u)) (p .speeds) r (p .along u);
           waits = λ u. absurd (true≢false (sym e ∙ u));

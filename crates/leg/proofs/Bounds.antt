@@ -69,11 +69,11 @@ miles-worth (fin true m e) leg p h k =
     (m0, ap (λ (x : ℕ). x * up e) m0 ∙ zero-mul (up e))
 
 -- ---- the miles stay within the leg
-clamped : (b : Bool) (leg x : Float) → lt x leg ≡ b → T (positive leg) → T (le (whole 0) x) → T (le (whole 0) (upTo leg x)) × T (le (upTo leg x) leg)
+pub clamped : (b : Bool) (leg x : Float) → lt x leg ≡ b → T (positive leg) → T (le (whole 0) x) → T (le (whole 0) (upTo leg x)) × T (le (upTo leg x) leg)
 clamped true leg x e p h = rw (upTo-yes leg x e) (h, lt→le x leg e)
 clamped false leg x e p h = rw (upTo-no leg x e) (zero-under leg p, le-self leg p)
 
-zero-least : (a c : ℕ) → 0 < c → T (le (whole 0) (round binary64 false a c))
+pub zero-least : (a c : ℕ) → 0 < c → T (le (whole 0) (round binary64 false a c))
 unfolding ofInt
 zero-least a c C = round-mono binary64 0 1 a c (lit< tt) C (le-trans (le-of-eq (zero-mul c)) zero-le)
 

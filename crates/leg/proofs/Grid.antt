@@ -14,7 +14,7 @@ use lib.Ieee.Order.{round-mono, le-of-values}
 use lib.Ieee.Scale.{round-same}
 use lib.Ieee.Positive.{positive-of-value, mul-at}
 use Rattle.limits.specs.Limits.{longestTick, fastest}
-use Rattle.leg.specs.Progress.{whole, sixtyFourths, milesFlown, upTo, advanced}
+use Rattle.leg.specs.Progress.{whole, sixtyFourths, milesFlown, upTo, flownSum, advanced}
 use Rattle.leg.specs.Ticks.{Between, Exactly, LegIn4096ths}
 use Rattle.leg.proofs.Floats.{Worth, value→worth, add-worth, div-at, dyadic, lt-of-values, lt-false, le-up}
 
@@ -27,6 +27,12 @@ parts-value n h = dyadic 12 n (lit≤ tt) h
 
 parts-mono : (m n : ℕ) → m ≤ n → T (le (parts m) (parts n))
 parts-mono m n h = round-mono binary64 m 4096 n 4096 (lit< tt) (lit< tt) (mul-le-mul-right 4096 h)
+
+-- the sum of two on the grid, rounded once
+pub add-grid : (x y : Float) (m n : ℕ) → Exactly x m → Exactly y n → add binary64 x y ≡ parts (m + n)
+add-grid x y m n h k =
+    let cross : (m * 4096 + n * 4096) * 4096 ≡ (m + n) * 16777216 = omega arith in
+    add-worth binary64 x y m 4096 n 4096 (lit< tt) (lit< tt) (value→worth x m 4096 h) k ∙ round-same binary64 false (m * 4096 + n * 4096) 16777216 (m + n) 4096 (lit< tt) (lit< tt) cross
 
 -- ---- whole numbers, and n / 64
 pub whole-value : (n : ℕ) → n ≤ 2 ^ 53 → HasValue (whole n) false n 1
@@ -55,7 +61,7 @@ pub upTo-no : (leg x : Float) → lt x leg ≡ false → upTo leg x ≡ leg
 upTo-no leg x e = ap (λ (t : Bool). cond t x leg) e
 
 -- n / 4096 miles, up to a leg of k / 4096
-upTo-grid : (leg : Float) (k n : ℕ) → LegIn4096ths leg k → Exactly (upTo leg (parts n)) (min k n)
+pub upTo-grid : (leg : Float) (k n : ℕ) → LegIn4096ths leg k → Exactly (upTo leg (parts n)) (min k n)
 upTo-grid leg k n r = go (decLe k n)
   where
     go : Dec (k ≤ n) → Exactly (upTo leg (parts n)) (min k n)
@@ -81,22 +87,23 @@ module _ {speed amount : ℕ} (s : Between 1 fastest speed) (a : Between 1 longe
   pub step-pos : 0 < speed * amount
   step-pos = mul-pos (s .least) (a .least)
 
-  step-small : speed * amount ≤ 32768
+  pub step-small : speed * amount ≤ 32768
   step-small = mul-le-mul (s .most) (a .most)
 
   -- from b / c miles: the sum b / c + speed * amount / 4096 is rounded once
+  pub sum-is : (miles : Float) (b c : ℕ) → 0 < c → Worth miles b c → flownSum miles speed amount ≡ round binary64 false (b * 4096 + speed * amount * c) (c * 4096)
+  sum-is miles b c C w =
+      ap (add binary64 miles) step-is
+      ∙ add-worth binary64 miles (parts (speed * amount)) b c (speed * amount) 4096 C (lit< tt) w (parts-value (speed * amount) (lt-of-le-of-lt step-small (lit< tt)))
+
   pub advanced-is : (miles leg : Float) (b c : ℕ) → 0 < c → Worth miles b c → advanced miles speed amount leg ≡ upTo leg (round binary64 false (b * 4096 + speed * amount * c) (c * 4096))
   unfolding advanced
-  advanced-is miles leg b c C w =
-      ap (λ (x : Float). upTo leg (add binary64 miles x)) step-is
-      ∙ ap (upTo leg) (add-worth binary64 miles (parts (speed * amount)) b c (speed * amount) 4096 C (lit< tt) step-pos w (parts-value (speed * amount) (lt-of-le-of-lt step-small (lit< tt))))
+  advanced-is miles leg b c C w = ap (upTo leg) (sum-is miles b c C w)
 
   -- from m / 4096 miles on a leg of k / 4096: nothing is rounded
+  pub sum-grid : (miles : Float) (m : ℕ) → Exactly miles m → flownSum miles speed amount ≡ parts (m + speed * amount)
+  sum-grid miles m h = ap (add binary64 miles) step-is ∙ add-grid miles (parts (speed * amount)) m (speed * amount) h (parts-value (speed * amount) (lt-of-le-of-lt step-small (lit< tt)))
+
   pub grid-tick : (miles leg : Float) (k m : ℕ) → LegIn4096ths leg k → Exactly miles m → Exactly (advanced miles speed amount leg) (min k (m + speed * amount))
-  grid-tick miles leg k m r h =
-      let n = speed * amount in
-      let cross : (m * 4096 + n * 4096) * 4096 ≡ (m + n) * 16777216 = omega arith in
-      let is : advanced miles speed amount leg ≡ upTo leg (parts (m + n)) =
-      advanced-is miles leg m 4096 (lit< tt) (value→worth miles m 4096 h)
-      ∙ ap (upTo leg) (round-same binary64 false (m * 4096 + n * 4096) 16777216 (m + n) 4096 (lit< tt) (lit< tt) cross) in
-      subst (λ (x : Float). Exactly x (min k (m + n))) (sym is) (upTo-grid leg k (m + n) r)
+  unfolding advanced
+  grid-tick miles leg k m r h = subst (λ (x : Float). Exactly x (min k (m + speed * amount))) (sym (ap (upTo leg) (sum-grid miles m h))) (upTo-grid leg k (m + speed * amount) r)

@@ -3,7 +3,7 @@
 -- The definitions are those of `specs/`. Nothing here asks that a leg or the miles be a value that an `f64` has: it holds of all that the definitions allow. Assumes nothing.
 use mathlib.Core.Path.{_≡_, refl, sym, subst}
 use mathlib.Core.List.{List, [], _∷_}
-use Prim.Native.Nat.{ℕ, _+_, _*_, _^_, _≤_, _<_, min}
+use Prim.Native.Nat.{ℕ, _+_, _-_, _*_, _^_, _≤_, _<_, min}
 use native.Mathlib.Nat.{le-trans, le-of-eq, mul-add, zero-add, one-mul, mul-le-mul}
 use native.Mathlib.Omega.{arith}
 use lib.ListN.{replicate}
@@ -12,15 +12,16 @@ use lib.Ieee.{Float, ofInt, le}
 use lib.Ieee.Fits.{and-i, and-l, and-r}
 use lib.Ieee.Order.{le-of-values}
 use lib.Ieee.Positive.{num, den}
-use Rattle.limits.specs.Limits.{longestTick, fastest, longestLeg, longestLegMiles}
+use Rattle.limits.specs.Limits.{longestTick, fastest, longestLeg, longestLegMiles, mostWaited}
 use Rattle.leg.specs.declared.Progress.{Progress}
 use Rattle.leg.specs.declared.Progress.the-variants.{Waiting, Flying}
-use Rattle.leg.specs.Progress.{whole, sixtyFourths, progressAfter, flownOut, withinLeg, legUpTo, legalLeg}
+use Rattle.leg.specs.Progress.{whole, sixtyFourths, progressAfter, waitedWith, waitedWithin, flownOut, withinLeg, legUpTo, legalLeg}
 use Rattle.leg.specs.Ticks.{Between, TickAmounts, addedUp, afterTicks, Exactly, LegIn4096ths, FlownExactly, finiteMiles, flying}
 use Rattle.leg.proofs.Floats.{eq-self, worth→finite}
 use Rattle.leg.proofs.Grid.{whole-value, sixtyFourths-value, sixtyFourths-exact, grid-tick}
 use Rattle.leg.proofs.Bounds.{leg-positive, zero-under, miles-worth, flying-within, end-kept}
 use Rattle.leg.proofs.Arrival.{arrives, added-same, all-same}
+use Rattle.leg.proofs.Waited.{waited-stays, waited-grid}
 
 -- ---- The beginning of a leg, and the legs of whole 4096ths and 64ths
 
@@ -37,6 +38,11 @@ zero-within-up-to most few leg l = and-i (le (whole 0) (whole 0)) (le (whole 0) 
 -- so within every legal leg.
 pub zero-within : (leg : Float) → T (legalLeg leg) → T (withinLeg (Flying (whole 0)) leg)
 zero-within = zero-within-up-to longestLegMiles (lit< tt)
+
+-- 0 miles waited are from 0 to the most.
+pub zero-waited : T (waitedWithin (whole 0))
+unfolding le ofInt
+zero-waited = tt
 
 -- A leg of exactly k / 4096 miles is one from 1/64 of a mile to `most` miles where k is from 64 to 4096 times as many.
 pub exact-up-to : (most : ℕ) → most < 2 ^ 41 → (leg : Float) (k : ℕ) → Exactly leg k → Between 64 (4096 * most) k → T (legUpTo most leg)
@@ -60,6 +66,12 @@ pub one-tick-exact-in-4096ths : (p : Progress) (leg : Float) (k m : ℕ) {speed 
     → FlownExactly (progressAfter p speed amount leg) (min k (m + speed * amount))
 one-tick-exact-in-4096ths Waiting leg k m r s a h = absurd h
 one-tick-exact-in-4096ths (Flying miles) leg k m r s a h = grid-tick s a miles leg k m r h
+
+-- With n / 4096 miles waited before it, exactly min (4096 * mostWaited) (n + (m + speed * amount - k)) / 4096 after it: what exceeds the leg is added.
+pub one-tick-waited-in-4096ths : (p : Progress) (leg waited : Float) (k m n : ℕ) {speed amount : ℕ} → LegIn4096ths leg k → Between 1 fastest speed → Between 1 longestTick amount → m < 2 ^ 52 → FlownExactly p m
+    → Exactly waited n → Exactly (waitedWith p waited speed amount leg) (min (4096 * mostWaited) (n + (m + speed * amount - k)))
+one-tick-waited-in-4096ths Waiting leg waited k m n r s a few h w = absurd h
+one-tick-waited-in-4096ths (Flying miles) leg waited k m n r s a few h w = waited-grid s a miles leg waited k m n r few h w
 
 -- Ticks one after the other, from m / 4096 miles: exactly min k (m + speed * their amounts added up) / 4096.
 pub ticks-exact-in-4096ths : (p : Progress) (leg : Float) (k m : ℕ) {speed : ℕ} (amounts : List ℕ) → LegIn4096ths leg k → Between 1 fastest speed → TickAmounts amounts → m ≤ k → FlownExactly p m
@@ -85,6 +97,11 @@ pub one-tick-exact : (p : Progress) (k m : ℕ) {speed amount : ℕ} → Between
     → FlownExactly (progressAfter p speed amount (sixtyFourths k)) (min (64 * k) (m + speed * amount))
 one-tick-exact p k m r = one-tick-exact-in-4096ths p (sixtyFourths k) (64 * k) m (sixty-fourths-in-4096ths k r)
 
+-- with min (4096 * mostWaited) (n + (m + speed * amount - 64 k)) / 4096 miles waited,
+pub one-tick-waited : (p : Progress) (waited : Float) (k m n : ℕ) {speed amount : ℕ} → Between 1 longestLeg k → Between 1 fastest speed → Between 1 longestTick amount → m ≤ 64 * k → FlownExactly p m → Exactly waited n
+    → Exactly (waitedWith p waited speed amount (sixtyFourths k)) (min (4096 * mostWaited) (n + (m + speed * amount - 64 * k)))
+one-tick-waited p waited k m n r s a few = one-tick-waited-in-4096ths p (sixtyFourths k) waited (64 * k) m n (sixty-fourths-in-4096ths k r) s a (omega arith)
+
 -- min (64 k) (m + speed * their amounts added up) / 4096 after ticks one after the other,
 pub ticks-exact : (p : Progress) (k m : ℕ) {speed : ℕ} (amounts : List ℕ) → Between 1 longestLeg k → Between 1 fastest speed → TickAmounts amounts → m ≤ 64 * k → FlownExactly p m
     → FlownExactly (afterTicks p speed amounts (sixtyFourths k)) (min (64 * k) (m + speed * addedUp amounts))
@@ -102,6 +119,12 @@ module _ (most : ℕ) (few : most < 2 ^ 41) where
       → T (withinLeg (progressAfter p speed amount leg) leg)
   within-kept-up-to Waiting leg l s a w = tt
   within-kept-up-to (Flying miles) leg l s a w = flying-within miles leg (leg-positive most few leg l) s a w
+
+  -- The miles waited stay between 0 and the most.
+  pub waited-kept-up-to : (p : Progress) (leg waited : Float) {speed amount : ℕ} → T (legUpTo most leg) → Between 1 fastest speed → Between 1 longestTick amount → T (withinLeg p leg) → T (waitedWithin waited)
+      → T (waitedWithin (waitedWith p waited speed amount leg))
+  waited-kept-up-to Waiting leg waited l s a w h = h
+  waited-kept-up-to (Flying miles) leg waited l s a w h = waited-stays s a miles leg waited (leg-positive most few leg l) (and-l (le (whole 0) miles) (le miles leg) w) (and-r (le (whole 0) miles) (le miles leg) w) h
 
   -- Flown out stays flown out.
   pub flown-out-kept-up-to : (p : Progress) (leg : Float) {speed amount : ℕ} → T (legUpTo most leg) → Between 1 fastest speed → Between 1 longestTick amount → T (flownOut p leg)
@@ -136,6 +159,11 @@ module _ (most : ℕ) (few : most < 2 ^ 41) where
 -- The same on every legal leg. Within the leg stays within the leg.
 pub within-kept : (p : Progress) (leg : Float) {speed amount : ℕ} → T (legalLeg leg) → Between 1 fastest speed → Between 1 longestTick amount → T (withinLeg p leg) → T (withinLeg (progressAfter p speed amount leg) leg)
 within-kept = within-kept-up-to longestLegMiles (lit< tt)
+
+-- The miles waited stay between 0 and the most.
+pub waited-kept : (p : Progress) (leg waited : Float) {speed amount : ℕ} → T (legalLeg leg) → Between 1 fastest speed → Between 1 longestTick amount → T (withinLeg p leg) → T (waitedWithin waited)
+    → T (waitedWithin (waitedWith p waited speed amount leg))
+waited-kept = waited-kept-up-to longestLegMiles (lit< tt)
 
 -- Flown out stays flown out.
 pub flown-out-kept : (p : Progress) (leg : Float) {speed amount : ℕ} → T (legalLeg leg) → Between 1 fastest speed → Between 1 longestTick amount → T (flownOut p leg) → T (flownOut (progressAfter p speed amount leg) leg)

@@ -1,8 +1,9 @@
 // An aircraft's progress along one leg, in miles as an `f64`. A tick of `amount` 64ths of a minute at
 // `speed` 64ths of a mile a minute adds (speed / 64) * (amount / 64) miles, and stops at the leg's length.
 // Every function is total: on every `u16`, and on every `f64`, NaN and the infinities included.
+use limits::MOST_WAITED;
 ghost use mathlib.Core.Path.{_≡_};
-ghost use Rattle.leg.specs.Progress.{advanced, progressAfter, flownOut, withinLeg, legalLeg, sixtyFourths};
+ghost use Rattle.leg.specs.Progress.{upTo, beyond, advancing, waitedAfter, waitedWithin, flownOut, withinLeg, legalLeg, sixtyFourths};
 
 // Document 01's progress: waiting, or flying with the miles flown on this leg.
 pub enum Progress {
@@ -10,22 +11,53 @@ pub enum Progress {
     Flying(f64),
 }
 
-// The miles flown after a tick: the product rounded once, the sum rounded once, and no more than the leg.
-pub fn advance(miles: f64, speed: u16, amount: u16, leg: f64) -> f64
-    ensures { λ r. ⌜ r ≡ advanced miles speed amount leg ⌝ }
+// What a tick yields of a flying aircraft: the miles flown after it, and the miles that it would have flown past the leg's end.
+pub struct Advanced {
+    pub miles: f64,
+    pub past: f64,
+}
+
+// The miles x, but no more than the limit.
+fn up_to(limit: f64, x: f64) -> f64
+    ensures { λ r. ⌜ r ≡ upTo limit x ⌝ }
+{
+    if x < limit { x } else { limit }
+}
+
+// What the miles x exceed the limit by, rounded once; 0 where they do not.
+fn beyond(limit: f64, x: f64) -> f64
+    ensures { λ r. ⌜ r ≡ beyond limit x ⌝ }
+{
+    if limit < x { x - limit } else { 0.0 }
+}
+
+// The miles flown after a tick, the product rounded once, the sum rounded once, and no more than the leg; and what the sum exceeds the leg by.
+pub fn advance(miles: f64, speed: u16, amount: u16, leg: f64) -> Advanced
+    ensures { λ r. ⌜ r ≡ advancing miles speed amount leg ⌝ }
 {
     let step = (speed as f64 / 64.0) * (amount as f64 / 64.0);
     let sum = miles + step;
-    if sum < leg { sum } else { leg }
+    Advanced {
+        miles: up_to(leg, sum),
+        past: beyond(leg, sum),
+    }
 }
 
-// The progress after a tick: an aircraft that waits goes on waiting.
-pub fn progress_after(p: Progress, speed: u16, amount: u16, leg: f64) -> Progress
-    ensures { λ r. ⌜ r ≡ progressAfter p speed amount leg ⌝ }
+// The miles waited with those past the end of a tick added, the sum rounded once, and no more than the most.
+pub fn waited_after(waited: f64, past: f64) -> f64
+    ensures { λ r. ⌜ r ≡ waitedAfter waited past ⌝ }
 {
-    match p {
-        Progress::Waiting => Progress::Waiting,
-        Progress::Flying(miles) => Progress::Flying(advance(miles, speed, amount, leg)),
+    up_to(MOST_WAITED, waited + past)
+}
+
+// Whether the miles waited lie from 0 to the most.
+pub fn waited_within(waited: f64) -> bool
+    ensures { λ r. ⌜ r ≡ waitedWithin waited ⌝ }
+{
+    if 0.0 <= waited {
+        waited <= MOST_WAITED
+    } else {
+        false
     }
 }
 

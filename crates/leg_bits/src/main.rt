@@ -1,11 +1,10 @@
 // Writes a line for each of some combinations of leg, speed, miles at the start and four tick amounts:
-// the leg, the speed and the start, then each amount with the miles after that tick, then 1 where the leg is flown out, else 0.
+// the leg, the speed, the start and the miles waited before, then each amount with the miles after that tick, those past the leg's end and the
+// miles waited, then 1 where the leg is flown out, else 0.
 // Miles are the 16 hexadecimal digits of the `f64`'s bit pattern, other numbers decimal. Where the start is not within the leg there is no line.
 use leg::Progress;
 use libc::STDOUT_FILENO;
-ghost use mathlib.Core.Path.{_≡_};
 ghost use Prim.Native.Nat.{_<_};
-ghost use Rattle.leg.specs.Progress.{progressAfter};
 
 // Speeds, in 64ths of a mile a minute.
 const SPEEDS: [u16; 12] = [1, 2, 3, 63, 64, 65, 127, 255, 256, 333, 511, 512];
@@ -46,6 +45,15 @@ fn start_of(i: usize, length: f64) -> f64 {
     }
 }
 
+// The miles waited before: 0, some off the grid of 4096ths, and some that the ticks take to the most.
+fn waited_of(i: usize) -> f64 {
+    match i {
+        0 => 0.0,
+        1 => 0.1,
+        _ => 4090.7,
+    }
+}
+
 // The amount of tick j of list number `list`.
 fn amount_of(list: usize, j: usize) -> u16
     requires { ⌜ j < 4 ⌝ }
@@ -62,59 +70,57 @@ fn print_miles(miles: f64) {
     }
 }
 
-// Writes the miles of someone flying, and a word for someone waiting.
-fn print_progress(p: Progress) {
-    match p {
-        Progress::Waiting => {
-            io::write_all(STDOUT_FILENO, b"waiting");
-        }
-        Progress::Flying(miles) => print_miles(miles),
-    }
+// Writes a space, and miles.
+fn print_next(miles: f64) {
+    io::write_all(STDOUT_FILENO, b" ");
+    print_miles(miles);
 }
 
-// Writes a tick amount and the progress after that tick, and yields that progress.
-fn tick(p: Progress, speed: u16, amount: u16, length: f64) -> Progress
-    ensures { λ r. ⌜ r ≡ progressAfter p speed amount length ⌝ }
-{
-    let after = leg::progress_after(p, speed, amount, length);
+// Writes a tick amount, the miles after that tick, those past the end and the miles waited.
+fn print_tick(amount: u16, miles: f64, past: f64, waited: f64) {
     io::write_all(STDOUT_FILENO, b" ");
     io::print_decimal(STDOUT_FILENO, amount as u64);
-    io::write_all(STDOUT_FILENO, b" ");
-    print_progress(after);
-    after
+    print_next(miles);
+    print_next(past);
+    print_next(waited);
 }
 
-// Writes the four ticks of one list of amounts, and yields the progress after them.
-fn ticks(start: Progress, speed: u16, list: usize, length: f64) -> Progress {
-    let mut p = start;
+// Writes the four ticks of one list of amounts, and yields the miles after them.
+fn ticks(start: f64, before: f64, speed: u16, list: usize, length: f64) -> f64 {
+    let mut miles = start;
+    let mut waited = before;
     for j in 0..4 {
-        p = tick(p, speed, amount_of(list, j), length);
+        let amount = amount_of(list, j);
+        let after = leg::advance(miles, speed, amount, length);
+        miles = after.miles;
+        waited = leg::waited_after(waited, after.past);
+        print_tick(amount, miles, after.past, waited);
     }
-    p
+    miles
 }
 
 // Writes the line of one combination.
-fn line(length: f64, speed: u16, start: f64, list: usize) {
+fn line(length: f64, speed: u16, start: f64, before: f64, list: usize) {
     print_miles(length);
     io::write_all(STDOUT_FILENO, b" ");
     io::print_decimal(STDOUT_FILENO, speed as u64);
-    io::write_all(STDOUT_FILENO, b" ");
-    print_miles(start);
-    let end = ticks(Progress::Flying(start), speed, list, length);
-    if leg::flown_out(end, length) {
+    print_next(start);
+    print_next(before);
+    let end = ticks(start, before, speed, list, length);
+    if leg::flown_out(Progress::Flying(end), length) {
         io::write_all(STDOUT_FILENO, b" 1\n");
     } else {
         io::write_all(STDOUT_FILENO, b" 0\n");
     }
 }
 
-// Writes the line of combination i: the start changes first, then the speed, then the leg. The tick amounts change with each.
+// Writes the line of combination i: the start changes first, then the speed, then the leg. The tick amounts and the miles waited before change with each.
 fn combination(i: usize) {
     let length = length_of(i / 72);
     let speed = SPEEDS[i / 6 % 12];
     let start = start_of(i % 6, length);
     if leg::within(Progress::Flying(start), length) {
-        line(length, speed, start, i % 7);
+        line(length, speed, start, waited_of(i % 3), i % 7);
     }
 }
 

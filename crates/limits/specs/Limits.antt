@@ -1,4 +1,4 @@
--- The limits of document 01 that several definitions and theorems speak of, each by one name. The words in quotes are those of document 01, and the section is named where the words stand in it.
+-- The limits of documents 01 and 02 that several definitions and theorems speak of, each by one name. The words in quotes are those of document 01, and the section is named where the words stand in it.
 use Prim.Native.Nat.{ℕ}
 
 -- "4 amount: 1 to 64 for a tick" ("Turned away by the request or the file"): the longest tick, in 64ths of a minute
@@ -24,3 +24,7 @@ mostRequests = 4096
 -- "The 29 holds for every list that goes on from there" ("Any list of requests"): the most moves without an accepted request of kind 1, 2 or 10
 abbrev pub mostMoves : ℕ
 mostMoves = 29
+
+-- the most miles past the ends of legs that are added up of an aircraft (02, 2.2)
+abbrev pub mostWaited : ℕ
+mostWaited = 4096

@@ -1,4 +1,4 @@
-// The limits of document 01 that the code compares with, by the names and numbers of `specs/Limits.antt`.
+// The limits of documents 01 and 02 that the code compares with, by the names and numbers of `specs/Limits.antt`.
 
 // The longest tick, in 64ths of a minute.
 pub const LONGEST_TICK: u16 = 64;
@@ -8,3 +8,6 @@ pub const FASTEST: u16 = 512;
 
 // The longest leg of a practice file, in 64ths of a mile.
 pub const LONGEST_LEG: u16 = 4096;
+
+// The most miles past the ends of legs that are added up of an aircraft.
+pub const MOST_WAITED: f64 = 4096.0;

@@ -8,6 +8,7 @@ use Prim.Native.Nat.{ℕ, suc, _+_, _≤_}
 use native.Mathlib.Omega.{arith}
 use lib.Dec.{T, eqb, eqb→eq}
 use lib.ListN.{length}
+use lib.Ieee.{eq, ofInt}
 use lib.Ieee.Fits.{and-i, and-l, and-r}
 use borrow.Author.Tests.{eq-eqb, eqb-true}
 use Rattle.request.specs.Input.{within}
@@ -49,7 +50,7 @@ every-same p q (z ∷ zs) t e =
 
 -- ---- a queue and a sequence of at most four are kept as arrays should be
 pub kept-for : (xs : List Aircraft) → length xs ≤ 4 → T (zoneKept (zoneFor xs))
-unfolding zoneKept isNobody
+unfolding zoneKept isNobody eq ofInt
 kept-for [] h = tt
 kept-for (x ∷ []) h = tt
 kept-for (x ∷ y ∷ []) h = tt

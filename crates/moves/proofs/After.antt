@@ -1,56 +1,35 @@
 -- What an accepted request leaves behind, said of the order that the field stands for; and the moves of the line that are made of it.
 -- Assumes nothing.
 use mathlib.Core.Path.{_≡_, sym, ap, _∙_, subst}
-use mathlib.Core.Bool.{Bool, true, false, not, _&&_, _||_, true≢false}
-use mathlib.Core.List.{List, [], _∷_, _++_, map}
+use mathlib.Core.Bool.{Bool, true, false, not, _&&_, _||_}
+use mathlib.Core.List.{List, _∷_, _++_, map}
 use Prim.Native.Nat.{ℕ, _+_, _≤_}
 use native.Mathlib.Omega.{arith}
 use lib.Dec.{T, eqb}
 use lib.ListN.{length}
 use lib.Ieee.Fits.{and-l, and-r}
-use borrow.Author.Tests.{eq-eqb}
 use Rattle.request.specs.Input.{within, isEntry}
 use Rattle.request.specs.declared.Request.{Request}
 use Rattle.field.specs.declared.Aircraft.{Aircraft}
 use Rattle.field.specs.declared.Legs.{Legs}
-use Rattle.field.specs.Boxes.{isFlyingZone, progressInto}
-use Rattle.field.specs.Lists.{isIn, every, allDifferent}
+use Rattle.field.specs.Lists.{every}
 use Rattle.order.specs.Model.{Side, free, Kind, needs, target, okay, weight, one}
 use Rattle.order.proofs.Facts.{okay-length, okay-zones, moves}
 use Rattle.rules.specs.Kinds.{moved}
 use Rattle.rules.specs.Step.{effectOf}
 use Rattle.rules.specs.Play.{addsMoves}
 use Rattle.field.proofs.Tests.{failed}
-use Rattle.field.proofs.Lists.{or-false-left, or-false-right, absent-left, Alone, alone}
-use Rattle.field.proofs.Arrival.{number-arrived, fix-arrived, progress-arrived}
+use Rattle.field.proofs.Arrival.{number-arrived, fix-arrived}
 use Rattle.laws.proofs.Fits.{arrived-fits}
 use Rattle.line.proofs.Lists.{map-append}
-use Rattle.line.proofs.Line.{Placed, zonesIn, numbersOf, inside, fieldOf}
+use Rattle.line.proofs.Line.{Placed, zonesIn, inside, fieldOf}
 use Rattle.line.proofs.Counted.{free-inside}
-use Rattle.questions.proofs.FindLaws.{numbers}
-use Rattle.line.proofs.Located.{numbers-split}
 use Rattle.line.proofs.Leaders.{all-at}
 use Rattle.line.proofs.Orderly.{Orderly, length-zones}
 use Rattle.moves.proofs.Moves.{into, MayMove, moved-line, same-length}
 use Rattle.moves.proofs.Ticking.{tickPlaced}
 use Rattle.moves.proofs.Kept.{changed, placedFits}
-
--- ---- what holds of each one of a line
-abbrev pub Each : (Placed → Type 0) → List Placed → Type 0
-Each P [] = Unit {0}
-Each P (e ∷ line) = P e × Each P line
-
-pub each-append : (P : Placed → Type 0) (a b : List Placed) → Each P a → Each P b → Each P (a ++ b)
-each-append P [] b p q = q
-each-append P (e ∷ a) b p q = (p .0, each-append P a b (p .1) q)
-
-pub each-left : (P : Placed → Type 0) (a b : List Placed) → Each P (a ++ b) → Each P a
-each-left P [] b p = tt
-each-left P (e ∷ a) b p = (p .0, each-left P a b (p .1))
-
-pub each-right : (P : Placed → Type 0) (a b : List Placed) → Each P (a ++ b) → Each P b
-each-right P [] b p = p
-each-right P (e ∷ a) b p = each-right P a b (p .1)
+use Rattle.moves.proofs.Carried.{onward-into, Carried, carried-one}
 
 -- ---- after an accepted request
 
@@ -62,16 +41,6 @@ leaves kind = eqb kind 8 || eqb kind 9
 abbrev pub weightOf : List Placed → List Aircraft → ℕ
 weightOf line runway = weight (zonesIn line) + length runway
 
--- P holds of each one with another number
-abbrev pub Others : ℕ → (Placed → Type 0) → List Placed → Type 0
-Others n P line = Each (λ (e : Placed). (e .aircraft .number ≡ n → ⊥) → P e) line
-
--- what is shown of each one after a request that names the aircraft n: of those with other numbers, which stay as they were or are in a
--- zone that is not flown in; and of those that have just come into their zone
-pub record Carried (n : ℕ) (before line : List Placed) : Type 1 where
-  pub carry : (P : Placed → Type 0) → Others n P before → ((e : Placed) → e .aircraft .progress ≡ progressInto (e .zone) → e .aircraft .number ≡ n → P e)
-      → ((e : Placed) → isFlyingZone (e .zone) ≡ false → P e) → Each P line
-
 pub record After (f : Side) (line : List Placed) (runway : List Aircraft) (legs : Legs) (r : Request) : Type 1 where
   pub first-after : Side
   pub line-after : List Placed
@@ -80,31 +49,9 @@ pub record After (f : Side) (line : List Placed) (runway : List Aircraft) (legs 
   pub orderly : Orderly first-after line-after runway-after legs
   pub balance : length line-after + length runway-after + one (leaves (r .kind)) ≡ length line + length runway + one (isEntry (r .kind))
   pub lighter : addsMoves (r .kind) ≡ false → weightOf line-after runway-after + one (within 3 11 (r .kind)) ≤ weightOf line runway
-  pub carried : (r .kind ≡ 12 → ⊥) → Carried (r .number) line line-after
+  pub carried : (r .kind ≡ 12 → ⊥) → Carried r line runway line-after runway-after
   pub ticked-on : r .kind ≡ 12 → line-after ≡ map (tickPlaced legs (r .amount)) line
-
--- those with other numbers than n, where n is not in the line
-pub others-all : (n : ℕ) (P : Placed → Type 0) (line : List Placed) → isIn n (numbersOf line) ≡ false → Others n P line → Each P line
-others-all n P [] h p = tt
-others-all n P (e ∷ line) h p =
-    let k = or-false-left (eqb (e .aircraft .number) n) (isIn n (numbersOf line)) h in
-    (p .0 (λ q. true≢false (sym (eq-eqb (e .aircraft .number) n q) ∙ k)), others-all n P line (or-false-right (eqb (e .aircraft .number) n) (isIn n (numbersOf line)) h) (p .1))
-
--- one of a line of different numbers
-pub apart-in : (a : List Placed) (e : Placed) (b : List Placed) (runway : List Aircraft) → T (allDifferent (numbersOf (a ++ e ∷ b) ++ numbers runway)) → Alone (e .aircraft .number) (numbersOf a) (numbersOf b ++ numbers runway)
-apart-in a e b runway d = alone (numbersOf a) (e .aircraft .number) (numbersOf b ++ numbers runway) (subst (λ (l : List ℕ). T (allDifferent l)) (numbers-split a e b (numbers runway)) d)
-
--- one of the line has come into another zone
-pub carried-one : (n : ℕ) (a : List Placed) (e g : Placed) (b : List Placed) (runway : List Aircraft) → T (allDifferent (numbersOf (a ++ e ∷ b) ++ numbers runway)) → n ≡ e .aircraft .number
-    → g .aircraft .number ≡ n → g .aircraft .progress ≡ progressInto (g .zone) → Carried n (a ++ e ∷ b) (a ++ g ∷ b)
-carried-one n a e g b runway d h k p =
-    let al = apart-in a e b runway d in
-    record {
-      carry =
-          λ P others come idle.
-          each-append P a (g ∷ b) (others-all n P a (ap (λ (m : ℕ). isIn m (numbersOf a)) h ∙ al .ahead) (each-left (λ (x : Placed). (x .aircraft .number ≡ n → ⊥) → P x) a (e ∷ b) others))
-          (come g p k, others-all n P b (ap (λ (m : ℕ). isIn m (numbersOf b)) h ∙ absent-left (e .aircraft .number) (numbersOf b) (numbers runway) (al .behind)) (each-right (λ (x : Placed). (x .aircraft .number ≡ n → ⊥) → P x) a (e ∷ b) others .1));
-    }
+  pub runway-on : r .kind ≡ 12 → runway-after ≡ runway
 
 -- a kind that moves an aircraft from zone to zone: no entry, no taxi, no exit
 abbrev pub staysOn : ℕ → Bool
@@ -178,8 +125,9 @@ module _ (f : Side) (a : List Placed) (e : Placed) (b : List Placed) (runway : L
             let l = m .lighter in
             let u = one-le (within 3 11 (r .kind)) in
             omega arith;
-        carried = λ h. carried-one (r .number) a e (into w e) b runway (o .different) named (number-arrived w (e .aircraft) ∙ sym named) (progress-arrived w (e .aircraft));
+        carried = λ h. carried-one r a e (into w e) b runway (o .different) named (failed (and-r (not (leaves (r .kind))) (not (isEntry (r .kind))) s)) (onward-into w e);
         ticked-on = λ h. absurd (tick h);
+        runway-on = λ h. absurd (tick h);
       }
     where
       stay-balance : (r : Request) → T (staysOn (r .kind)) → {m n : ℕ} → m ≡ n → m + length runway + one (leaves (r .kind)) ≡ n + length runway + one (isEntry (r .kind))

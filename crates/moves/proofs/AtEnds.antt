@@ -21,10 +21,10 @@ use Rattle.order.proofs.Facts.{okay-length, first-leaves, misses, exit-lighter,
 use Rattle.rules.specs.Step.{effectOf}
 use Rattle.rules.specs.Kinds.{entered}
 use Rattle.rules.specs.Play.{addsMoves}
-use Rattle.field.proofs.Arrival.{number-arrived, progress-arrived}
+use Rattle.field.proofs.Arrival.{number-arrived}
 use Rattle.laws.proofs.Fits.{arrived-fits, refixed-fits, entering-fits}
 use Rattle.field.proofs.Tests.{passed, failed, fail}
-use Rattle.field.proofs.Lists.{absent-left}
+use Rattle.field.proofs.Lists.{absent-left, absent-right}
 use Rattle.line.proofs.Line.{Placed, zonesIn, numbersOf, fieldOf}
 use Rattle.questions.proofs.FindLaws.{numbers}
 use Rattle.line.proofs.Leaders.{nonzero}
@@ -33,7 +33,8 @@ use Rattle.moves.proofs.Leaves.{taxied, first-exits, first-lands}
 use Rattle.moves.proofs.Enters.{entryFix, entrant, enters, misser, misses-approach}
 use Rattle.moves.proofs.Ticking.{tickPlaced, ticks, zones-same}
 use Rattle.moves.proofs.Kept.{side-fits, first-gone, landed-on, runway-left, come, ticked-orderly}
-use Rattle.moves.proofs.After.{Each, each-append, After, Carried, Others, others-all, apart-in, leaves, one-le, zone-in, room-for, fit-here}
+use Rattle.moves.proofs.Carried.{Each, each-append, onRunway, Onward, onward-into, Entered, Came, went, came-in, stay-all, stay-runway, apart-in}
+use Rattle.moves.proofs.After.{After, leaves, one-le, zone-in, room-for, fit-here}
 use Rattle.rules.proofs.Checks.{effect-at}
 
 -- ---- the first of the line leaves the sequence
@@ -47,13 +48,15 @@ module _ (f : Side) (e : Placed) (b : List Placed) (runway : List Aircraft) (leg
   rest-okay : T (okay (opp f) (zonesIn b))
   rest-okay = first-leaves f (e .zone) (zonesIn b) (o .okay-line)
 
-  -- those behind it stay as they are
-  behind-all : (P : Placed → Type 0) → Others (r .number) P (e ∷ b) → Each P b
-  behind-all P others =
-      others-all (r .number) P b (ap (λ (m : ℕ). isIn m (numbersOf b)) named ∙ absent-left (e .aircraft .number) (numbersOf b) (numbers runway) (apart-in [] e b runway (o .different) .behind)) (others .1)
+  -- the others of the line and of the runway stay where they are
+  behind-absent : isIn (r .number) (numbersOf b ++ numbers runway) ≡ false
+  behind-absent = ap (λ (m : ℕ). isIn m (numbersOf b ++ numbers runway)) named ∙ apart-in [] e b runway (o .different) .behind
 
-  carried-behind : Carried (r .number) (e ∷ b) b
-  carried-behind = record { carry = λ P others come idle. behind-all P others }
+  behind-all : (Q : Placed → Type 0) → Each Q (e ∷ b) → Each (Came r Q) b
+  behind-all Q p = stay-all r Q b (absent-left (r .number) (numbersOf b) (numbers runway) behind-absent) (p .1)
+
+  runway-all : (Q : Placed → Type 0) → Each Q (map onRunway runway) → Each (Came r Q) (map onRunway runway)
+  runway-all Q = stay-runway r Q runway (absent-right (r .number) (numbersOf b) (numbers runway) behind-absent)
 
   -- kind 9
   pub after-9 : r .kind ≡ 9 → e .zone ≡ 11 → After f (e ∷ b) runway legs r
@@ -66,8 +69,9 @@ module _ (f : Side) (e : Placed) (b : List Placed) (runway : List Aircraft) (leg
         orderly = first-gone f e b runway legs o rest-okay;
         balance = subst (λ (k : ℕ). length b + length runway + one (leaves k) ≡ suc (length b) + length runway + one (isEntry k)) (sym h) (omega arith);
         lighter = λ u. let w = exit-lighter f (e .zone) (zonesIn b) z (o .okay-line) in let x = one-le (within 3 11 (r .kind)) in omega arith;
-        carried = λ u. carried-behind;
+        carried = λ u. record { carry = λ Q p q. (behind-all Q p, runway-all Q q) };
         ticked-on = λ u. absurd (let n : 12 ≡ 9 = sym u ∙ h in omega arith);
+        runway-on = λ u. absurd (let n : 12 ≡ 9 = sym u ∙ h in omega arith);
       }
 
   -- kind 10
@@ -92,8 +96,12 @@ module _ (f : Side) (e : Placed) (b : List Placed) (runway : List Aircraft) (leg
             (refixed-fits legs w (num (entryFix f (opp f) (zonesIn b))) (arrived w (e .aircraft)) (side-fits (entryFix f (opp f) (zonesIn b))) (arrived-fits legs (o .legal) (e .zone) w (e .aircraft) (fit-here f [] e b runway legs o)));
         balance = let p = length-append b (g ∷ []) in subst (λ (k : ℕ). length (b ++ (g ∷ [])) + length runway + one (leaves k) ≡ suc (length b) + length runway + one (isEntry k)) (sym h) (omega arith);
         lighter = λ u. absurd (true≢false (ap addsMoves (sym h) ∙ u));
-        carried = λ u. record { carry = λ P others arrive idle. each-append P b (g ∷ []) (behind-all P others) (arrive g (progress-arrived w (e .aircraft)) (same ∙ sym named), tt) };
+        carried =
+            let on = onward-into w e in
+            let to : Onward e g = record { same-number = on .same-number; same-speed = on .same-speed; same-waited = on .same-waited; begins = on .begins } in
+            λ u. record { carry = λ Q p q. (each-append (Came r Q) b (g ∷ []) (behind-all Q p) (went e (p .0) to (sym named) (ap isEntry h), tt), runway-all Q q) };
         ticked-on = λ u. absurd (let n : 12 ≡ 10 = sym u ∙ h in omega arith);
+        runway-on = λ u. absurd (let n : 12 ≡ 10 = sym u ∙ h in omega arith);
       }
 
 -- kind 7
@@ -114,8 +122,9 @@ after-7 f e b legs o r named h z =
           (arrived-fits legs (o .legal) (e .zone) 13 (e .aircraft) (fit-here f [] e b [] legs o));
       balance = subst (λ (k : ℕ). length b + 1 + one (leaves k) ≡ suc (length b) + 0 + one (isEntry k)) (sym h) (omega arith);
       lighter = λ u. let w = landing-lighter f (e .zone) (zonesIn b) z (o .okay-line) in let y = one-le (within 3 11 (r .kind)) in omega arith;
-      carried = λ u. carried-behind f e b [] legs o r named;
+      carried = λ u. record { carry = λ Q p q. (behind-all f e b [] legs o r named Q p, (went e (p .0) (onward-into 13 e) (sym named) (ap isEntry h), tt)) };
       ticked-on = λ u. absurd (let n : 12 ≡ 7 = sym u ∙ h in omega arith);
+      runway-on = λ u. absurd (let n : 12 ≡ 7 = sym u ∙ h in omega arith);
     }
 
 -- kind 8
@@ -129,8 +138,9 @@ after-8 f line x legs o r named h =
       orderly = runway-left f line (x ∷ []) legs o;
       balance = subst (λ (k : ℕ). length line + 0 + one (leaves k) ≡ length line + 1 + one (isEntry k)) (sym h) (omega arith);
       lighter = λ u. let y = one-le (within 3 11 (r .kind)) in omega arith;
-      carried = λ u. record { carry = λ P others arrive idle. others-all (r .number) P line (ap (λ (m : ℕ). isIn m (numbersOf line)) named ∙ not-in-line) others };
+      carried = λ u. record { carry = λ Q p q. (stay-all r Q line (ap (λ (m : ℕ). isIn m (numbersOf line)) named ∙ not-in-line) p, tt) };
       ticked-on = λ u. absurd (let n : 12 ≡ 8 = sym u ∙ h in omega arith);
+      runway-on = λ u. absurd (let n : 12 ≡ 8 = sym u ∙ h in omega arith);
     }
   where
     not-in-line : isIn (x .number) (numbersOf line) ≡ false
@@ -157,8 +167,16 @@ after-entry s f line runway legs o r w t u side kind eff k n d fast tick stays =
           let v : one (leaves (r .kind)) ≡ 0 = ap one (failed {b = leaves (r .kind)} stays) in
           omega arith;
       lighter = λ v. absurd (true≢false (sym (adds kind) ∙ v));
-      carried = λ v. record { carry = λ P others arrive idle. each-append P line (e ∷ []) (others-all (r .number) P line (absent-left (r .number) (numbersOf line) (numbers runway) d) others) (idle e (failed {b = isFlyingZone w} u), tt) };
+      carried =
+          let new : Entered r e = record { an-entry = passed {b = isEntry (r .kind)} kind; new-number = refl; new-speed = refl; none-waited = refl; not-flown = failed {b = isFlyingZone w} u } in
+          λ v.
+          record {
+            carry =
+                λ Q p q.
+                (each-append (Came r Q) line (e ∷ []) (stay-all r Q line (absent-left (r .number) (numbersOf line) (numbers runway) d) p) (came-in new, tt), stay-runway r Q runway (absent-right (r .number) (numbersOf line) (numbers runway) d) q);
+          };
       ticked-on = λ v. absurd (tick v);
+      runway-on = λ v. absurd (tick v);
     }
   where
     adds : T (isEntry (r .kind)) → addsMoves (r .kind) ≡ true
@@ -186,4 +204,5 @@ after-12 f line runway legs o r h amount =
           omega arith;
       carried = λ u. absurd (u h);
       ticked-on = λ u. refl;
+      runway-on = λ u. refl;
     }

@@ -1,30 +1,34 @@
 -- Kind 11 beside an occupied 3000: the aircraft there goes to 2000, and the one from the missed zone to 3000. Assumes nothing.
 use mathlib.Core.Path.{_≡_, sym, ap, _∙_, subst}
-use mathlib.Core.Bool.{false, not, _||_}
+use mathlib.Core.Bool.{false, not, _||_, true≢false}
 use mathlib.Core.List.{List, _∷_, _++_, append-assoc}
 use Prim.Native.Nat.{ℕ, _+_}
 use native.Mathlib.Omega.{arith}
 use lib.Dec.{T, eqb, eqb→eq}
 use lib.ListN.{length}
 use borrow.Author.Tests.{eq-eqb}
-use Rattle.request.specs.Input.{within}
+use Rattle.request.specs.Input.{within, isEntry}
 use Rattle.request.specs.declared.Request.{Request}
 use Rattle.field.specs.declared.Aircraft.{Aircraft}
 use Rattle.field.specs.declared.Legs.{Legs}
 use Rattle.field.specs.declared.Field.{Field}
 use Rattle.field.specs.Boxes.{isFlyingZone, sideOf, at3000, at2000}
+use Rattle.field.specs.Lists.{isIn}
 use Rattle.order.specs.Model.{Side, count, free, okay, weight, one}
 use Rattle.order.proofs.Facts.{BothMoved, hold-both}
 use Rattle.rules.specs.Kinds.{moved}
 use Rattle.rules.specs.Step.{effectOf}
 use Rattle.field.proofs.Tests.{pass, failed, zones-imply}
-use Rattle.field.proofs.Arrival.{number-arrived, progress-arrived}
-use Rattle.line.proofs.Line.{Placed, zonesIn, fieldOf}
+use Rattle.field.proofs.Lists.{or-false-left, absent-right}
+use Rattle.field.proofs.Arrival.{number-arrived}
+use Rattle.line.proofs.Lists.{map-append}
+use Rattle.line.proofs.Line.{Placed, zonesIn, numbersOf, fieldOf}
 use Rattle.line.proofs.Counted.{lower}
 use Rattle.line.proofs.Members.{count-append}
 use Rattle.line.proofs.Orderly.{Orderly}
 use Rattle.moves.proofs.Moves.{into, same-length}
-use Rattle.moves.proofs.After.{Each, each-append, each-left, each-right, After, Carried, carried-one, one-le, zone-in, moved-is, moved-orderly, zones-split}
+use Rattle.moves.proofs.Carried.{onward-into, Carried, apart-in, carried-one, followed-first}
+use Rattle.moves.proofs.After.{After, one-le, zone-in, moved-is, moved-orderly, zones-split}
 
 -- what is nowhere in a list is nowhere in its parts
 free-left : (xs ys : List ℕ) (z : ℕ) → T (free (xs ++ ys) z) → T (free xs z)
@@ -45,6 +49,11 @@ free-changed xs y w ys z t h =
 waits : (z : ℕ) → T (within 1 13 z) → T (within 7 8 z) → isFlyingZone (at2000 (sideOf z)) ≡ false
 unfolding isFlyingZone sideOf
 waits z t u = failed {b = isFlyingZone (at2000 (sideOf z))} (zones-imply (within 7 8) (λ z. not (isFlyingZone (at2000 (sideOf z)))) tt z t u)
+
+-- nor is 3000
+waits-above : (z : ℕ) → T (within 1 13 z) → T (within 7 8 z) → isFlyingZone (at3000 (sideOf z)) ≡ false
+unfolding isFlyingZone sideOf
+waits-above z t u = failed {b = isFlyingZone (at3000 (sideOf z))} (zones-imply (within 7 8) (λ z. not (isFlyingZone (at3000 (sideOf z)))) tt z t u)
 
 -- ---- the line a, g, b, e, c: g at 3000 and e in the missed zone
 module _ (f : Side) (a : List Placed) (g : Placed) (b : List Placed) (e : Placed) (c : List Placed) (runway : List Aircraft) (legs : Legs) (o : Orderly f (a ++ g ∷ (b ++ e ∷ c)) runway legs) (r : Request)
@@ -126,17 +135,20 @@ module _ (f : Side) (a : List Placed) (g : Placed) (b : List Placed) (e : Placed
   up-orderly : Orderly f (a₂ ++ into y e ∷ c) runway legs
   up-orderly = moved-orderly f a₂ e c runway legs orderly₂ y e-heads (both .none-behind) (both .apart .1) (both .inside-y) after-okay
 
-  -- everyone else stays, or is at 2000
-  carried-both : Carried (r .number) (a ++ g ∷ (b ++ e ∷ c)) (a₂ ++ into y e ∷ c)
-  carried-both =
-      record {
-        carry =
-            λ P others come idle.
-            let Q : Placed → Type 0 = λ (x : Placed). (x .aircraft .number ≡ r .number → ⊥) → P x in
-            let rest = each-right Q a (g ∷ (b ++ e ∷ c)) others .1 in
-            let down : Each Q (a ++ into w g ∷ (b ++ e ∷ c)) = each-append Q a (into w g ∷ (b ++ e ∷ c)) (each-left Q a (g ∷ (b ++ e ∷ c)) others) ((λ k. idle (into w g) (waits z (lower z (zone-in f a₂ e c runway legs orderly₂)) missed-zone)), rest) in
-            carried-one (r .number) a₂ e (into y e) c runway (orderly₂ .different) named (number-arrived y (e .aircraft) ∙ sym named) (progress-arrived y (e .aircraft)) .carry P (subst (Each Q) (regroup e) down) come idle;
-      }
+  -- the one in the missed zone goes to 3000, after the one there has gone to 2000
+  carried-both : r .kind ≡ 11 → Carried r (a ++ g ∷ (b ++ e ∷ c)) runway (a₂ ++ into y e ∷ c) runway
+  carried-both h =
+      let in-zone = lower z (zone-in f a₂ e c runway legs orderly₂) in
+      let second = carried-one r a₂ e (into y e) c runway (orderly₂ .different) named (ap isEntry h) (onward-into y e) in
+      followed-first r a g (into w g) (b ++ e ∷ c) runway (a₂ ++ into y e ∷ c) other (onward-into w g) (ap isFlyingZone above ∙ waits-above z in-zone missed-zone) (waits z in-zone missed-zone)
+      (subst (λ (l : List Placed). Carried r l runway (a₂ ++ into y e ∷ c) runway) (sym (regroup e)) second)
+    where
+      other : g .aircraft .number ≡ r .number → ⊥
+      other q =
+          let al = apart-in a₂ e c runway (orderly₂ .different) .ahead in
+          let here = or-false-left (eqb (into w g .aircraft .number) (e .aircraft .number)) (isIn (e .aircraft .number) (numbersOf b))
+          (absent-right (e .aircraft .number) (numbersOf a) (numbersOf (into w g ∷ b)) (ap (isIn (e .aircraft .number)) (sym (map-append (λ (p : Placed). p .aircraft .number) a (into w g ∷ b))) ∙ al)) in
+          true≢false (sym (eq-eqb (into w g .aircraft .number) (e .aircraft .number) (number-arrived w (g .aircraft) ∙ q ∙ named)) ∙ here)
 
   pub after-both : r .kind ≡ 11 → effectOf F r ≡ moved (moved F y w) z y → After f (a ++ g ∷ (b ++ e ∷ c)) runway legs r
   after-both h eff =
@@ -158,8 +170,9 @@ module _ (f : Side) (a : List Placed) (g : Placed) (b : List Placed) (e : Placed
             let l = both .lighter in
             let x = one-le (within 3 11 (r .kind)) in
             omega arith;
-        carried = λ u. carried-both;
+        carried = λ u. carried-both h;
         ticked-on = λ u. absurd (let n : 12 ≡ 11 = sym u ∙ h in omega arith);
+        runway-on = λ u. absurd (let n : 12 ≡ 11 = sym u ∙ h in omega arith);
       }
     where
       kind-balance : (k : ℕ) → k ≡ 11 → {m n : ℕ} → m ≡ n → m + length runway + one (eqb k 8 || eqb k 9) ≡ n + length runway + one (within 1 2 k)

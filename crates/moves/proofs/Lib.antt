@@ -3,6 +3,7 @@ pub mod Leaves
 pub mod Enters
 pub mod Ticking
 pub mod Kept
+pub mod Carried
 pub mod After
 pub mod Heads
 pub mod OnLine

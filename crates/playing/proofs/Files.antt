@@ -19,7 +19,7 @@ use Rattle.practice.proofs.Meaning.{held}
 use Rattle.field.specs.declared.Legs.{Legs}
 use Rattle.bounds.specs.Bounds.{legalLegs}
 use Rattle.rules.specs.declared.Answer.{Answer}
-use Rattle.demand.proofs.Exact.{legs-legal}
+use Rattle.demand.proofs.Flights.{legs-legal}
 use Rattle.playing.specs.declared.Played.{Played}
 use Rattle.playing.specs.Playing.{legsInMiles, answersFrom, presentFrom, requestsHeld, answersHeld, presentHeld, requestsOfFile, answersOf, playedOf}
 use Rattle.playing.proofs.Playing.{length-answers}

@@ -17,11 +17,11 @@ use Rattle.field.specs.Boxes.{isSide, opposite, at3000, at2000, lateral, missed
 use Rattle.field.specs.Lists.{isIn, every, allDifferent}
 use Rattle.questions.specs.Counts.{total, howMany, inOperation, inArea, isEmpty}
 use Rattle.questions.specs.Find.{placeOf, fixOf, numbersIn}
-use Rattle.bounds.specs.Bounds.{boundA, boundB, lateralRule, boundC, finalFirst, zoneKept, sequenceKept, boundE, alternate, boundF, fitsZone, legalLegs, boundG, withinBounds}
+use Rattle.bounds.specs.Bounds.{boundA, boundB, lateralRule, boundC, finalFirst, zoneKept, sequenceKept, boundE, alternate, boundF, fitsZone, legalLegs, boundG}
 use Rattle.numbers.specs.Numbers.{numbersDiffer, sequenceExact}
 use Rattle.order.specs.Model.{Side, right, left, opp, num, nextFix, count, one, ofArea, number, all, chain, okay}
 use Rattle.order.specs.Model as model
-use Rattle.rules.specs.Reason.{Listed, along, those, isInArea, neverFalls, eachAmong, fromLanding, approachOrder, heightIn, areaOrder, hasRoom, roomToMiss, lateralFree, lateralEntry, Reason, hasPlaces}
+use Rattle.rules.specs.Reason.{Listed, along, those, isInArea, neverFalls, eachAmong, fromLanding, approachOrder, heightIn, areaOrder, hasRoom, roomToMiss, lateralFree, lateralEntry, Reason, hasPlaces, Sound}
 use Rattle.field.proofs.Lists.{every-listed}
 use Rattle.laws.proofs.BoundLaws.{Within, within-each}
 use Rattle.field.proofs.Tests.{each-operation, passed, pass, decided}
@@ -33,7 +33,7 @@ use Rattle.line.proofs.Leaders.{nonzero}
 use Rattle.line.proofs.Members.{numbers-total, count-append, count-absent, different-count, count-different, nonzero-count, count-nonzero}
 use Rattle.line.proofs.Orderly.{Orderly, opposite-num}
 use Rattle.reason.proofs.AlongLine.{seen, room-same}
-use Rattle.reason.proofs.Stands.{zone-is, sequence-is, lookedUp, lineOf, found-one, line-all, line-numbers, line-seen, queue-is, stands-for}
+use Rattle.reason.proofs.Stands.{sequence-is, lookedUp, lineOf, found-one, line-all, line-numbers, line-seen, queue-is, stands-for}
 use Rattle.reason.proofs.FromReason.{count-in, Facts, chain-from}
 
 -- ---- sides
@@ -78,18 +78,18 @@ alternates-back f s (n ∷ m ∷ ns) t e =
     ((e, r .0), r .1)
 
 -- bounds e and g, part by part
-record Parts (f : Field) : Type 0 where
-  nonzeros : T (every nonzero (numbersIn f everywhere))
-  different : T (allDifferent (numbersIn f everywhere))
-  sequence-different : T (allDifferent (orderOf (f .sequence)))
-  named : T (every (λ n. isIn n (numbersIn f operation)) (orderOf (f .sequence)))
-  kept : T (every (λ z. zoneKept (zoneOf f z)) everywhere)
-  sequence-kept : T (sequenceKept (f .sequence))
-  fit : T (every (λ z. every (fitsZone (f .legs) z) (inZone f z)) everywhere)
-  next-side : T (isSide (f .next))
-  legal : T (legalLegs (f .legs))
+pub record Parts (f : Field) : Type 0 where
+  pub nonzeros : T (every nonzero (numbersIn f everywhere))
+  pub different : T (allDifferent (numbersIn f everywhere))
+  pub sequence-different : T (allDifferent (orderOf (f .sequence)))
+  pub named : T (every (λ n. isIn n (numbersIn f operation)) (orderOf (f .sequence)))
+  pub kept : T (every (λ z. zoneKept (zoneOf f z)) everywhere)
+  pub sequence-kept : T (sequenceKept (f .sequence))
+  pub fit : T (every (λ z. every (fitsZone (f .legs) z) (inZone f z)) everywhere)
+  pub next-side : T (isSide (f .next))
+  pub legal : T (legalLegs (f .legs))
 
-parts : (f : Field) → Within f → Parts f
+pub parts : (f : Field) → Within f → Parts f
 unfolding boundE boundG numbersDiffer sequenceExact
 parts f s =
     let ns = orderOf (f .sequence) in
@@ -117,6 +117,24 @@ parts f s =
       legal = and-r (fz && isSide (f .next)) (legalLegs (f .legs)) (s .bound-g);
     }
 
+-- how long a field's arrays are
+pub record Places (f : Field) : Type 0 where
+  pub thirteen : length (f .zones) ≡ 13
+  pub four : (z : ℕ) → T (within 1 13 z) → length (zoneOf f z .aircraft) ≡ 4
+  pub numbers : length (f .sequence .numbers) ≡ 4
+
+pub places-parts : (f : Field) → T (hasPlaces f) → Places f
+unfolding hasPlaces
+places-parts f h =
+    let z = eqb (length (f .zones)) 13 in
+    let a = every (λ z. eqb (length (zoneOf f z .aircraft)) 4) everywhere in
+    let n = eqb (length (f .sequence .numbers)) 4 in
+    record {
+      thirteen = eqb→eq (length (f .zones)) 13 (and-l z a (and-l (z && a) n h));
+      four = λ z t. eqb→eq (length (zoneOf f z .aircraft)) 4 (every-listed (λ z. eqb (length (zoneOf f z .aircraft)) 4) everywhere z (and-r (eqb (length (f .zones)) 13) a (and-l (eqb (length (f .zones)) 13 && a) n h)) (in-everywhere z t));
+      numbers = eqb→eq (length (f .sequence .numbers)) 4 (and-r (z && a) n h);
+    }
+
 -- a field that an orderly line stands for
 pub record OrderlyField (f : Field) : Type 0 where
   pub first : Side
@@ -126,37 +144,12 @@ pub record OrderlyField (f : Field) : Type 0 where
   pub is : f ≡ fieldOf first line runway legs
   pub orderly : Orderly first line runway legs
 
-module _ (f : Field) (h : T (hasPlaces f)) (s : Within f) (p : Parts f) (c : Reason f) where
+module _ (f : Field) (h : Places f) (s : Within f) (p : Parts f) (c : Reason f) (zones-kept : (z : ℕ) → T (within 1 13 z) → zoneOf f z ≡ zoneFor (inZone f z)) where
   abbrev ns : List ℕ
   ns = orderOf (f .sequence)
 
   abbrev line : List Placed
   line = lineOf f
-
-  thirteen : length (f .zones) ≡ 13
-  unfolding hasPlaces
-  thirteen =
-      let z = eqb (length (f .zones)) 13 in
-      let a = every (λ z. eqb (length (zoneOf f z .aircraft)) 4) everywhere in
-      eqb→eq (length (f .zones)) 13 (and-l z a (and-l (z && a) (eqb (length (f .sequence .numbers)) 4) h))
-
-  four-places : (z : ℕ) → isIn z everywhere ≡ true → length (zoneOf f z .aircraft) ≡ 4
-  unfolding hasPlaces
-  four-places z i =
-      let t = eqb (length (f .zones)) 13 in
-      let a = every (λ z. eqb (length (zoneOf f z .aircraft)) 4) everywhere in
-      eqb→eq (length (zoneOf f z .aircraft)) 4 (every-listed (λ z. eqb (length (zoneOf f z .aircraft)) 4) everywhere z (and-r t a (and-l (t && a) (eqb (length (f .sequence .numbers)) 4) h)) i)
-
-  four-numbers : length (f .sequence .numbers) ≡ 4
-  unfolding hasPlaces
-  four-numbers =
-      let z = eqb (length (f .zones)) 13 in
-      let a = every (λ z. eqb (length (zoneOf f z .aircraft)) 4) everywhere in
-      eqb→eq (length (f .sequence .numbers)) 4 (and-r (z && a) (eqb (length (f .sequence .numbers)) 4) h)
-
-  zones-kept : (z : ℕ) → T (within 1 13 z) → zoneOf f z ≡ zoneFor (inZone f z)
-  unfolding inZone
-  zones-kept z t = zone-is (zoneOf f z) (four-places z (in-everywhere z t)) (every-listed (λ z. zoneKept (zoneOf f z)) everywhere z (p .kept) (in-everywhere z t))
 
   queues : (z : ℕ) → T (within 1 12 z) → inZone f z ≡ inside z line
   queues z t = queue-is f (p .different) z t (c .queues-agree z t)
@@ -166,7 +159,7 @@ module _ (f : Field) (h : T (hasPlaces f)) (s : Within f) (p : Parts f) (c : Rea
   counts z t = ap length (queues z t) ∙ length-inside z line
 
   order-kept : f .sequence ≡ sequenceFor ns
-  order-kept = sequence-is (f .sequence) four-numbers (p .sequence-kept)
+  order-kept = sequence-is (f .sequence) (h .numbers) (p .sequence-kept)
 
   order-numbers : numbersOf line ≡ ns
   order-numbers = line-numbers f ns (p .named)
@@ -215,7 +208,7 @@ module _ (f : Field) (h : T (hasPlaces f)) (s : Within f) (p : Parts f) (c : Rea
   turns = alternates-back f firstSide ns (s .bound-f) (first-known .1)
 
   is-line : f ≡ fieldOf firstSide line (inZone f 13) (f .legs)
-  is-line = stands-for f firstSide thirteen zones-kept queues (order-kept ∙ ap sequenceFor (sym order-numbers)) (turns .1)
+  is-line = stands-for f firstSide (h .thirteen) zones-kept queues (order-kept ∙ ap sequenceFor (sym order-numbers)) (turns .1)
 
   -- ---- the numbers of the line and the runway
   fewer : (n : ℕ) → count (ns ++ numbers (inZone f 13)) n ≤ count (numbersIn f everywhere) n
@@ -333,9 +326,11 @@ module _ (f : Field) (h : T (hasPlaces f)) (s : Within f) (p : Parts f) (c : Rea
         legal = p .legal;
       }
 
--- any field with all its places, within the bounds and with the reason, is one that an orderly line stands for
-pub reason-orderly : (f : Field) → T (hasPlaces f) → T (withinBounds f) → Reason f → OrderlyField f
-reason-orderly f h t c =
-    let s = within-each f t in
+-- any field with all its places, within the bounds and with the reason, whose places past the lengths are as those of an empty field, is one that an orderly line stands for
+pub reason-orderly : (f : Field) → Sound f → ((z : ℕ) → T (within 1 13 z) → zoneOf f z ≡ zoneFor (inZone f z)) → OrderlyField f
+reason-orderly f k e =
+    let h = places-parts f (k .places) in
+    let c = k .reason in
+    let s = within-each f (k .bounds) in
     let p = parts f s in
-    record { first = first-known f h s p c .0; line = lineOf f; runway = inZone f 13; legs = f .legs; is = is-line f h s p c; orderly = is-orderly f h s p c }
+    record { first = first-known f h s p c e .0; line = lineOf f; runway = inZone f 13; legs = f .legs; is = is-line f h s p c e; orderly = is-orderly f h s p c e }

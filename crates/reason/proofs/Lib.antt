@@ -4,4 +4,6 @@ pub mod Stands
 pub mod FromReason
 pub mod Invariant
 pub mod OneStep
+pub mod SameStep
+pub mod Tidied
 pub mod Reason

@@ -31,7 +31,7 @@ use Rattle.demand.proofs.Runs.{runs}
 use Rattle.reason.proofs.AlongLine.{orderly-reason}
 
 -- an array of four places, filled up with d
-four-places : {A : Type 0} (xs : List A) (d : A) → length xs ≤ 4 → length (xs ++ replicate (4 - length xs) d) ≡ 4
+pub four-places : {A : Type 0} (xs : List A) (d : A) → length xs ≤ 4 → length (xs ++ replicate (4 - length xs) d) ≡ 4
 four-places xs d h = let a = length-append xs (replicate (4 - length xs) d) in let b = length-replicate (4 - length xs) d in omega arith
 
 module _ (f : Side) (line : List Placed) (runway : List Aircraft) (legs : Legs) (o : Orderly f line runway legs) where

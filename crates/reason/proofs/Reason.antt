@@ -37,6 +37,8 @@ use Rattle.rules.proofs.Cases.{bounds-not-enough}
 use Rattle.reason.proofs.Room.{reason-gives-room}
 use Rattle.reason.proofs.Invariant.{reason-orderly}
 use Rattle.reason.proofs.OneStep.{orderly-sound, orderly-kept}
+use Rattle.reason.proofs.SameStep.{sound-same, kept-same}
+use Rattle.reason.proofs.Tidied.{tidied, tidied-zone, tidied-same}
 
 -- ---- after every list
 module _ (legs : Legs) (l : T (legalLegs legs)) where
@@ -65,8 +67,9 @@ crowded-not-reached legs l rs e = false≢true (sym (bounds-not-enough .no-room)
 -- on any field with its places, within the bounds and with the reason, every request keeps these, and neither 10 nor 25 is answered
 pub reason-kept : (f : Field) → Sound f → (r : Request) → KeptBy f r
 reason-kept f s r =
-    let o = reason-orderly f (s .places) (s .bounds) (s .reason) in
-    subst (λ (g : Field). KeptBy g r) (sym (o .is)) (orderly-kept (o .first) (o .line) (o .runway) (o .legs) (o .orderly) r)
+    let same = tidied-same f s in
+    let o = reason-orderly (tidied f) (sound-same f (tidied f) same s) (tidied-zone f) in
+    kept-same f (tidied f) same s r (subst (λ (g : Field). KeptBy g r) (sym (o .is)) (orderly-kept (o .first) (o .line) (o .runway) (o .legs) (o .orderly) r))
 
 -- so the number of a request is neither there
 pub neither-10-nor-25 : (f : Field) → Sound f → (r : Request) → (numberOf f r ≡ 10 → ⊥) × (numberOf f r ≡ 25 → ⊥)

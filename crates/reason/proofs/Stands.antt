@@ -2,7 +2,7 @@
 -- and the zone that the look-up finds. Assumes nothing.
 use mathlib.Core.Path.{_≡_, refl, sym, ap, _∙_, subst}
 use mathlib.Core.Logic.{_⊎_, inl, inr}
-use mathlib.Core.Bool.{Bool, true, false, cond, _&&_, _||_, false≢true}
+use mathlib.Core.Bool.{Bool, true, false, cond, _||_, false≢true}
 use mathlib.Core.List.{List, [], _∷_, _++_, map, append-assoc}
 use Prim.Native.Nat.{ℕ, suc, _+_, _-_, _≤_}
 use native.Mathlib.Omega.{arith}
@@ -12,18 +12,16 @@ use lib.Seq.{length-take-le, getD-append-seam}
 use lib.Ieee.Fits.{and-i, and-l, and-r}
 use borrow.Author.Tests.{eqb-true, eqb-false}
 use Rattle.request.specs.Input.{within}
-use Rattle.leg.specs.declared.Progress.{Progress}
-use Rattle.leg.specs.declared.Progress.the-variants.{Waiting, Flying}
 use Rattle.field.specs.declared.Aircraft.{Aircraft}
 use Rattle.field.specs.declared.Zone.{Zone}
 use Rattle.field.specs.declared.Sequence.{Sequence}
 use Rattle.field.specs.declared.Field.{Field}
 use Rattle.questions.specs.declared.Place.{Place}
-use Rattle.field.specs.Boxes.{zonesFrom, operation, everywhere, emptyZone, zoneOf, queueOf, inZone, orderOf, nobody}
+use Rattle.field.specs.Boxes.{zonesFrom, operation, everywhere, emptyZone, zoneOf, inZone, orderOf, nobody}
 use Rattle.field.specs.Lists.{isIn, every, allDifferent}
 use Rattle.questions.specs.Counts.{total}
 use Rattle.questions.specs.Find.{placeFrom, findIn, placeOf, aircraftAt, fixOf, numbersIn}
-use Rattle.bounds.specs.Bounds.{isWaiting, isNobody, zoneKept, sequenceKept}
+use Rattle.bounds.specs.Bounds.{sequenceKept}
 use Rattle.order.specs.Model.{Side, num, nextFix, count, one}
 use Rattle.rules.specs.Reason.{Listed, listed, along, those, isInZone, QueueAgrees}
 use Rattle.field.proofs.Tests.{passed, decided, if-true, if-false, same}
@@ -46,39 +44,9 @@ filled d xs n e h r =
     let l : length (drop n xs) ≡ 4 - length (take n xs) = length-drop n xs ∙ ap (λ (m : ℕ). m - n) e ∙ ap (λ (m : ℕ). 4 - m) (sym k) in
     (sym (take-append-drop n xs) ∙ ap (λ (ys : List _). take n xs ++ ys) (r ∙ ap (λ (m : ℕ). replicate m d) l), sym k)
 
-nobody-is : (a : Aircraft) → T (isNobody a) → a ≡ nobody
-unfolding isNobody
-nobody-is a t =
-    let n = eqb (a .number) 0 in
-    let x = eqb (a .fix) 0 in
-    let v = eqb (a .speed) 0 in
-    let w = isWaiting (a .progress) in
-    let t₁ = and-l (n && x && v) w t in
-    let t₂ = and-l (n && x) v t₁ in
-    let p = eqb→eq (a .number) 0 (and-l n x t₂) in
-    let q = eqb→eq (a .fix) 0 (and-r n x t₂) in
-    let r = eqb→eq (a .speed) 0 (and-r (n && x) v t₁) in
-    let u = waits (a .progress) (and-r (n && x && v) w t) in
-    λ i. record { number = p i; fix = q i; speed = r i; progress = u i }
-  where
-    waits : (g : Progress) → T (isWaiting g) → g ≡ Waiting
-    waits Waiting t = refl
-    waits (Flying miles) t = absurd t
-
-nobodies : (xs : List Aircraft) → T (every isNobody xs) → xs ≡ replicate (length xs) nobody
-nobodies [] t = refl
-nobodies (x ∷ xs) t =
-    ap (λ (a : Aircraft). a ∷ xs) (nobody-is x (and-l (isNobody x) (every isNobody xs) t)) ∙ ap (λ (l : List Aircraft). nobody ∷ l) (nobodies xs (and-r (isNobody x) (every isNobody xs) t))
-
 zeros : (xs : List ℕ) → T (every (λ n. eqb n 0) xs) → xs ≡ replicate (length xs) 0
 zeros [] t = refl
 zeros (x ∷ xs) t = ap (λ (n : ℕ). n ∷ xs) (eqb→eq x 0 (and-l (eqb x 0) (every (λ n. eqb n 0) xs) t)) ∙ ap (λ (l : List ℕ). 0 ∷ l) (zeros xs (and-r (eqb x 0) (every (λ n. eqb n 0) xs) t))
-
-pub zone-is : (q : Zone) → length (q .aircraft) ≡ 4 → T (zoneKept q) → q ≡ zoneFor (queueOf q)
-unfolding zoneKept queueOf
-zone-is q e t =
-    let r = filled nobody (q .aircraft) (q .length) e (leb→le (q .length) 4 (and-l (leb (q .length) 4) (every isNobody (drop (q .length) (q .aircraft))) t)) (nobodies (drop (q .length) (q .aircraft)) (and-r (leb (q .length) 4) (every isNobody (drop (q .length) (q .aircraft))) t)) in
-    λ i. record { aircraft = r .0 i; length = r .1 i }
 
 pub sequence-is : (s : Sequence) → length (s .numbers) ≡ 4 → T (sequenceKept s) → s ≡ sequenceFor (orderOf s)
 unfolding sequenceKept orderOf

@@ -1,8 +1,8 @@
 -- The marked cases of "Played by hand" and the examples of docs/WHY-SAFE.md hold of the definitions, by one computation. Assumes nothing.
 use mathlib.Core.Path.{refl}
 use lib.Dec.{T}
-use lib.Ieee.{add, mul, div, ofInt, round, lt, le, eq}
-use Rattle.leg.specs.Progress.{advanced}
+use lib.Ieee.{add, sub, mul, div, ofInt, round, lt, le, eq}
+use Rattle.leg.specs.Progress.{advanced, pastEnd, waitedAfter}
 use Rattle.request.specs.Input.{kindAllowed, sideAllowed, numberAllowed, amountAllowed, inputNumber}
 use Rattle.field.specs.Boxes.{isSide, sideOf, opposite, isFlyingZone, zoneOf, queueOf, inZone, orderOf, progressInto, entering, withProgress, arrived, withFix, legOf, flownOutIn, emptyField}
 use Rattle.questions.specs.Counts.{howMany, howManyWithFix, inOperation, inArea, perFix, approachHolds, countedFor, potentialOf}
@@ -22,14 +22,14 @@ use Rattle.field.proofs.Tests.{each-operation}
 -- the three together, so that what is computed is unfolded once
 computed : T (every caseHolds marked) × T (every caseHolds examples) × BoundsNotEnough crowded missOfSeven
 unfolding
-    advanced kindAllowed sideAllowed numberAllowed amountAllowed inputNumber isSide opposite isFlyingZone zoneOf queueOf inZone orderOf progressInto entering
+    advanced pastEnd waitedAfter kindAllowed sideAllowed numberAllowed amountAllowed inputNumber isSide opposite isFlyingZone zoneOf queueOf inZone orderOf progressInto entering
     withProgress arrived withFix legOf flownOutIn emptyField howMany howManyWithFix inOperation inArea perFix approachHolds countedFor potentialOf findIn placeOf
     aircraftAt fixOf isFirst leaderOf leaderZone boundA boundB lateralRule boundC boundD numbersDiffer sequenceExact finalFirst isNobody zoneKept sequenceKept
     boundE boundF fitsZone legalLegs boundG withinBounds withoutHead withTail appended removed withZone withSequence tickedAircraft tickedZone ticked sideOf
     startsFrom mayApproach baseFree mayMerge headGone tailPut moved
     outOfSequence fixTaken entered approached landed exited fixAfterMiss missedApproach held heldAlong checksOf effectOf numberOf numberAndZeros acceptance
     answerOf stepOf
-    add mul div ofInt round lt le eq along approachOrder areaOrder roomToMiss lateralEntry
+    add sub mul div ofInt round lt le eq along approachOrder areaOrder roomToMiss lateralEntry
 computed = (
   tt,
   tt,

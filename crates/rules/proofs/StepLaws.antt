@@ -9,6 +9,7 @@ use Rattle.request.specs.Input.{firstRefused, inputNumber}
 use Rattle.request.specs.declared.Request.{Request}
 use Rattle.field.specs.declared.Field.{Field}
 use Rattle.field.proofs.Tests.{decided, if-true, if-false, either-way}
+use Rattle.questions.specs.Find.{placeOf}
 use Rattle.bounds.specs.Bounds.{withinBounds}
 use Rattle.rules.specs.declared.Answer.{Answer}
 use Rattle.rules.specs.declared.Stepped.{Stepped}
@@ -34,6 +35,13 @@ field-accepted f r e = ap (λ (s : Stepped). s .field) (if-true (record { answer
 pub field-refused : (f : Field) (r : Request) → (numberOf f r ≡ 0 → ⊥) → stepOf f r .field ≡ f
 unfolding stepOf
 field-refused f r e = ap (λ (s : Stepped). s .field) (if-false (record { answer = answerOf f r; field = effectOf f r }) (record { answer = numberAndZeros (numberOf f r); field = f }) (ne-eqb (numberOf f r) 0 e))
+
+-- the zone that an accepted request but a tick answers: where its aircraft is afterwards
+pub zone-answered : (f : Field) (r : Request) → numberOf f r ≡ 0 → (r .kind ≡ 12 → ⊥) → stepOf f r .answer .zone ≡ placeOf (effectOf f r) (r .number) .zone
+unfolding stepOf answerOf acceptance
+zone-answered f r e k =
+    ap (λ (s : Stepped). s .answer .zone) (if-true (record { answer = answerOf f r; field = effectOf f r }) (record { answer = numberAndZeros (numberOf f r); field = f }) (eq-eqb (numberOf f r) 0 e))
+    ∙ ap (λ (a : Answer). a .zone) (if-false (numberAndZeros 0) (acceptance (effectOf f r) (r .number) (cond (eqb (r .kind) 11) (heldAlong f (zoneBefore f r)) 0)) (ne-eqb (r .kind) 12 k))
 
 -- an accepted request passes the input rules
 pub input-of : (f : Field) (r : Request) → numberOf f r ≡ 0 → inputNumber r ≡ 0

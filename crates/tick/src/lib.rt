@@ -1,23 +1,37 @@
-// A tick (document 01, kind 12): everyone flying advances (specs/Tick.antt).
+// A tick (document 01, kind 12; document 02, 2.2): everyone flying advances (specs/Tick.antt).
 use field::Aircraft;
 use field::Field;
 use field::Legs;
 use field::Zone;
 use field::boxes::is_flying_zone;
 use field::boxes::leg_of;
-use field::boxes::with_progress;
-use leg::progress_after;
+use leg::Progress;
+use leg::advance;
+use leg::waited_after;
 ghost use mathlib.Core.Path.{_≡_};
 ghost use mathlib.Core.Bool.{cond};
 ghost use Rattle.field.specs.Boxes.{isFlyingZone, legOf};
 ghost use Rattle.tick.specs.Tick.{tickedAircraft, tickedZone, ticked};
 
-// An aircraft of a zone with this leg after a tick.
+// An aircraft of a zone with this leg after a tick: one that flies advances and adds the miles past the end to those waited; one that waits
+// stays as it is.
 pub fn ticked_aircraft(leg: f64, amount: u16, a: Aircraft) -> Aircraft
     ensures { λ r. ⌜ r ≡ tickedAircraft leg amount a ⌝ }
 {
     let p = a.progress;
-    with_progress(a, progress_after(p, a.speed, amount, leg))
+    match p {
+        Progress::Waiting => a,
+        Progress::Flying(miles) => {
+            let after = advance(miles, a.speed, amount, leg);
+            Aircraft {
+                number: a.number,
+                fix: a.fix,
+                speed: a.speed,
+                progress: Progress::Flying(after.miles),
+                waited: waited_after(a.waited, after.past),
+            }
+        }
+    }
 }
 
 // A zone with this leg after a tick.

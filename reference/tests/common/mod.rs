@@ -43,6 +43,10 @@ pub fn miles(field: &Field, number: u16) -> f64 {
     }
 }
 
+pub fn waited(field: &Field, number: u16) -> f64 {
+    field.find(number).expect("on the field").1.waited
+}
+
 pub fn file(legs_64ths: [u16; 4], requests: &[(u8, u8, u16, u16)]) -> Vec<u8> {
     let requests = requests.iter().map(|&(k, s, n, a)| Request::new(k, s, n, a)).collect();
     PracticeFile { legs_64ths, requests }.to_bytes()

@@ -2,7 +2,7 @@
 use mathlib.Core.Path.{_≡_, sym}
 use Prim.Native.Nat.{_-_, _≤_}
 use lib.ListN.{length}
-use Rattle.field.specs.Boxes.{nobody, queueOf, queueLength}
+use Rattle.field.specs.Boxes.{queueOf, queueLength}
 use Rattle.field.specs.Lists.{every}
 use Rattle.bounds.specs.Bounds.{fitsZone}
 use Rattle.field.proofs.Parts.{holds, fails, each-more, each-not}
@@ -43,8 +43,7 @@ returns : tie.Need-returns Inv-loop μ-loop
 returns c =
     let a = c .before .before .before .before .before .before .args in
     let l = c .before .before .before .before .loop in
-    let here = queue-next (a .t3) (l .i) nobody (omega arith) in
-    sym (each-not (fitsZone (a .legs) (a .zone)) (queueOf (a .t3)) 0 (l .i) (l .inv .1 .1) here (fails (c .before .fits-zone .ensures) (c .if1 .taken)))
+    sym (each-not (fitsZone (a .legs) (a .zone)) (queueOf (a .t3)) 0 (l .i) (l .inv .1 .1) (queue-next (a .t3) (l .i) _ (omega arith)) (fails (c .before .fits-zone .ensures) (c .if1 .taken)))
 
 add-i : tie.Need-add-i Inv-loop μ-loop
 add-i c = search needs
@@ -56,9 +55,8 @@ loop-again : tie.Need-loop-again Inv-loop μ-loop
 loop-again c =
     let a = c .before .before .before .before .before .before .args in
     let l = c .before .before .before .before .loop in
-    let here = queue-next (a .t3) (l .i) nobody (omega arith) in
     let fit = holds (c .before .fits-zone .ensures) (c .if1 .left) in
-    (l .inv .0, (l .inv .1 .0, each-more (fitsZone (a .legs) (a .zone)) (queueOf (a .t3)) 0 (l .i) (l .inv .1 .1) (omega arith) here fit))
+    (l .inv .0, (l .inv .1 .0, each-more (fitsZone (a .legs) (a .zone)) (queueOf (a .t3)) 0 (l .i) (l .inv .1 .1) (omega arith) (queue-next (a .t3) (l .i) _ (omega arith)) fit))
 
 returns-2 : tie.Need-returns-2 Inv-loop μ-loop
 returns-2 c =

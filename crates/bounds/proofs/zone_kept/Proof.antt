@@ -2,7 +2,6 @@
 use mathlib.Core.Path.{sym}
 use Prim.Native.Nat.{_-_}
 use borrow.Author.Tests.{lt-leb}
-use Rattle.field.specs.Boxes.{nobody}
 use Rattle.bounds.specs.Bounds.{isNobody, zoneKept}
 use Rattle.field.proofs.Parts.{and-cut, holds, fails, Kept, kept-none, kept-more, kept-not, kept-all}
 use Rattle.field.proofs.Known.{zone-known}
@@ -40,7 +39,7 @@ unfolding zoneKept
 returns-2 c =
     let a = c .before .before .before .before .before .before .args .t1 in
     let l = c .before .before .before .before .loop in
-    sym (kept-not isNobody (a .aircraft) (a .length) (l .i) nobody (l .inv) (omega arith) (fails (c .before .is-nobody .ensures) (c .if2 .taken)))
+    sym (kept-not isNobody (a .aircraft) (a .length) (l .i) _ (l .inv) (omega arith) (fails (c .before .is-nobody .ensures) (c .if2 .taken)))
 
 add-i : tie.Need-add-i Inv-loop μ-loop
 add-i c = search needs
@@ -52,7 +51,7 @@ loop-again : tie.Need-loop-again Inv-loop μ-loop
 loop-again c =
     let a = c .before .before .before .before .before .before .args .t1 in
     let l = c .before .before .before .before .loop in
-    kept-more isNobody (a .aircraft) (a .length) (l .i) nobody (l .inv) (omega arith) (holds (c .before .is-nobody .ensures) (c .if2 .left))
+    kept-more isNobody (a .aircraft) (a .length) (l .i) _ (l .inv) (omega arith) (holds (c .before .is-nobody .ensures) (c .if2 .left))
 
 returns-3 : tie.Need-returns-3 Inv-loop μ-loop
 unfolding zoneKept

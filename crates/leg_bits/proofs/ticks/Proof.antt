@@ -6,10 +6,10 @@ use Rattle.leg_bits.proofs.ticks.Statement.{statement}
 use Rattle.leg_bits.proofs.ticks.Tie as tie
 
 abbrev Inv-loop : tie.InvT-loop
-Inv-loop speed list length p₀ j₀ p j = j ≤ 4
+Inv-loop start before speed list length miles₀ waited₀ j₀ miles waited j = j ≤ 4
 
 abbrev μ-loop : tie.MeasureT-loop
-μ-loop speed list length p₀ j₀ p j = 4 - j
+μ-loop start before speed list length miles₀ waited₀ j₀ miles waited j = 4 - j
 
 loop-holds : tie.Need-loop-holds Inv-loop μ-loop
 loop-holds c = omega arith
@@ -17,8 +17,14 @@ loop-holds c = omega arith
 amount-of-requires : tie.Need-amount-of-requires Inv-loop μ-loop
 amount-of-requires c κs = omega arith
 
-tick-requires : tie.Need-tick-requires Inv-loop μ-loop
-tick-requires c κs = search needs
+advance-requires : tie.Need-advance-requires Inv-loop μ-loop
+advance-requires c κs = search needs
+
+waited-after-requires : tie.Need-waited-after-requires Inv-loop μ-loop
+waited-after-requires c κs = search needs
+
+print-tick-requires : tie.Need-print-tick-requires Inv-loop μ-loop
+print-tick-requires c κs = search needs
 
 add-j : tie.Need-add-j Inv-loop μ-loop
 add-j c = omega arith
@@ -40,7 +46,9 @@ ticks-spec =
     μ-loop
     loop-holds
     amount-of-requires
-    tick-requires
+    advance-requires
+    waited-after-requires
+    print-tick-requires
     add-j
     loop-less
     loop-again

@@ -1,20 +1,26 @@
 -- `field::edits::without_head` meets its contract: the definition takes the arm of the test. Assumes nothing.
-use mathlib.Core.Path.{_≡_, sym, ap}
+use mathlib.Core.Path.{_≡_, sym, ap, _∙_}
 use mathlib.Core.List.{List, [], _∷_, _++_}
+use Prim.Native.Nat.{ℕ, _-_}
 use lib.ListN.{length, getD, drop}
 use borrow.Author.Needs.{needs}
 use borrow.Author.Tests.{eq-eqb, ne-eqb}
 use Rattle.field.specs.declared.Aircraft.{Aircraft}
+use Rattle.field.specs.declared.Zone.{Zone}
 use Rattle.field.specs.Boxes.{nobody}
 use Rattle.field.specs.Edits.{withoutHead}
 use Rattle.field.proofs.Arrays.{four}
+use Rattle.field.proofs.Tests.{if-false}
 use Rattle.field.proofs.Known.{zone-known}
 use Rattle.field.proofs.edits.without_head.Statement.{statement}
 use Rattle.field.proofs.edits.without_head.Tie as tie
 
--- an array of four without its first, and x at its end
-shifted : (xs : List Aircraft) (x : Aircraft) → length xs ≡ 4 → getD xs 1 x ∷ getD xs 2 x ∷ getD xs 3 x ∷ x ∷ [] ≡ drop 1 xs ++ (x ∷ [])
-shifted xs x h = sym (ap (λ (l : List Aircraft). drop 1 l ++ (x ∷ [])) (four xs x h))
+-- a zone of an array of four without its first, and with x at its end, whatever an element past the array is read as
+shifted : (xs : List Aircraft) (d x y : Aircraft) (n : ℕ) → length xs ≡ 4 → y ≡ x
+    → _≡_ {A = Zone} (record { aircraft = getD xs 1 d ∷ getD xs 2 d ∷ getD xs 3 d ∷ y ∷ []; length = n }) (record { aircraft = drop 1 xs ++ (x ∷ []); length = n })
+shifted xs d x y n h e =
+    ap (λ (l : List Aircraft). record { aircraft = l; length = n })
+    (ap (λ (z : Aircraft). getD xs 1 d ∷ getD xs 2 d ∷ getD xs 3 d ∷ z ∷ []) e ∙ sym (ap (λ (l : List Aircraft). drop 1 l ++ (x ∷ [])) (four xs d h)))
 
 returns : tie.Need-returns
 unfolding withoutHead
@@ -40,7 +46,8 @@ unfolding withoutHead
 returns-2 c =
     let s = c .before .before .before .before .before .before in
     let long = zone-known (s .args .q) (s .good .0) .places in
-    simp (ne-eqb _ _ (c .before .before .before .before .before .if1 .left), c .before .before .before .nobody .ensures, shifted (s .args .q .aircraft) nobody long)
+    shifted (s .args .q .aircraft) _ nobody _ _ long (c .before .before .before .nobody .ensures)
+    ∙ sym (if-false (s .args .q) (record { aircraft = drop 1 (s .args .q .aircraft) ++ (nobody ∷ []); length = s .args .q .length - 1 }) (ne-eqb _ _ (c .before .before .before .before .before .if1 .left)))
 
 pub without-head-spec : {M : Type 1} → statement M
 without-head-spec = tie.close (tie.spec returns nobody-requires array-copy-out-t8 array-copy-out-t11 array-copy-out-t14 sub-t16 returns-2)

@@ -7,7 +7,7 @@ use borrow.Author.Needs.{needs}
 use lib.ListN.{length, List·getD-eq-default}
 use Rattle.field.specs.Boxes.{nobody, queueOf, queueLength}
 use Rattle.field.proofs.Known.{zone-known}
-use Rattle.field.proofs.Shapes.{from-one, queue-read, queue-fits}
+use Rattle.field.proofs.Shapes.{read, from-one, queue-read, queue-fits}
 use Rattle.questions.proofs.find.aircraft_in.Statement.{statement}
 use Rattle.questions.proofs.find.aircraft_in.Tie as tie
 
@@ -45,7 +45,7 @@ unfolding queueLength
 returns-2 c =
     let a = c .before .before .before .before .args in
     let h : a .place - 1 < length (queueOf (a .t1)) = omega (arith, c .before .before .queue-length .ensures) in
-    sym (from-one nobody (queueOf (a .t1)) (a .place) nobody (omega arith) ∙ queue-read (a .t1) (a .place - 1) nobody h)
+    sym (from-one nobody (queueOf (a .t1)) (a .place) nobody (omega arith) ∙ read (queueOf (a .t1)) (a .place - 1) nobody _ h ∙ queue-read (a .t1) (a .place - 1) _ h)
 
 returns-3 : tie.Need-returns-3
 unfolding queueLength
