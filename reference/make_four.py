@@ -4,7 +4,7 @@
   make_four.py DIRECTORY
 
 The answers in the comments of four*.txt are written down here by hand, from
-the paper; only the ticks depend on legs and speeds.
+the papers; only the ticks depend on legs and speeds.
 """
 import os
 import sys
@@ -40,7 +40,7 @@ FOUR = [
     ('ask', '3 0 7 0', '0 7 3 1 10 0', ''),
     ('ask', '3 0 8 0', '0 8 4 2 7 0', ''),
     ('fly', '5 0 9 0', '0 9 11 1 0 0', ''),
-    ('ask', '9 0 9 0', '0 9 0 0 0 0', 'exit at the start of the leg'),
+    ('fly', '9 0 9 0', '0 9 0 0 0 0', 'exit at the end of the leg'),
     ('fly', '5 0 10 0', '0 10 11 2 0 0', ''),
     ('fly', '6 0 10 0', '0 10 12 2 0 0', ''),
     ('ask', '4 0 7 0', '0 7 9 1 10 0', ''),
@@ -58,7 +58,7 @@ FOUR = [
     ('ask', '8 0 7 0', '0 7 0 0 0 0', ''),
     ('ask', '4 0 8 0', '0 8 10 2 0 0', ''),
     ('fly', '5 0 8 0', '0 8 11 2 0 0', ''),
-    ('ask', '9 0 8 0', '0 8 0 0 0 0', 'nobody is left: end 4 2 2 3 0'),
+    ('fly', '9 0 8 0', '0 8 0 0 0 0', 'nobody is left: end 4 2 2 3 0'),
 ]
 
 # The leg that an aircraft begins with an accepted answer's zone.

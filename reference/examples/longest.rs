@@ -11,7 +11,7 @@ const NUMBERS: [u16; 5] = [1, 255, 256, 40_000, 65_535];
 const SPEEDS: [u16; 6] = [63, 64, 100, 250, 511, 512];
 const TICKS: [u16; 4] = [7, 32, 63, 64];
 /// How often a kind is tried when an accepted one is looked for.
-const WEIGHTS: [usize; 12] = [60, 60, 1, 6, 30, 30, 90, 3, 1, 10, 20, 6];
+const WEIGHTS: [usize; 12] = [60, 60, 1, 6, 30, 30, 90, 3, 10, 10, 20, 6];
 
 struct Dice(u64);
 

@@ -475,12 +475,12 @@ impl Field {
     }
 
     fn exit(&self, number: u16) -> Result<(Field, Answer), Refusal> {
-        self.at_head(number, |zone| (zone == Intermediate).then_some(()))?;
+        let from = self.flown_out(number, |zone| zone == Intermediate)?;
         if !self.is_first(number) {
             return Err(Refusal::SequenceOrLeader);
         }
         let mut after = self.clone();
-        after.zone_mut(Intermediate).pop_front();
+        after.zone_mut(from).pop_front();
         after.leave_sequence(number);
         let answer = after.answer(number);
         Ok((after, answer))

@@ -1,4 +1,4 @@
-//! The worked session and every case of "Played by hand".
+//! The worked session, as document 02 leaves it, and every case of "Played by hand".
 
 mod common;
 use common::*;
@@ -15,8 +15,8 @@ fn worked_session() {
                     4 15 0 0 0 0 0\n\
                     5 0 0 0 0 0 0\n\
                     6 0 7 11 1 0 0\n\
-                    7 0 7 0 0 0 0\n\
-                    end 1 0 1 0 0\n";
+                    7 15 0 0 0 0 0\n\
+                    end 1 0 0 0 1\n";
     assert_eq!(report(&file([64; 4], &requests)), expected);
 }
 

@@ -3,6 +3,7 @@
 use std::collections::BTreeSet;
 
 use reference::explore::{requests, somebody_can_move, tick, Reached};
+use reference::{Field, Progress, Request};
 
 #[test]
 fn every_reachable_field() {
@@ -22,9 +23,35 @@ fn every_reachable_field() {
         }
     }
 
+    // At the start of every leg, kinds 5, 6, 7, 9 and 11 are refused 15 where 12 to 14 do not come before; the
+    // others are answered as before.
+    for field in &reached.fields {
+        let start = at_the_start(field);
+        for request in requests(field) {
+            let (before, after) = (number(&start, &request), number(field, &request));
+            let needs_its_leg = matches!(request.kind, 5 | 6 | 7 | 9 | 11) && !(12..=14).contains(&after);
+            assert_eq!(before, if needs_its_leg { 15 } else { after });
+        }
+    }
+
     // If anyone is present and all legs are flown out, somebody can move.
     assert!(reached.fields.iter().all(|field| field.present() == 0 || somebody_can_move(field)));
 
     // The most moves before the next entry or miss.
     assert_eq!(reached.most_moves().into_iter().max(), Some(27));
+}
+
+/// The same field with no mile flown.
+fn at_the_start(field: &Field) -> Field {
+    let mut start = field.clone();
+    for aircraft in start.zones.iter_mut().flatten() {
+        if let Progress::Flying(miles) = &mut aircraft.progress {
+            *miles = 0.0;
+        }
+    }
+    start
+}
+
+fn number(field: &Field, request: &Request) -> u8 {
+    field.clone().step(request).map_or_else(|refusal| refusal.number(), |_| 0)
 }

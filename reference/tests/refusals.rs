@@ -107,6 +107,7 @@ fn refusal_15_leg() {
     assert_eq!(line(&mut field, 5, 0, 7, 0), refused(15));
     play(&mut field, &[(12, 0, 0, 1), (5, 0, 7, 0)]);
     assert_eq!(line(&mut field, 6, 0, 7, 0), refused(15));
+    assert_eq!(line(&mut field, 9, 0, 7, 0), refused(15));
     play(&mut field, &[(12, 0, 0, 64), (6, 0, 7, 0)]);
     assert_eq!(line(&mut field, 7, 0, 7, 0), refused(15));
     play(&mut field, &[(10, 0, 7, 0)]);
@@ -164,7 +165,7 @@ fn refusal_22_sequence_or_leader() {
     let mut field = three();
     play(&mut field, &[(12, 0, 0, 64), (5, 0, 7, 0), (4, 0, 9, 0), (12, 0, 0, 64)]);
     assert_eq!(line(&mut field, 5, 0, 9, 0), refused(22));
-    play(&mut field, &[(5, 0, 8, 0), (6, 0, 7, 0)]);
+    play(&mut field, &[(5, 0, 8, 0), (6, 0, 7, 0), (12, 0, 0, 64)]);
     assert_eq!(line(&mut field, 9, 0, 8, 0), refused(22));
 }
 
@@ -215,9 +216,33 @@ fn merge_behind_a_leader_on_intermediate_or_final() {
 }
 
 #[test]
-fn exit_needs_no_flown_out_leg() {
+fn exit_needs_its_leg_flown_out() {
     let mut field = empty();
     play(&mut field, &[(2, 1, 7, 64), (4, 0, 7, 0), (12, 0, 0, 64), (5, 0, 7, 0)]);
     assert_eq!(miles(&field, 7), 0.0);
+    assert_eq!(line(&mut field, 9, 0, 7, 0), refused(15));
+    play(&mut field, &[(12, 0, 0, 63)]);
+    assert_eq!(line(&mut field, 9, 0, 7, 0), refused(15));
+    play(&mut field, &[(12, 0, 0, 1)]);
     assert_eq!(line(&mut field, 9, 0, 7, 0), [0, 7, 0, 0, 0, 0]);
+    assert_eq!(field.present(), 0);
+}
+
+/// 14, then 15, then 22.
+#[test]
+fn exit_in_the_order_of_its_refusals() {
+    let mut field = three();
+    play(&mut field, &[(12, 0, 0, 64), (5, 0, 7, 0), (5, 0, 8, 0)]);
+    // 8 is behind 7, at the start of its leg, and not first.
+    assert_eq!(line(&mut field, 9, 0, 8, 0), refused(14));
+    play(&mut field, &[(12, 0, 0, 64)]);
+    assert_eq!(line(&mut field, 9, 0, 8, 0), refused(14));
+    // The same with 7 on final: 8 is at the head.
+    let mut field = three();
+    play(&mut field, &[(12, 0, 0, 64), (5, 0, 7, 0), (12, 0, 0, 64), (6, 0, 7, 0), (5, 0, 8, 0)]);
+    assert_eq!(line(&mut field, 9, 0, 8, 0), refused(15));
+    play(&mut field, &[(12, 0, 0, 64)]);
+    assert_eq!(line(&mut field, 9, 0, 8, 0), refused(22));
+    play(&mut field, &[(7, 0, 7, 0)]);
+    assert_eq!(line(&mut field, 9, 0, 8, 0), [0, 8, 0, 0, 0, 0]);
 }

@@ -183,8 +183,8 @@ module _ (f : Side) (line : List Placed) (runway : List Aircraft) (legs : Legs) 
       (λ h q d.
       let F = fieldOf f (h .ahead ++ h .here ∷ h .behind) runway legs in
       let z = eqb-true (h .here .zone) 11 (passed (exit-from (h .here .zone) (zone-13 h q) (subst (λ (j : ℕ). T (startsFrom j (h .here .zone))) k (h .starts)))) in
-      let p = input.passed (besides F r 9) (tt, tt) d in
-      let a : h .ahead ≡ [] = nil-line (h .ahead) (sym (first-there f (h .ahead) (h .here) (h .behind) runway legs (q .different)) ∙ ap (isFirst (F .sequence)) (sym (h .named)) ∙ p .0) in
+      let p = input.passed (besides F r 9) (tt, (tt, tt)) d in
+      let a : h .ahead ≡ [] = nil-line (h .ahead) (sym (first-there f (h .ahead) (h .here) (h .behind) runway legs (q .different)) ∙ ap (isFirst (F .sequence)) (sym (h .named)) ∙ p .1 .0) in
       let w : h .ahead ++ h .here ∷ h .behind ≡ h .here ∷ h .behind = ap (λ (l : List Placed). l ++ h .here ∷ h .behind) a in
       subst (λ (l : List Placed). After f l runway legs r) (sym w) (after-9 f (h .here) (h .behind) runway legs (subst (λ (l : List Placed). Orderly f l runway legs) w q) r (h .named) k z))
 

@@ -211,12 +211,14 @@ fn land_number(f: Field, zone: u8) -> u16
     with_need(flown_out_number(f, zone), 24, is_empty(f, RUNWAY))
 }
 
-// Kind 9: the need of an exit, where it is not met; 0 where it is.
-fn exit_number(f: Field, number: u16) -> u16
-    ensures { λ n. ⌜ n ≡ firstRefused (exitNeeds f number) ⌝ }
+// Kind 9: the first need of an exit that is not met, the leg flown out and then the sequence; 0 where both are.
+fn exit_number(f: Field, number: u16, zone: u8) -> u16
+    ensures { λ n. ⌜ n ≡ firstRefused (exitNeeds f number zone) ⌝ }
 {
     let s = f.sequence;
-    with_need(0, 22, is_first(s, number))
+    let flown = has_flown_out(f, zone);
+    let first = is_first(s, number);
+    with_need(with_need(0, 15, flown), 22, first)
 }
 
 // The first need that a kind has besides and the field does not meet, of a request whose aircraft is at a place; 0 where all are met.
@@ -232,7 +234,7 @@ fn needs_number(f: Field, r: Request, at: Place) -> u16
         5 => merge_number(f, r.number, at.zone),
         6 | 11 => flown_out_number(f, at.zone),
         7 => land_number(f, at.zone),
-        9 => exit_number(f, r.number),
+        9 => exit_number(f, r.number, at.zone),
         _ => 0,
     }
 }

@@ -1,4 +1,4 @@
--- The marked cases of "Played by hand" and the examples of docs/WHY-SAFE.md hold of the definitions, by one computation. Assumes nothing.
+-- The marked cases of "Played by hand", the examples of docs/WHY-SAFE.md and the exits hold of the definitions, by one computation. Assumes nothing.
 use mathlib.Core.Path.{refl}
 use lib.Dec.{T}
 use lib.Ieee.{add, sub, mul, div, ofInt, round, lt, le, eq}
@@ -16,11 +16,11 @@ use Rattle.rules.specs.Kinds.{startsFrom, mayApproach, baseFree, mayMerg
 use Rattle.rules.specs.Step.{checksOf, effectOf, numberOf, numberAndZeros, acceptance, answerOf, stepOf}
 use Rattle.rules.specs.Reason.{along, approachOrder, areaOrder, roomToMiss, lateralEntry, QueueAgrees}
 use Rattle.rules.specs.Cases.{marked, caseHolds}
-use Rattle.rules.specs.Examples.{examples, crowded, missOfSeven, BoundsNotEnough}
+use Rattle.rules.specs.Examples.{examples, exits, crowded, missOfSeven, BoundsNotEnough}
 use Rattle.field.proofs.Tests.{each-operation}
 
--- the three together, so that what is computed is unfolded once
-computed : T (every caseHolds marked) × T (every caseHolds examples) × BoundsNotEnough crowded missOfSeven
+-- the four together, so that what is computed is unfolded once
+computed : T (every caseHolds marked) × T (every caseHolds examples) × T (every caseHolds exits) × BoundsNotEnough crowded missOfSeven
 unfolding
     advanced pastEnd waitedAfter kindAllowed sideAllowed numberAllowed amountAllowed inputNumber isSide opposite isFlyingZone zoneOf queueOf inZone orderOf progressInto entering
     withProgress arrived withFix legOf flownOutIn emptyField howMany howManyWithFix inOperation inArea perFix approachHolds countedFor potentialOf findIn placeOf
@@ -31,6 +31,7 @@ unfolding
     answerOf stepOf
     add sub mul div ofInt round lt le eq along approachOrder areaOrder roomToMiss lateralEntry
 computed = (
+  tt,
   tt,
   tt,
   record {
@@ -50,6 +51,10 @@ marked-cases = computed .0
 pub examples-hold : T (every caseHolds examples)
 examples-hold = computed .1
 
+-- an exit waits for its leg
+pub exits-hold : T (every caseHolds exits)
+exits-hold = computed .2
+
 -- the bounds alone are not enough
 pub bounds-not-enough : BoundsNotEnough crowded missOfSeven
-bounds-not-enough = computed .2
+bounds-not-enough = computed .3

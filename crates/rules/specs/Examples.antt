@@ -1,4 +1,5 @@
--- The examples of docs/WHY-SAFE.md: requests from the empty field, and a field within the bounds that no list of requests reaches.
+-- The examples of docs/WHY-SAFE.md: requests from the empty field, and a field within the bounds that no list of requests reaches. And
+-- exits, which wait for the leg since (02, 2.3).
 use mathlib.Core.Path.{_≡_}
 use mathlib.Core.Bool.{false, _&&_}
 use mathlib.Core.List.{List, [], _∷_}
@@ -21,6 +22,10 @@ use Rattle.rules.specs.Reason.{approachOrder, areaOrder, roomToMiss, lat
 abbrev pub sevenOnFinal : List Request → List Request
 sevenOnFinal rest = ask 1 1 7 64 ∷ ask 1 2 8 64 ∷ ask 3 0 8 0 ∷ ask 1 2 9 64 ∷ toBase 7 (toFinal 7 rest)
 
+-- 7 enters right and 8 left, and both go to base
+abbrev pub bothToBase : List Request → List Request
+bothToBase rest = ask 1 1 7 64 ∷ ask 1 2 8 64 ∷ toBase 7 (toBase 8 rest)
+
 abbrev pub examples : List Case
 examples =
     -- 7 misses: to the right, its old fix, with the next fix, 2, and last; now each of the three has one behind it in the area of its fix,
@@ -36,12 +41,35 @@ examples =
     -- 7 lands: out of the sequence, with its fix and no leader
     ∷ record { leg = 64; requests = sevenOnFinal (ask 12 0 0 64 ∷ ask 7 0 7 0 ∷ []); answer = says 7 13 1 0 0; after = inOrder (8 ∷ 9 ∷ []) }
     -- 8 may not merge before its leader on base
+    ∷ record { leg = 64; requests = bothToBase (ask 12 0 0 64 ∷ ask 5 0 8 0 ∷ []); answer = numberAndZeros 22; after = anyField }
+    ∷ []
+
+-- ---- exits
+
+-- 7 alone goes on to intermediate, with a merge that is refused before it: the requests of document 01's session but the last
+abbrev pub toIntermediate : List Request → List Request
+toIntermediate rest = ask 1 1 7 64 ∷ toBase 7 (ask 5 0 7 0 ∷ ask 12 0 0 64 ∷ ask 5 0 7 0 ∷ rest)
+
+-- 8 on intermediate behind 7 on final
+abbrev pub eightBehind : List Request → List Request
+eightBehind rest = bothToBase (toFinal 7 (ask 5 0 8 0 ∷ rest))
+
+abbrev pub exits : List Case
+exits =
+    -- at the start of the leg: 15, which ends the session as (02, 2.3) gives it
+    record { leg = 64; requests = toIntermediate (ask 9 0 7 0 ∷ []); answer = numberAndZeros 15; after = stands 7 11 }
+    -- at its end: gone
+    ∷ record { leg = 64; requests = toIntermediate (ask 12 0 0 64 ∷ ask 9 0 7 0 ∷ []); answer = says 7 0 0 0 0; after = inOrder [] }
+    -- behind another on intermediate, where nobody has flown the leg out: 14 comes before 15
     ∷ record {
       leg = 64;
-      requests = ask 1 1 7 64 ∷ ask 1 2 8 64 ∷ toBase 7 (toBase 8 (ask 12 0 0 64 ∷ ask 5 0 8 0 ∷ []));
-      answer = numberAndZeros 22;
+      requests = bothToBase (ask 12 0 0 64 ∷ ask 5 0 7 0 ∷ ask 5 0 8 0 ∷ ask 9 0 8 0 ∷ []);
+      answer = numberAndZeros 14;
       after = anyField;
     }
+    -- at the head of intermediate and not first in sequence: 15 comes before 22
+    ∷ record { leg = 64; requests = eightBehind (ask 9 0 8 0 ∷ []); answer = numberAndZeros 15; after = anyField }
+    ∷ record { leg = 64; requests = eightBehind (ask 12 0 0 64 ∷ ask 9 0 8 0 ∷ []); answer = numberAndZeros 22; after = anyField }
     ∷ []
 
 -- ---- the bounds alone are not enough

@@ -93,9 +93,9 @@ flownOutNeeds f z = flownOutCheck f z ∷ []
 abbrev pub landNeeds : Field → ℕ → List (ℕ × Bool)
 landNeeds f z = flownOutCheck f z ∷ (24, isEmpty f runway) ∷ []
 
--- "9 exit, intermediate to 0, if first in sequence. No flown-out check."
-abbrev pub exitNeeds : Field → ℕ → List (ℕ × Bool)
-exitNeeds f number = (22, isFirst (f .sequence) number) ∷ []
+-- "9 exit, intermediate to 0, if first in sequence", from zone z; since (02, 2.3) the leg flown out, and that is asked before the sequence
+abbrev pub exitNeeds : Field → ℕ → ℕ → List (ℕ × Bool)
+exitNeeds f number z = flownOutCheck f z ∷ (22, isFirst (f .sequence) number) ∷ []
 
 -- ---- what they do
 

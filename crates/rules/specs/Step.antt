@@ -34,7 +34,7 @@ needsFor kind f r at =
     (flownOutNeeds f (at .zone))
     (landNeeds f (at .zone))
     []
-    (exitNeeds f (r .number))
+    (exitNeeds f (r .number) (at .zone))
     []
     (flownOutNeeds f (at .zone))
     []

@@ -3,13 +3,21 @@
 //! it, and then what could be asked.
 
 use reference::explore::{requests, tick, Reached};
-use reference::{Field, PracticeFile, Request};
+use reference::{Field, Legs, PracticeFile, Request};
 
 /// Legs so short that one tick flies each of them out.
 const LEGS: [u16; 4] = [1; 4];
 
 fn file(requests: Vec<Request>) -> Vec<u8> {
     PracticeFile { legs_64ths: LEGS, requests }.to_bytes()
+}
+
+fn played(requests: &[Request]) -> Field {
+    let mut field = Field::empty(Legs::from_64ths(LEGS));
+    for request in requests {
+        field.step(request).expect("accepted");
+    }
+    field
 }
 
 /// Everyone there and one new, in every kind; then the field is left alone or flown on.
@@ -22,14 +30,22 @@ fn asked(field: &Field) -> Vec<Request> {
     all
 }
 
+/// What is accepted on a field, and what is refused.
+fn parted(field: &Field) -> (Vec<Request>, Vec<Request>) {
+    asked(field).into_iter().partition(|request| field.clone().step(request).is_ok())
+}
+
 /// The files that lead to one field: one that asks for all that is refused
-/// there, and one for each request that is accepted. An accepted request is
-/// asked for twice, and then after a tick.
+/// there, one for all that is refused before the last tick, where the last to
+/// move is at the start of its leg, and one for each request that is accepted.
+/// An accepted request is asked for twice, and then after a tick.
 fn files_of(way: &[Request], field: &Field) -> Vec<Vec<u8>> {
-    let (accepted, refused): (Vec<Request>, Vec<Request>) =
-        asked(field).into_iter().partition(|request| field.clone().step(request).is_ok());
+    let (accepted, refused) = parted(field);
     let to_field = || way.iter().flat_map(|&request| [request, tick()]);
     let mut files = vec![file(to_field().chain(refused).collect())];
+    let mut start: Vec<Request> = to_field().collect();
+    start.pop();
+    files.push(file(start.iter().copied().chain(parted(&played(&start)).1).collect()));
     for request in accepted {
         files.push(file(to_field().chain([request, request, tick(), request]).collect()));
     }
