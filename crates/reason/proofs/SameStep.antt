@@ -131,7 +131,7 @@ module _ (f g : Field) (s : Same f g) where
         ap (λ (c : ℕ × Bool). c ∷ []) (flown-same (at .zone)),
         landing (at .zone),
         refl,
-        ap (λ (q : Sequence). (22, isFirst q (r .number)) ∷ []) (s .sequence),
+        ap (λ (c : ℕ × Bool). c ∷ (22, isFirst (f .sequence) (r .number)) ∷ []) (flown-same (at .zone)) ∙ ap (λ (q : Sequence). flownOutCheck g (at .zone) ∷ (22, isFirst q (r .number)) ∷ []) (s .sequence),
         refl,
         ap (λ (c : ℕ × Bool). c ∷ []) (flown-same (at .zone)),
         refl,
