@@ -1,4 +1,5 @@
 pub mod Checks
 pub mod StepLaws
 pub mod Refusals
+pub mod Ticking
 pub mod Cases

@@ -1,45 +1,62 @@
 -- `tick::ticked` meets its contract: before place i each zone is as the tick leaves it, and from there on each is as it was. Assumes nothing.
 use mathlib.Core.Path.{_≡_, refl, sym, ap, _∙_}
 use mathlib.Core.List.{List, _++_}
-use Prim.Native.Nat.{_+_, _-_, _≤_}
-use lib.ListN.{length, take, drop}
-use Rattle.field.specs.declared.Zone.{Zone}
-use Rattle.field.specs.Boxes.{emptyZone}
-use Rattle.tick.specs.Tick.{tickedFrom, ticked}
-use Rattle.tick.proofs.Tick.{tickedIn, length-ticked, getD-ticked}
-use Rattle.field.proofs.Arrays.{filled-at, filled-more, filled-all}
-use Rattle.field.proofs.Known.{field-known}
-use borrow.Author.Needs.{needs}
+use Prim.Native.Nat.{ℕ, _+_, _-_, _≤_}
+use native.Mathlib.Numerals.{add-one}
 use native.Mathlib.Omega.{arith}
+use lib.Ieee.{Float}
+use lib.ListN.{length, take, drop, getD}
+use Rattle.field.specs.declared.Legs.{Legs}
+use Rattle.field.specs.declared.Zone.{Zone}
+use Rattle.field.specs.declared.Field.{Field}
+use Rattle.field.specs.Boxes.{emptyZone, legOf}
+use Rattle.field.proofs.Arrays.{filled-at, filled-more}
+use Rattle.field.proofs.Known.{field-known}
+use Rattle.tick.specs.Tick.{tickedZone, tickedFrom, ticked}
+use Rattle.tick.proofs.Tick.{length-ticked, getD-ticked, flown-in, six-kept, twelve-written}
+use borrow.Author.Needs.{needs}
 use Rattle.tick.proofs.ticked.Statement.{statement}
 use Rattle.tick.proofs.ticked.Tie as tie
 
+record Ticking (amount : ℕ) (legs : Legs) (f after : Field) (i : ℕ) : Type 0 where
+  from : 6 ≤ i
+  below : i ≤ 12
+  zones : after .zones ≡ take i (tickedFrom legs amount 1 (f .zones)) ++ drop i (f .zones)
+  sequence : after .sequence ≡ f .sequence
+  next : after .next ≡ f .next
+  legs-kept : after .legs ≡ f .legs
+
 abbrev Inv-loop : tie.InvT-loop
-Inv-loop f amount legs zones₀ i₀ zones i = (i ≤ 13) × (zones ≡ take i (tickedFrom legs amount 1 zones₀) ++ drop i zones₀)
+Inv-loop amount legs after₀ i₀ after i = Ticking amount legs after₀ after i
 
 abbrev μ-loop : tie.MeasureT-loop
-μ-loop f amount legs zones₀ i₀ zones i = 13 - i
+μ-loop amount legs after₀ i₀ after i = 12 - i
 
 loop-holds : tie.Need-loop-holds Inv-loop μ-loop
-loop-holds c = (omega arith, refl)
+loop-holds c =
+    let s = c .before .args in
+    record { from = omega arith; below = omega arith; zones = six-kept (s .f .legs) (s .amount) (s .f .zones); sequence = refl; next = refl; legs-kept = refl }
 
 mul-q : tie.Need-mul-q Inv-loop μ-loop
 mul-q c = search needs
 
-array-copy-out-q : tie.Need-array-copy-out-q Inv-loop μ-loop
-array-copy-out-q c = search needs
+element-copy-out-q : tie.Need-element-copy-out-q Inv-loop μ-loop
+element-copy-out-q c = search needs
 
-add-ticked-in : tie.Need-add-ticked-in Inv-loop μ-loop
-add-ticked-in c = search needs
+add-leg-of : tie.Need-add-leg-of Inv-loop μ-loop
+add-leg-of c = search needs
 
-ticked-in-requires : tie.Need-ticked-in-requires Inv-loop μ-loop
-ticked-in-requires c κs = search needs
+leg-of-requires : tie.Need-leg-of-requires Inv-loop μ-loop
+leg-of-requires c κs = search needs
 
-mul-zones : tie.Need-mul-zones Inv-loop μ-loop
-mul-zones c = search needs
+ticked-zone-requires : tie.Need-ticked-zone-requires Inv-loop μ-loop
+ticked-zone-requires c κs = search needs
 
-array-set-from-zones : tie.Need-array-set-from-zones Inv-loop μ-loop
-array-set-from-zones c = search needs
+mul-t13 : tie.Need-mul-t13 Inv-loop μ-loop
+mul-t13 c = search needs
+
+element-set-from-after : tie.Need-element-set-from-after Inv-loop μ-loop
+element-set-from-after c = search needs
 
 add-i : tie.Need-add-i Inv-loop μ-loop
 add-i c = search needs
@@ -49,28 +66,43 @@ loop-less c = search needs
 
 loop-again : tie.Need-loop-again Inv-loop μ-loop
 loop-again c =
-    let s = c .before .before .before .before .before .before in
-    let l = c .before .before .before .loop in
+    let h = c .before .before .before .before in
+    let s = h .before .before in
+    let l = h .loop in
     let f = s .args .f in
     let xs = f .zones in
     let legs = f .legs in
     let amount = s .args .amount in
     let long : length xs ≡ 13 = field-known f (s .good .0) .zones in
+    let low = l .inv .from in
     let ys = tickedFrom legs amount 1 xs in
-    let here = filled-at (l .zones) ys xs (l .i) emptyZone _ (omega arith) (length-ticked legs amount 1 xs) (l .inv .1) in
-    let right = c .ticked-in .ensures ∙ ap (tickedIn legs amount (l .i + 1)) here ∙ sym (getD-ticked legs amount 1 xs (l .i) emptyZone (omega arith)) in
-    (omega arith, filled-more (l .zones) ys xs (l .i) emptyZone (c .ticked-in .result) (omega arith) (length-ticked legs amount 1 xs) (l .inv .1) right)
+    let same = length-ticked legs amount 1 xs in
+    let here = filled-at (l .after .zones) ys xs (l .i) emptyZone _ (omega arith) same (l .inv .zones) in
+    let right =
+    c .ticked-zone .ensures
+    ∙ ap (λ (leg : Float). tickedZone leg amount (getD (l .after .zones) (l .i) _)) (c .before .leg-of .ensures)
+    ∙ ap (tickedZone (legOf legs (l .i + 1)) amount) here
+    ∙ sym (flown-in legs amount (l .i + 1) (getD xs (l .i) emptyZone) (omega arith) (omega arith))
+    ∙ sym (getD-ticked legs amount 1 xs (l .i) emptyZone (omega arith)) in
+    record {
+      from = omega arith;
+      below = omega arith;
+      zones = filled-more (l .after .zones) ys xs (l .i) emptyZone (c .ticked-zone .result) (omega arith) same (l .inv .zones) right;
+      sequence = l .inv .sequence;
+      next = l .inv .next;
+      legs-kept = l .inv .legs-kept;
+    }
 
 returns : tie.Need-returns Inv-loop μ-loop
 unfolding ticked
 returns c =
-    let s = c .before .before .before .before .before in
-    let l = c .before .before .loop in
+    let s = c .before .before .before in
+    let l = c .before .loop in
     let f = s .args .f in
     let long : length (f .zones) ≡ 13 = field-known f (s .good .0) .zones in
-    let ys = tickedFrom (f .legs) (s .args .amount) 1 (f .zones) in
-    let all = filled-all (l .zones) ys (f .zones) (l .i) (omega arith) (length-ticked (f .legs) (s .args .amount) 1 (f .zones)) (l .inv .1) in
-    ap (λ (zs : List Zone). record { zones = zs; sequence = f .sequence; next = f .next; legs = f .legs }) all
+    let e : l .i ≡ 12 = omega (arith, l .inv .below) in
+    let zones = twelve-written (f .legs) (s .args .amount) (l .after .zones) (f .zones) long (rw e at (l .inv .zones)) in
+    λ j. record { zones = zones j; sequence = l .inv .sequence j; next = l .inv .next j; legs = l .inv .legs-kept j }
 
 pub ticked-spec : {M : Type 1} → statement M
 ticked-spec =
@@ -80,11 +112,12 @@ ticked-spec =
     μ-loop
     loop-holds
     mul-q
-    array-copy-out-q
-    add-ticked-in
-    ticked-in-requires
-    mul-zones
-    array-set-from-zones
+    element-copy-out-q
+    add-leg-of
+    leg-of-requires
+    ticked-zone-requires
+    mul-t13
+    element-set-from-after
     add-i
     loop-less
     loop-again

@@ -4,6 +4,7 @@ use mathlib.Core.List.{List, map, _++_}
 use Prim.Native.Nat.{_-_, _≤_}
 use lib.ListN.{length, take, drop, length-map}
 use Rattle.field.specs.declared.Aircraft.{Aircraft}
+use Rattle.field.specs.declared.Zone.{Zone}
 use Rattle.field.specs.Boxes.{nobody}
 use Rattle.tick.specs.Tick.{tickedAircraft, tickedZone}
 use Rattle.field.proofs.Arrays.{filled-at, filled-more, filled-all, getD-map}
@@ -14,28 +15,29 @@ use Rattle.tick.proofs.ticked_zone.Statement.{statement}
 use Rattle.tick.proofs.ticked_zone.Tie as tie
 
 abbrev Inv-loop : tie.InvT-loop
-Inv-loop leg amount length aircraft₀ i₀ aircraft i = (i ≤ 4) × (aircraft ≡ take i (map (tickedAircraft leg amount) aircraft₀) ++ drop i aircraft₀)
+Inv-loop leg amount after₀ i₀ after i =
+    (i ≤ 4) × (after .aircraft ≡ take i (map (tickedAircraft leg amount) (after₀ .aircraft)) ++ drop i (after₀ .aircraft)) × (after .length ≡ after₀ .length)
 
 abbrev μ-loop : tie.MeasureT-loop
-μ-loop leg amount length aircraft₀ i₀ aircraft i = 4 - i
+μ-loop leg amount after₀ i₀ after i = 4 - i
 
 loop-holds : tie.Need-loop-holds Inv-loop μ-loop
-loop-holds c = (omega arith, refl)
+loop-holds c = (omega arith, refl, refl)
 
 mul-a : tie.Need-mul-a Inv-loop μ-loop
 mul-a c = search needs
 
-array-copy-out-a : tie.Need-array-copy-out-a Inv-loop μ-loop
-array-copy-out-a c = search needs
+element-copy-out-a : tie.Need-element-copy-out-a Inv-loop μ-loop
+element-copy-out-a c = search needs
 
 ticked-aircraft-requires : tie.Need-ticked-aircraft-requires Inv-loop μ-loop
 ticked-aircraft-requires c κs = search needs
 
-mul-aircraft : tie.Need-mul-aircraft Inv-loop μ-loop
-mul-aircraft c = search needs
+mul-t8 : tie.Need-mul-t8 Inv-loop μ-loop
+mul-t8 c = search needs
 
-array-set-from-aircraft : tie.Need-array-set-from-aircraft Inv-loop μ-loop
-array-set-from-aircraft c = search needs
+element-set-from-after : tie.Need-element-set-from-after Inv-loop μ-loop
+element-set-from-after c = search needs
 
 add-i : tie.Need-add-i Inv-loop μ-loop
 add-i c = search needs
@@ -45,28 +47,28 @@ loop-less c = search needs
 
 loop-again : tie.Need-loop-again Inv-loop μ-loop
 loop-again c =
-    let s = c .before .before .before .before .before in
+    let s = c .before .before .before .before in
     let l = c .before .before .before .loop in
     let g = tickedAircraft (s .args .leg) (s .args .amount) in
     let q = s .args .q in
     let xs = q .aircraft in
     let long : length xs ≡ 4 = zone-known q (s .good .1 .1 .0) .places in
-    let here = filled-at (l .aircraft) (map g xs) xs (l .i) nobody _ (omega arith) (length-map xs g) (l .inv .1) in
+    let here = filled-at (l .after .aircraft) (map g xs) xs (l .i) nobody _ (omega arith) (length-map xs g) (l .inv .1) in
     let ticked = c .ticked-aircraft in
     let right = ticked .ensures ∙ ap g here ∙ sym (getD-map g xs (l .i) nobody nobody (omega arith)) in
-    (omega arith, filled-more (l .aircraft) (map g xs) xs (l .i) nobody (ticked .result) (omega arith) (length-map xs g) (l .inv .1) right)
+    (omega arith, filled-more (l .after .aircraft) (map g xs) xs (l .i) nobody (ticked .result) (omega arith) (length-map xs g) (l .inv .1) right, l .inv .2)
 
 returns : tie.Need-returns Inv-loop μ-loop
 unfolding tickedZone
 returns c =
-    let s = c .before .before .before in
+    let s = c .before .before in
     let l = c .before .loop in
     let g = tickedAircraft (s .args .leg) (s .args .amount) in
     let q = s .args .q in
     let xs = q .aircraft in
     let long : length xs ≡ 4 = zone-known q (s .good .1 .1 .0) .places in
-    let all = filled-all (l .aircraft) (map g xs) xs (l .i) (omega arith) (length-map xs g) (l .inv .1) in
-    ap (λ (zs : List Aircraft). record { aircraft = zs; length = q .length }) all
+    let all = filled-all (l .after .aircraft) (map g xs) xs (l .i) (omega arith) (length-map xs g) (l .inv .1) in
+    λ j. record { aircraft = all j; length = l .inv .2 j }
 
 pub ticked-zone-spec : {M : Type 1} → statement M
 ticked-zone-spec =
@@ -76,10 +78,10 @@ ticked-zone-spec =
     μ-loop
     loop-holds
     mul-a
-    array-copy-out-a
+    element-copy-out-a
     ticked-aircraft-requires
-    mul-aircraft
-    array-set-from-aircraft
+    mul-t8
+    element-set-from-after
     add-i
     loop-less
     loop-again
