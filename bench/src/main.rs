@@ -1,15 +1,19 @@
-//! The proved library and the reference, measured on one practice file.
+//! The proved library and the reference, or two libraries, measured on one practice file.
 //!
 //!   bench requests FILE              how many requests it has
 //!   bench time PROGRAM PROGRAM FILE  requests a second of both, and their ratio
 //!   bench count PROGRAM FILE N       plays the file N times, to be counted
+//!   bench same LIBRARY LIBRARY FILE  whether both write the same report
 //!   bench typical                    prints the typical session in readable form
 //!
-//! A PROGRAM is library, library-judged, reference or reference-unjudged.
+//! A PROGRAM is library, library-judged, reference, reference-unjudged or a LIBRARY: the path of a shared one, NAME.so.
+
+mod loaded;
 
 use comparison::dice::Dice;
-use comparison::library::{judged_report_into, report_into, Player, ROOM};
+use comparison::library::{judged_report_into, report_into, Buffer, ROOM};
 use comparison::sessions::typical;
+use loaded::loaded;
 use reference::{PracticeFile, Request};
 use std::hint::black_box;
 use std::time::{Duration, Instant};
@@ -30,12 +34,13 @@ fn program(name: &str) -> Program {
         "library-judged" => by_library(judged_report_into),
         "reference" => by_reference(reference::report),
         "reference-unjudged" => by_reference(reference::report_unjudged),
+        _ if name.ends_with(".so") => by_library(loaded(name)),
         _ => panic!("no program: {name}"),
     }
 }
 
 /// The library's buffer is lent as the play before left it.
-fn by_library(play: Player) -> Program {
+fn by_library(play: impl Fn(&[u8], &mut Buffer) -> usize + 'static) -> Program {
     let mut out = Box::new([0; ROOM]);
     Box::new(move |file| play(black_box(file), black_box(&mut out)))
 }
@@ -43,6 +48,13 @@ fn by_library(play: Player) -> Program {
 /// The reference makes its report anew.
 fn by_reference(report: fn(&[u8]) -> Vec<u8>) -> Program {
     Box::new(move |file| black_box(report(black_box(file))).len())
+}
+
+/// The report of a file by a shared library.
+fn report(library: &str, file: &[u8]) -> Vec<u8> {
+    let mut out = Box::new([0; ROOM]);
+    let length = loaded(library)(file, &mut out);
+    out[..length].to_vec()
 }
 
 /// Seconds that one play takes, over so many.
@@ -97,6 +109,11 @@ fn main() {
             for _ in 0..plays.parse().expect("how often") {
                 play(&file);
             }
+        }
+        ["same", first, second, path] => {
+            let (file, _) = read(path);
+            let same = report(first, &file) == report(second, &file);
+            println!("{}", if same { "the same report" } else { "different reports" });
         }
         ["typical"] => print_typical(),
         _ => panic!("see the head of src/main.rs"),

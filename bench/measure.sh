@@ -1,0 +1,63 @@
+# What bench/run and bench/against share, to be sourced from the root: what they need and build, and how two programs are measured on a
+# file. $made is a folder that is removed at the end, $bench the measuring program, $longest and $typical two practice files.
+set -e -o pipefail
+
+# Ends the script where one of these is not installed.
+needs() {
+    local tool
+    for tool in "$@"; do
+        command -v "$tool" > /dev/null || { echo "bench: $tool is missing"; exit 1; }
+    done
+}
+
+needs rt cargo python3 valgrind
+made=$(mktemp -d)
+trap 'rm -rf "$made"' EXIT
+
+# Proves the library of a checkout and builds it.
+staticlib() {
+    (cd "$1" && rt staticlib session) > "$made/log" 2>&1 || { cat "$made/log"; exit 1; }
+}
+
+staticlib .
+cargo build --quiet --release --offline --locked --manifest-path bench/Cargo.toml
+bench=bench/target/release/bench
+longest=crates/cases/data/longest.scap
+typical=$made/typical.scap
+python3 tools/sessions.py bytes bench/typical.txt "$typical"
+
+# Instructions of so many plays of a file by one program, starting and reading included.
+instructions() {
+    valgrind --tool=callgrind --callgrind-out-file="$made/callgrind.out" "$bench" count "$1" "$2" "$3" > "$made/log" 2>&1 ||
+        { cat "$made/log" >&2; return 1; }
+    sed -n 's/^summary: //p' "$made/callgrind.out"
+}
+
+# Instructions a request: what two plays more cost.
+a_request() {
+    local once thrice
+    once=$(instructions "$1" "$2" 1)
+    thrice=$(instructions "$1" "$2" 3)
+    echo $(((thrice - once) / (2 * $3)))
+}
+
+# Takes a file in hand, and counts the instructions a request of each program on it: take FILE PROGRAM...
+declare -A counted
+take() {
+    local program
+    file=$1
+    requests=$("$bench" requests "$file")
+    for program in "${@:2}"; do
+        counted[$program]=$(a_request "$program" "$file" "$requests")
+    done
+}
+
+# The line of two programs on the file in hand, each after what it is called: beside NOTE NAME PROGRAM NAME PROGRAM
+beside() {
+    local first second ratio fewer
+    read -r first second ratio < <("$bench" time "$3" "$5" "$file")
+    fewer=$(awk "BEGIN { printf \"%.2f\", ${counted[$5]} / ${counted[$3]} }")
+    echo "$(basename "$file" .scap), $requests requests$1:" \
+        "$2 $first a second, $4 $second, ratio $ratio;" \
+        "instructions a request: $2 ${counted[$3]}, $4 ${counted[$5]}, ratio $fewer"
+}
