@@ -1,4 +1,6 @@
 -- `effects::head_gone` meets its contract. Assumes nothing.
+use mathlib.Core.Path.{ap, _∙_}
+use Rattle.field.specs.Edits.{withoutHead, withZone}
 use Rattle.rules.specs.Kinds.{headGone}
 use borrow.Author.Needs.{needs}
 use Rattle.effects.proofs.head_gone.Statement.{statement}
@@ -15,7 +17,9 @@ with-zone-requires c κs = search needs
 
 returns : tie.Need-returns
 unfolding headGone
-returns c = cc
+returns c =
+    let s = c .before .before .before .args in
+    c .with-zone .ensures ∙ ap (withZone (s .f) (s .zone)) (c .before .without-head .ensures ∙ ap withoutHead (c .before .before .zone-of .ensures))
 
 pub head-gone-spec : {M : Type 1} → statement M
 head-gone-spec =

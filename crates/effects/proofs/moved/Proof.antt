@@ -14,6 +14,7 @@ use Rattle.field.proofs.Arrays.{set-from-one}
 use Rattle.field.proofs.Shapes.{zone-read}
 use Rattle.field.proofs.Known.{field-known}
 use Rattle.field.proofs.Parts.{holds}
+use Rattle.questions.specs.Find.{aircraftAt}
 use Rattle.rules.specs.Kinds.{headGone, tailPut, moved}
 use borrow.Author.Needs.{needs}
 use Rattle.effects.proofs.moved.Statement.{statement}
@@ -51,6 +52,11 @@ tail-on : (f : Field) (z : ℕ) (a : Aircraft) {q : Zone} (d : Zone) → length 
 unfolding tailPut
 tail-on f z a {q} d long low high e = written f z q low ∙ ap (withZone f z) (e ∙ ap (λ (p : Zone). withTail p a) (zone-read f z d long low high))
 
+-- where one of the two is no zone, by the calls
+called : (f : Field) (from to : ℕ) {a b : Aircraft} {g h : Field} → b ≡ aircraftAt f from 1 → a ≡ arrived to b → g ≡ headGone f from → h ≡ tailPut g to a → h ≡ moved f from to
+unfolding moved
+called f from to eb ea eg eh = cc
+
 aircraft-at-requires : tie.Need-aircraft-at-requires
 aircraft-at-requires c κs = search needs
 
@@ -67,8 +73,10 @@ tail-put-requires : tie.Need-tail-put-requires
 tail-put-requires c κs = search needs
 
 returns : tie.Need-returns
-unfolding moved
-returns c = cc
+returns c =
+    let k = c .before .before .before .before in
+    let s = k .before .before .args in
+    called (s .f) (s .from) (s .to) (k .before .aircraft-at .ensures) (k .arrived .ensures) (c .before .head-gone .ensures) (c .tail-put .ensures)
 
 in-range-requires-2 : tie.Need-in-range-requires-2
 in-range-requires-2 c κs = search needs
@@ -80,8 +88,10 @@ tail-put-requires-2 : tie.Need-tail-put-requires-2
 tail-put-requires-2 c κs = search needs
 
 returns-2 : tie.Need-returns-2
-unfolding moved
-returns-2 c = cc
+returns-2 c =
+    let k = c .before .before .before .before .before .before in
+    let s = k .before .before .args in
+    called (s .f) (s .from) (s .to) (k .before .aircraft-at .ensures) (k .arrived .ensures) (c .before .head-gone2 .ensures) (c .tail-put2 .ensures)
 
 sub-q : tie.Need-sub-q
 sub-q c = from-low (c .before .before)

@@ -1,4 +1,7 @@
 -- `effects::tail_put` meets its contract. Assumes nothing.
+use mathlib.Core.Path.{ap, _∙_}
+use Rattle.field.specs.declared.Zone.{Zone}
+use Rattle.field.specs.Edits.{withTail, withZone}
 use Rattle.rules.specs.Kinds.{tailPut}
 use borrow.Author.Needs.{needs}
 use Rattle.effects.proofs.tail_put.Statement.{statement}
@@ -15,7 +18,10 @@ with-zone-requires c κs = search needs
 
 returns : tie.Need-returns
 unfolding tailPut
-returns c = cc
+returns c =
+    let s = c .before .before .before .args in
+    c .with-zone .ensures
+    ∙ ap (withZone (s .f) (s .zone)) (c .before .with-tail .ensures ∙ ap (λ (q : Zone). withTail q (s .a)) (c .before .before .zone-of .ensures))
 
 pub tail-put-spec : {M : Type 1} → statement M
 tail-put-spec = tie.close (tie.spec zone-of-requires with-tail-requires with-zone-requires returns)
