@@ -126,6 +126,29 @@ pub record OrderlyField (f : Field) : Type 0 where
   pub is : f ≡ fieldOf first line runway legs
   pub orderly : Orderly first line runway legs
 
+-- ---- the arrays of a field with its places
+module _ (f : Field) (h : T (hasPlaces f)) where
+  pub thirteen : length (f .zones) ≡ 13
+  unfolding hasPlaces
+  thirteen =
+      let z = eqb (length (f .zones)) 13 in
+      let a = every (λ z. eqb (length (zoneOf f z .aircraft)) 4) everywhere in
+      eqb→eq (length (f .zones)) 13 (and-l z a (and-l (z && a) (eqb (length (f .sequence .numbers)) 4) h))
+
+  pub four-places : (z : ℕ) → isIn z everywhere ≡ true → length (zoneOf f z .aircraft) ≡ 4
+  unfolding hasPlaces
+  four-places z i =
+      let t = eqb (length (f .zones)) 13 in
+      let a = every (λ z. eqb (length (zoneOf f z .aircraft)) 4) everywhere in
+      eqb→eq (length (zoneOf f z .aircraft)) 4 (every-listed (λ z. eqb (length (zoneOf f z .aircraft)) 4) everywhere z (and-r t a (and-l (t && a) (eqb (length (f .sequence .numbers)) 4) h)) i)
+
+  pub four-numbers : length (f .sequence .numbers) ≡ 4
+  unfolding hasPlaces
+  four-numbers =
+      let z = eqb (length (f .zones)) 13 in
+      let a = every (λ z. eqb (length (zoneOf f z .aircraft)) 4) everywhere in
+      eqb→eq (length (f .sequence .numbers)) 4 (and-r (z && a) (eqb (length (f .sequence .numbers)) 4) h)
+
 module _ (f : Field) (h : T (hasPlaces f)) (s : Within f) (p : Parts f) (c : Reason f) where
   abbrev ns : List ℕ
   ns = orderOf (f .sequence)
@@ -133,30 +156,9 @@ module _ (f : Field) (h : T (hasPlaces f)) (s : Within f) (p : Parts f) (c : Rea
   abbrev line : List Placed
   line = lineOf f
 
-  thirteen : length (f .zones) ≡ 13
-  unfolding hasPlaces
-  thirteen =
-      let z = eqb (length (f .zones)) 13 in
-      let a = every (λ z. eqb (length (zoneOf f z .aircraft)) 4) everywhere in
-      eqb→eq (length (f .zones)) 13 (and-l z a (and-l (z && a) (eqb (length (f .sequence .numbers)) 4) h))
-
-  four-places : (z : ℕ) → isIn z everywhere ≡ true → length (zoneOf f z .aircraft) ≡ 4
-  unfolding hasPlaces
-  four-places z i =
-      let t = eqb (length (f .zones)) 13 in
-      let a = every (λ z. eqb (length (zoneOf f z .aircraft)) 4) everywhere in
-      eqb→eq (length (zoneOf f z .aircraft)) 4 (every-listed (λ z. eqb (length (zoneOf f z .aircraft)) 4) everywhere z (and-r t a (and-l (t && a) (eqb (length (f .sequence .numbers)) 4) h)) i)
-
-  four-numbers : length (f .sequence .numbers) ≡ 4
-  unfolding hasPlaces
-  four-numbers =
-      let z = eqb (length (f .zones)) 13 in
-      let a = every (λ z. eqb (length (zoneOf f z .aircraft)) 4) everywhere in
-      eqb→eq (length (f .sequence .numbers)) 4 (and-r (z && a) (eqb (length (f .sequence .numbers)) 4) h)
-
   zones-kept : (z : ℕ) → T (within 1 13 z) → zoneOf f z ≡ zoneFor (inZone f z)
   unfolding inZone
-  zones-kept z t = zone-is (zoneOf f z) (four-places z (in-everywhere z t)) (every-listed (λ z. zoneKept (zoneOf f z)) everywhere z (p .kept) (in-everywhere z t))
+  zones-kept z t = zone-is (zoneOf f z) (four-places f h z (in-everywhere z t)) (every-listed (λ z. zoneKept (zoneOf f z)) everywhere z (p .kept) (in-everywhere z t))
 
   queues : (z : ℕ) → T (within 1 12 z) → inZone f z ≡ inside z line
   queues z t = queue-is f (p .different) z t (c .queues-agree z t)
@@ -166,7 +168,7 @@ module _ (f : Field) (h : T (hasPlaces f)) (s : Within f) (p : Parts f) (c : Rea
   counts z t = ap length (queues z t) ∙ length-inside z line
 
   order-kept : f .sequence ≡ sequenceFor ns
-  order-kept = sequence-is (f .sequence) four-numbers (p .sequence-kept)
+  order-kept = sequence-is (f .sequence) (four-numbers f h) (p .sequence-kept)
 
   order-numbers : numbersOf line ≡ ns
   order-numbers = line-numbers f ns (p .named)
@@ -215,7 +217,7 @@ module _ (f : Field) (h : T (hasPlaces f)) (s : Within f) (p : Parts f) (c : Rea
   turns = alternates-back f firstSide ns (s .bound-f) (first-known .1)
 
   is-line : f ≡ fieldOf firstSide line (inZone f 13) (f .legs)
-  is-line = stands-for f firstSide thirteen zones-kept queues (order-kept ∙ ap sequenceFor (sym order-numbers)) (turns .1)
+  is-line = stands-for f firstSide (thirteen f h) zones-kept queues (order-kept ∙ ap sequenceFor (sym order-numbers)) (turns .1)
 
   -- ---- the numbers of the line and the runway
   fewer : (n : ℕ) → count (ns ++ numbers (inZone f 13)) n ≤ count (numbersIn f everywhere) n

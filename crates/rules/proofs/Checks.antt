@@ -72,6 +72,12 @@ refused-append [] ds k = refl
 refused-append ((n, true) ∷ cs) ds k = refused-append cs ds (k .1)
 refused-append ((n, false) ∷ cs) ds k = sym (if-false (firstRefused ds) n (ne-eqb n 0 (ne-of-gt (leb→le 1 n (k .0)))))
 
+-- neither of two lists refuses
+pub both-pass : (cs ds : List (ℕ × Bool)) → Numbered cs → firstRefused (cs ++ ds) ≡ 0 → (firstRefused cs ≡ 0) × (firstRefused ds ≡ 0)
+both-pass [] ds k e = (refl, e)
+both-pass ((n, true) ∷ cs) ds k e = both-pass cs ds (k .1) e
+both-pass ((n, false) ∷ cs) ds k e = absurd (ne-of-gt (leb→le 1 n (k .0)) e)
+
 -- what holds of each entry of a table by kind holds of the kind's own
 by-kind {ℓ} : {A : Type ℓ} (P : A → Type 0) (kind : ℕ) {k1 k2 k3 k4 k5 k6 k7 k8 k9 k10 k11 k12 : A}
     → P k1 × P k2 × P k3 × P k4 × P k5 × P k6 × P k7 × P k8 × P k9 × P k10 × P k11 × P k12 → P (byKind kind k1 k2 k3 k4 k5 k6 k7 k8 k9 k10 k11 k12)
