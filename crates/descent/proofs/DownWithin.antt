@@ -184,6 +184,10 @@ module _ (f : Field) (k : Shaped f) (t : T (withinBounds f)) (side : ℕ) (b : B
   often-everywhere : (n : ℕ) → count (numbersIn g everywhere) n ≡ count (numbersIn f everywhere) n
   often-everywhere n = often n everywhere tt (in-everywhere f k side b x here below)
 
+  -- The same numbers are present.
+  pub present-down : (n : ℕ) → isIn n (numbersIn g everywhere) ≡ isIn n (numbersIn f everywhere)
+  present-down = in-same (numbersIn g everywhere) (numbersIn f everywhere) often-everywhere
+
   differ-down : T (numbersDiffer g)
   unfolding numbersDiffer
   differ-down =
@@ -277,7 +281,7 @@ module _ (f : Field) (k : Shaped f) (t : T (withinBounds f)) (side : ℕ) (b : B
       elim (decided (isIn n (numbersIn f everywhere))) [
         | inl i ↦ fix-found n i
         | inr i ↦
-            ap (λ (p : Place). aircraftAt g (p .zone) (p .place) .fix) (absent-nowhere g n (in-same (numbersIn g everywhere) (numbersIn f everywhere) often-everywhere n ∙ i))
+            ap (λ (p : Place). aircraftAt g (p .zone) (p .place) .fix) (absent-nowhere g n (present-down n ∙ i))
             ∙ ap (λ (a : Aircraft). a .fix) (nobody-nowhere g 0 ∙ sym (nobody-nowhere f 0))
             ∙ sym (ap (λ (p : Place). aircraftAt f (p .zone) (p .place) .fix) (absent-nowhere f n i))
       ]

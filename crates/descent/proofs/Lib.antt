@@ -1,3 +1,4 @@
 pub mod Down
 pub mod DownWithin
 pub mod Descent
+pub mod Entry
