@@ -28,7 +28,8 @@ use Rattle.rules.specs.Reason.{hasPlaces}
 use Rattle.rules.proofs.Checks.{checks-at, effect-at}
 use Rattle.rules.proofs.StepLaws.{number-is, field-accepted}
 use Rattle.rules.proofs.Refusals.{accepts}
-use Rattle.field.proofs.Tests.{passed, every-from, same}
+use Rattle.request.proofs.Tests.{within-yes}
+use Rattle.field.proofs.Tests.{pass, passed, every-from, same}
 use Rattle.field.proofs.Lists.{every-listed, zone-listed}
 use Rattle.field.proofs.Shapes.{one-of-two}
 use Rattle.questions.proofs.FindLaws.{numbers, at, in-zones, own-place}
@@ -42,7 +43,7 @@ use Rattle.descent.proofs.DownWithin.{within-down}
 
 -- A field within the bounds whose arrays have their places has its shape.
 pub shaped : (f : Field) → T (hasPlaces f) → T (withinBounds f) → Shaped f
-shaped f h t = let p = places-parts f h in shaped-within f t (p .thirteen) (p .four) (p .numbers)
+shaped f h t = let p = places-parts f h in shaped-within f t (p .thirteen) (λ z r. p .four z (pass (within-yes 1 13 z (r .least) (r .most)))) (p .numbers)
 
 -- ---- who is at 3000
 module _ (f : Field) (t : T (withinBounds f)) (side : ℕ) (b : Between 1 2 side) where

@@ -31,11 +31,9 @@ use Rattle.laws.proofs.EditLaws.{Shaped}
 use Rattle.laws.proofs.BoundLaws.{within-each, each-within, within-e}
 use Rattle.laws.proofs.Fits.{arrived-fits}
 use Rattle.laws.proofs.TickLaws.{every-then}
+use Rattle.laws.proofs.SameQueues.{kept-head, kept-tail}
 use Rattle.line.proofs.Members.{absent-count, count-absent, numbers-total}
-use Rattle.line.proofs.Orderly.{kept-for}
-use Rattle.line.proofs.Line.{zoneFor, head-for, tail-for}
 use Rattle.moves.proofs.Kept.{different-of, nonzero-of}
-use Rattle.reason.proofs.Stands.{zone-is}
 use Rattle.descent.proofs.Down.{head-is, down, lower, none-above, one-below, elsewhere, each-zone-down, sum-down, in-operation, in-everywhere, operation-down, area-down, per-fix-down}
 
 -- ---- lists with each number as often
@@ -225,19 +223,11 @@ module _ (f : Field) (k : Shaped f) (t : T (withinBounds f)) (side : ℕ) (b : B
       ∙ ap (λ (a : Aircraft). isEmpty f finalApproach || isFirst (f .sequence) (a .number)) (at-other finalApproach 1 o)))
       (within-e f t .first)
 
-  -- the two zones as arrays
-  zone-kept-at : (z : ℕ) → Between 1 13 z → T (zoneKept (zoneOf f z))
-  zone-kept-at z r = every-listed (λ y. zoneKept (zoneOf f y)) everywhere z (within-e f t .zones-kept) (zone-listed z r)
-
-  array-of : (z : ℕ) → Between 1 13 z → (xs : List Aircraft) → inZone f z ≡ xs → zoneOf f z ≡ zoneFor xs
-  unfolding inZone
-  array-of z r xs e = zone-is (zoneOf f z) (k .zone z .places) (zone-kept-at z r) ∙ ap zoneFor e
-
   kept-down : (z : ℕ) → T (zoneKept (zoneOf f z)) → T (zoneKept (zoneOf g z))
   kept-down =
       each-zone-down f k side b x here below (λ z q. T (zoneKept (zoneOf f z)) → T (zoneKept q))
-      (λ u. subst (λ (q : Zone). T (zoneKept q)) (sym (ap withoutHead (array-of side (record { least = b .least; most = let m = b .most in omega arith }) (x ∷ []) here) ∙ head-for x [] (omega arith))) (kept-for [] (omega arith)))
-      (λ u. subst (λ (q : Zone). T (zoneKept q)) (sym (ap (λ (q : Zone). withTail q (lower f k side b x here below)) (array-of w (record { least = omega arith; most = let m = b .most in omega arith }) [] below) ∙ tail-for [] (lower f k side b x here below) (omega arith))) (kept-for (lower f k side b x here below ∷ []) (omega arith)))
+      (λ u. kept-head (zoneOf f side) (record { shaped = k .zone side; kept = u }) .kept)
+      (λ u. kept-tail (zoneOf f w) (lower f k side b x here below) (record { shaped = k .zone w; kept = u }) .kept)
       (λ z u. u)
 
   e-down : T (boundE g)

@@ -1,6 +1,6 @@
 -- Kind 1: the entry to an empty 3000, and the entry beside one at 3000, who descends first. Assumes nothing.
 use mathlib.Core.Path.{_≡_, sym, ap, _∙_}
-use mathlib.Core.Bool.{true, false, not, true≢false}
+use mathlib.Core.Bool.{true, false, true≢false}
 use mathlib.Core.List.{List, _∷_, _++_}
 use Prim.Native.Nat.{ℕ}
 use native.Mathlib.Omega.{arith}
@@ -17,11 +17,12 @@ use Rattle.rules.specs.Kinds.{descended, entered, madeRoom, enteredAbove}
 use Rattle.rules.specs.Step.{effectOf}
 use Rattle.rules.specs.Play.{addsMoves}
 use Rattle.rules.proofs.Checks.{effect-at}
-use Rattle.field.proofs.Tests.{failed, if-true, if-false}
+use Rattle.field.proofs.Tests.{if-true, if-false}
 use Rattle.line.proofs.Line.{Placed, zonesIn, fieldOf}
 use Rattle.line.proofs.Orderly.{Orderly}
 use Rattle.moves.proofs.Moves.{into, same-length}
-use Rattle.moves.proofs.After.{Each, each-append, each-left, each-right, After, okay-split, moved-is, moved-orderly}
+use Rattle.moves.proofs.Carried.{onward-into, followed-first}
+use Rattle.moves.proofs.After.{After, okay-split, moved-is, moved-orderly}
 
 -- ---- by whether 3000 is empty
 module _ (f : Field) (r : Request) (k : r .kind ≡ 1) where
@@ -56,9 +57,9 @@ module _ (f : Side) (a : List Placed) (g : Placed) (b : List Placed) (runway : L
   lowered-orderly = moved-orderly f a g b runway legs o w heads (down .none-behind) (down .other) (down .inside) (down .okay-after)
 
   -- what an entry leaves behind from there it leaves behind from here, where it makes room first
-  pub after-above : (r : Request) → r .kind ≡ 1 → T (not (isFlyingZone w)) → effectOf (fieldOf f (a ++ g ∷ b) runway legs) r ≡ effectOf (fieldOf f lowered runway legs) r
-      → After f lowered runway legs r → After f (a ++ g ∷ b) runway legs r
-  after-above r k waits eff x =
+  pub after-above : (r : Request) → r .kind ≡ 1 → (g .aircraft .number ≡ r .number → ⊥) → isFlyingZone y ≡ false → isFlyingZone w ≡ false
+      → effectOf (fieldOf f (a ++ g ∷ b) runway legs) r ≡ effectOf (fieldOf f lowered runway legs) r → After f lowered runway legs r → After f (a ++ g ∷ b) runway legs r
+  after-above r k other from to eff x =
       record {
         first-after = x .first-after;
         line-after = x .line-after;
@@ -67,14 +68,7 @@ module _ (f : Side) (a : List Placed) (g : Placed) (b : List Placed) (runway : L
         orderly = x .orderly;
         balance = let p = x .balance in let q = same-length a (into w g) g b in omega arith;
         lighter = λ u. absurd (true≢false (ap addsMoves (sym k) ∙ u));
-        carried =
-            λ u.
-            record {
-              carry =
-                  λ P others come idle.
-                  let Q : Placed → Type 0 = λ (e : Placed). (e .aircraft .number ≡ r .number → ⊥) → P e in
-                  let here : Each Q lowered = each-append Q a (into w g ∷ b) (each-left Q a (g ∷ b) others) ((λ n. idle (into w g) (failed {b = isFlyingZone w} waits)), each-right Q a (g ∷ b) others .1) in
-                  x .carried u .carry P here come idle;
-            };
+        carried = λ u. followed-first r a g (into w g) b runway (x .line-after) (x .runway-after) other (onward-into w g) from to (x .carried u);
         ticked-on = λ u. absurd (let n : 12 ≡ 1 = sym u ∙ k in omega arith);
+        runway-on = λ u. absurd (let n : 12 ≡ 1 = sym u ∙ k in omega arith);
       }

@@ -9,7 +9,7 @@ use native.Mathlib.Omega.{arith}
 use lib.Dec.{T, leb, ltb, eqb, leb→le, le→leb}
 use lib.ListN.{length}
 use lib.Ieee.Fits.{and-i, and-l, and-r}
-use borrow.Author.Tests.{eqb-true}
+use borrow.Author.Tests.{eq-eqb, eqb-true}
 use Rattle.request.specs.Input.{within, isEntry, firstRefused, inputNumber}
 use Rattle.request.specs.declared.Request.{Request}
 use Rattle.request.proofs.Tests as input
@@ -27,8 +27,9 @@ use Rattle.order.specs.Model.{Side, right, left, num, countFix, free, potential
 use Rattle.order.proofs.Facts.{enter, enter-lateral, enter-above}
 use Rattle.rules.specs.Kinds.{placeBefore, zoneBefore, absentChecks, presenceChecks, verticalNeeds, lateralNeeds, descended, entered}
 use Rattle.rules.specs.Step.{checksOf}
-use Rattle.field.proofs.Tests.{passed, pass, decided, each-zone}
-use Rattle.field.proofs.Lists.{absent-both}
+use Rattle.field.proofs.Tests.{passed, failed, pass, decided, each-zone}
+use Rattle.field.proofs.Lists.{absent-both, absent-left, absent-right, or-false-left}
+use Rattle.line.proofs.Lists.{map-append}
 use Rattle.line.proofs.Line.{Placed, zonesIn, numbersOf, fieldOf}
 use Rattle.line.proofs.Counted.{how-many, approach-holds, potential-is}
 use Rattle.questions.proofs.FindLaws.{numbers, at}
@@ -135,12 +136,23 @@ module _ (f : Side) (line : List Placed) (runway : List Aircraft) (legs : Legs) 
           let free-above = empty-there l (and-r (mayComeIn f (zonesIn l) (num s)) (free (zonesIn l) (at3000 (num s))) enters) in
           let F₀ = fieldOf f (a ++ g ∷ b) runway legs in
           subst (λ (m : List Placed). After f m runway legs r) (sym (d .whole))
-          (after-above f a g b runway legs q heads may r k (subst (λ (z : ℕ). T (not (isFlyingZone (at2000 z)))) (sym (d .at-zone)) (v .low-waits))
+          (after-above f a g b runway legs q heads may r k (other-than d) (ap isFlyingZone (d .at-zone) ∙ failed {b = isFlyingZone (at3000 (num s))} (v .high-waits)) (ap (λ (z : ℕ). isFlyingZone (at2000 z)) (d .at-zone) ∙ failed {b = isFlyingZone (at2000 (num s))} (v .low-waits))
           (enters-occupied F₀ r k (subst (λ (m : List Placed). isEmpty (fieldOf f m runway legs) (at3000 (r .side)) ≡ false) (d .whole) e)
           ∙ ap (λ (h : Field). entered h r (at3000 (r .side))) (ap (descended F₀) (side ∙ sym (d .at-zone)) ∙ lowered-is f a g b runway legs q heads may)
           ∙ sym (enters-empty (fieldOf f l runway legs) r k free-above))
           (into-empty l (lowered-orderly f a g b runway legs q heads may) (ap numbersOf (d .whole) ∙ same-numbers a g (into (at2000 (g .zone)) g) b (sym (number-arrived (at2000 (g .zone)) (g .aircraft)))) enters free-above))
         where
+          -- the one at 3000 has another number than the one that enters
+          other-than : (d : Split (at3000 (num s)) line) → d .here .aircraft .number ≡ r .number → ⊥
+          other-than d n =
+              let g = d .here in
+              let a = d .ahead in
+              let b = d .behind in
+              let absent = absent-left (r .number) (numbersOf line) (numbers runway) (new-number (needs-met .0)) in
+              let split = ap (isIn (r .number)) (sym (ap numbersOf (d .whole) ∙ map-append (λ (p : Placed). p .aircraft .number) a (g ∷ b))) ∙ absent in
+              let here = or-false-left (eqb (g .aircraft .number) (r .number)) (isIn (r .number) (numbersOf b)) (absent-right (r .number) (numbersOf a) (numbersOf (g ∷ b)) split) in
+              true≢false (sym (eq-eqb (g .aircraft .number) (r .number) n) ∙ here)
+
           second-holds : {p q : Bool} → p ≡ false → (p || q) ≡ true → q ≡ true
           second-holds {q = q} h u = sym (ap (λ (t : Bool). t || q) h) ∙ u
 

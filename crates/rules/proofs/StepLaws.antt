@@ -41,10 +41,9 @@ field-refused f r e = ap (λ (s : Stepped). s .field) (if-false (record { answer
 
 -- the zone that an accepted request but a tick answers: where its aircraft is afterwards
 pub zone-answered : (f : Field) (r : Request) → numberOf f r ≡ 0 → (r .kind ≡ 12 → ⊥) → stepOf f r .answer .zone ≡ placeOf (effectOf f r) (r .number) .zone
-unfolding stepOf answerOf acceptance
+unfolding answerOf acceptance
 zone-answered f r e k =
-    ap (λ (s : Stepped). s .answer .zone) (if-true (record { answer = answerOf f r; field = effectOf f r }) (record { answer = numberAndZeros (numberOf f r); field = f }) (eq-eqb (numberOf f r) 0 e))
-    ∙ ap (λ (a : Answer). a .zone) (if-false (numberAndZeros 0) (acceptance (effectOf f r) (r .number) (cond (eqb (r .kind) 11) (heldAlong f (zoneBefore f r)) 0)) (ne-eqb (r .kind) 12 k))
+    ap (λ (a : Answer). a .zone) (answer-accepted f r e ∙ if-false (numberAndZeros 0) (acceptance (effectOf f r) (r .number) (alongFor (r .kind) f r (zoneBefore f r))) (ne-eqb (r .kind) 12 k))
 
 -- an accepted request passes the input rules
 pub input-of : (f : Field) (r : Request) → numberOf f r ≡ 0 → inputNumber r ≡ 0
