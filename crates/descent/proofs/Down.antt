@@ -1,5 +1,5 @@
--- The one at 3000 of a side moved to 2000, on any field whose arrays have their places: what it does to every queue and to every count; for change
--- 2.5 of document 02. Assumes nothing.
+-- The one at 3000 of a side moved to 2000, on any field whose arrays have their places: what it does to every queue and to every count. Assumes
+-- nothing.
 use mathlib.Core.Path.{_≡_, refl, sym, ap, _∙_, subst}
 use mathlib.Core.Logic.{_≢_}
 use mathlib.Core.Bool.{Bool, true, false, cond, not}

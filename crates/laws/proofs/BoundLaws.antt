@@ -1,5 +1,4 @@
--- Laws of the bounds: the empty field, how many are present, and, for change 2.5 of document 02, the numbers and the shape of a field within them.
--- Assumes nothing.
+-- Laws of the bounds: the empty field, how many are present, and the numbers and the shape of a field within them. Assumes nothing.
 use mathlib.Core.Path.{_≡_, refl}
 use mathlib.Core.Bool.{not, _&&_}
 use Prim.Native.Nat.{ℕ, _≤_}

@@ -1,4 +1,4 @@
--- What an edit does to every queue and to the sequence of a field with its places; for change 2.5 of document 02. Assumes nothing.
+-- What an edit does to every queue of a field with its places. Assumes nothing.
 use mathlib.Core.Path.{_≡_, refl, sym, ap, _∙_}
 use mathlib.Core.Logic.{_≢_, _⊎_, inl, inr}
 use mathlib.Core.Bool.{true, false}
@@ -6,8 +6,8 @@ use mathlib.Core.List.{List, [], _∷_, _++_}
 use Prim.Native.Nat.{ℕ, zero, suc, _-_, _≤_, _<_}
 use native.Mathlib.Numerals.{add-one}
 use native.Mathlib.Omega.{arith}
-use borrow.Author.Tests.{eq-eqb, eqb-true, eqb-false, lt-ltb, ltb-true, leb-true, leb-false}
-use lib.Dec.{eqb, leb, ltb}
+use borrow.Author.Tests.{eq-eqb, eqb-true, eqb-false, lt-ltb, leb-true, leb-false}
+use lib.Dec.{eqb, leb}
 use lib.ListN.{length, take, drop, set, length-append, length-drop, length-set, List·getD-eq-default}
 use lib.Seq.{length-take-le, take-append-le, take-suc-set, getD-set-same, getD-set-other}
 use Rattle.leg.specs.Ticks.{Between}
@@ -15,9 +15,9 @@ use Rattle.field.specs.declared.Aircraft.{Aircraft}
 use Rattle.field.specs.declared.Zone.{Zone}
 use Rattle.field.specs.declared.Sequence.{Sequence}
 use Rattle.field.specs.declared.Field.{Field}
-use Rattle.field.specs.Boxes.{nobody, emptyZone, zoneOf, queueOf, inZone, orderOf}
+use Rattle.field.specs.Boxes.{nobody, emptyZone, zoneOf, queueOf, inZone}
 use Rattle.questions.specs.Counts.{howMany}
-use Rattle.field.specs.Edits.{withoutHead, withTail, appended, withZone, withSequence}
+use Rattle.field.specs.Edits.{withoutHead, withTail, withZone}
 use Rattle.field.proofs.Arrays.{set-from-one}
 use Rattle.field.proofs.Tests.{decided, if-true, if-false, either-way}
 
@@ -104,37 +104,12 @@ tail-put q a e h =
     ∙ ap (λ (n : ℕ). take n (set (q .aircraft) (q .length) a)) (add-one (q .length))
     ∙ take-suc-set (q .aircraft) (q .length) a (omega arith)
 
--- Either way the array keeps its places, and the length fits it.
+-- Then the array keeps its places, and the length fits it.
 pub shaped-without-head : (q : Zone) → ShapedZone q → ShapedZone (withoutHead q)
 unfolding withoutHead
 shaped-without-head q s =
     either-way ShapedZone (eqb (q .length) 0) q _ (λ e. s)
     (λ e. record { places = simp (length-append, length-drop) (omega arith); fits = omega arith })
-
-pub shaped-with-tail : (q : Zone) (a : Aircraft) → ShapedZone q → ShapedZone (withTail q a)
-unfolding withTail
-shaped-with-tail q a s =
-    either-way ShapedZone (ltb (q .length) 4) _ q
-    (λ e. record { places = simp length-set (s .places); fits = omega (arith, ltb-true (q .length) 4 e) })
-    (λ e. s)
-
--- ---- the sequence
-
--- A sequence with room has the number that is appended behind all others.
-pub order-appended : (s : Sequence) (n : ℕ) → length (s .numbers) ≡ 4 → s .length < 4 → orderOf (appended s n) ≡ orderOf s ++ (n ∷ [])
-unfolding orderOf appended
-order-appended s n e h =
-    ap orderOf (if-true _ s (lt-ltb (s .length) 4 h))
-    ∙ ap (λ (k : ℕ). take k (set (s .numbers) (s .length) n)) (add-one (s .length))
-    ∙ take-suc-set (s .numbers) (s .length) n (omega arith)
-
--- Either way the array keeps its places, and the length fits it.
-pub shaped-appended : (s : Sequence) (n : ℕ) → ShapedSequence s → ShapedSequence (appended s n)
-unfolding appended
-shaped-appended s n h =
-    either-way ShapedSequence (ltb (s .length) 4) _ s
-    (λ e. record { places = simp length-set (h .places); fits = omega (arith, ltb-true (s .length) 4 e) })
-    (λ e. h)
 
 -- ---- a zone of the field
 
@@ -157,19 +132,6 @@ module _ (f : Field) (z : ℕ) (q : Zone) where
       go zero w h = refl
       go (suc i) zero h = refl
       go (suc i) (suc j) h = getD-set-other (f .zones) i j q emptyZone (λ e. h (ap suc e))
-
-  -- The sequence, the next fix and the legs are as they were.
-  pub sequence-kept : withZone f z q .sequence ≡ f .sequence
-  unfolding withZone
-  sequence-kept = refl
-
-  pub next-kept : withZone f z q .next ≡ f .next
-  unfolding withZone
-  next-kept = refl
-
-  pub legs-kept : withZone f z q .legs ≡ f .legs
-  unfolding withZone
-  legs-kept = refl
 
   module _ (r : Between 1 13 z) (long : length (f .zones) ≡ 13) where
     -- What holds of the new zone, and of every other as it was, holds of every zone after.
@@ -219,10 +181,3 @@ module _ (f : Field) (s : Shaped f) (z : ℕ) where
   pub queue-put : (a : Aircraft) → Between 1 13 z → howMany f z < 4 → inZone (withZone f z (withTail (zoneOf f z) a)) z ≡ inZone f z ++ (a ∷ [])
   unfolding inZone
   queue-put a r h = queue-replaced f z (withTail (zoneOf f z) a) r (s .zones) ∙ tail-put (zoneOf f z) a (s .zone z .places) (omega (arith, how-many-is))
-
--- ---- the sequence of the field
-
--- A sequence of the right shape leaves a field of the right shape.
-pub shaped-with-sequence : (f : Field) (s : Sequence) (next : ℕ) → Shaped f → ShapedSequence s → Shaped (withSequence f s next)
-unfolding withSequence zoneOf
-shaped-with-sequence f s next h k = record { zones = h .zones; zone = h .zone; sequence = k }

@@ -24,9 +24,13 @@ use Rattle.rules.specs.Reason.{approachOrder, areaOrder, roomToMiss, lat
 abbrev pub sevenOnFinal : List Request → List Request
 sevenOnFinal rest = ask 1 1 7 64 ∷ ask 1 2 8 64 ∷ ask 3 0 8 0 ∷ ask 1 2 9 64 ∷ toBase 7 (toFinal 7 rest)
 
--- 7 enters right and 8 left, and both go to base
+-- 7 enters right and 8 left
+abbrev pub oneEach : List Request → List Request
+oneEach rest = ask 1 1 7 64 ∷ ask 1 2 8 64 ∷ rest
+
+-- both go to base
 abbrev pub bothToBase : List Request → List Request
-bothToBase rest = ask 1 1 7 64 ∷ ask 1 2 8 64 ∷ toBase 7 (toBase 8 rest)
+bothToBase rest = oneEach (toBase 7 (toBase 8 rest))
 
 abbrev pub examples : List Case
 examples =
@@ -75,10 +79,6 @@ exits =
     ∷ []
 
 -- ---- entries beside an occupied 3000
-
--- 7 enters right and 8 left
-abbrev pub oneEach : List Request → List Request
-oneEach rest = ask 1 1 7 64 ∷ ask 1 2 8 64 ∷ rest
 
 abbrev pub entries : List Case
 entries =
