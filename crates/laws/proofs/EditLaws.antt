@@ -1,4 +1,4 @@
--- What an edit does to every queue of a field with its places. Assumes nothing.
+-- What an edit does to every queue and to the sequence of a field with its places; for change 2.5 of document 02. Assumes nothing.
 use mathlib.Core.Path.{_≡_, refl, sym, ap, _∙_}
 use mathlib.Core.Logic.{_≢_, _⊎_, inl, inr}
 use mathlib.Core.Bool.{true, false}
@@ -6,8 +6,8 @@ use mathlib.Core.List.{List, [], _∷_, _++_}
 use Prim.Native.Nat.{ℕ, zero, suc, _-_, _≤_, _<_}
 use native.Mathlib.Numerals.{add-one}
 use native.Mathlib.Omega.{arith}
-use borrow.Author.Tests.{eq-eqb, eqb-true, eqb-false, lt-ltb, leb-true, leb-false}
-use lib.Dec.{eqb, leb}
+use borrow.Author.Tests.{eq-eqb, eqb-true, eqb-false, lt-ltb, ltb-true, leb-true, leb-false}
+use lib.Dec.{eqb, leb, ltb}
 use lib.ListN.{length, take, drop, set, length-append, length-drop, length-set, List·getD-eq-default}
 use lib.Seq.{length-take-le, take-append-le, take-suc-set, getD-set-same, getD-set-other}
 use Rattle.leg.specs.Ticks.{Between}
@@ -104,12 +104,19 @@ tail-put q a e h =
     ∙ ap (λ (n : ℕ). take n (set (q .aircraft) (q .length) a)) (add-one (q .length))
     ∙ take-suc-set (q .aircraft) (q .length) a (omega arith)
 
--- Then the array keeps its places, and the length fits it.
+-- Either way the array keeps its places, and the length fits it.
 pub shaped-without-head : (q : Zone) → ShapedZone q → ShapedZone (withoutHead q)
 unfolding withoutHead
 shaped-without-head q s =
     either-way ShapedZone (eqb (q .length) 0) q _ (λ e. s)
     (λ e. record { places = simp (length-append, length-drop) (omega arith); fits = omega arith })
+
+pub shaped-with-tail : (q : Zone) (a : Aircraft) → ShapedZone q → ShapedZone (withTail q a)
+unfolding withTail
+shaped-with-tail q a s =
+    either-way ShapedZone (ltb (q .length) 4) _ q
+    (λ e. record { places = simp length-set (s .places); fits = omega (arith, ltb-true (q .length) 4 e) })
+    (λ e. s)
 
 -- ---- a zone of the field
 
@@ -132,6 +139,15 @@ module _ (f : Field) (z : ℕ) (q : Zone) where
       go zero w h = refl
       go (suc i) zero h = refl
       go (suc i) (suc j) h = getD-set-other (f .zones) i j q emptyZone (λ e. h (ap suc e))
+
+  -- The sequence and the legs are as they were.
+  pub sequence-kept : withZone f z q .sequence ≡ f .sequence
+  unfolding withZone
+  sequence-kept = refl
+
+  pub legs-kept : withZone f z q .legs ≡ f .legs
+  unfolding withZone
+  legs-kept = refl
 
   module _ (r : Between 1 13 z) (long : length (f .zones) ≡ 13) where
     -- What holds of the new zone, and of every other as it was, holds of every zone after.
