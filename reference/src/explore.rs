@@ -1,13 +1,14 @@
-//! Every field that can be reached from the empty one, numbers and miles aside.
+//! Every field that can be reached from the empty one, numbers and miles aside;
+//! and every field within the bounds, reached or not.
 //!
-//! Legs are so short that one tick flies all of them out, and a tick follows
-//! every step, so that no request is refused for its leg. Fields that differ
-//! in nothing but the numbers of their aircraft are one.
+//! Of the reached ones, legs are so short that one tick flies all of them out,
+//! and a tick follows every step, so that no request is refused for its leg.
+//! Fields that differ in nothing but the numbers of their aircraft are one.
 
 use std::collections::hash_map::Entry;
 use std::collections::{HashMap, VecDeque};
 
-use crate::field::{Field, Legs, Zone};
+use crate::field::{Aircraft, Field, Legs, Progress, Side, Zone};
 use crate::refusal::Refusal;
 use crate::request::Request;
 
@@ -151,8 +152,46 @@ pub fn somebody_can_move(field: &Field) -> bool {
 
 /// The zones of a field, for reading: `zone:number/fix` in zone order.
 pub fn describe(field: &Field) -> String {
-    let describe_one = |(zone, aircraft): (Zone, &crate::field::Aircraft)| {
+    let describe_one = |(zone, aircraft): (Zone, &Aircraft)| {
         format!("{}:{}/{}", zone.number(), aircraft.number, aircraft.fix.number())
     };
     field.everyone().map(describe_one).collect::<Vec<_>>().join(" ")
+}
+
+/// Hands on every field within the bounds, reached or not, numbers and miles aside. They are 1, 2 and so on along
+/// the sequence, then the runway; each has its own speed, miles and miles waited.
+pub fn each_within_bounds(mut each: impl FnMut(&Field)) {
+    for next_fix in Side::BOTH {
+        let none = Field { next_fix, ..Field::empty(Legs::from_64ths([64; 4])) };
+        each_longer(&none, next_fix, &mut each);
+    }
+}
+
+/// The field with the runway empty and taken; then those that have more behind in sequence, the next with this fix.
+fn each_longer(field: &Field, fix: Side, each: &mut impl FnMut(&Field)) {
+    each(field);
+    let number = field.sequence.len() as u16 + 1;
+    for fix in Side::BOTH {
+        let mut landed = field.clone();
+        landed.zone_mut(Zone::Runway).push_back(distinct(number, fix, Zone::Runway));
+        each(&landed);
+    }
+    for zone in Zone::ALL.into_iter().filter(|zone| zone.is_operation()) {
+        for place in 0..=field.zone(zone).len() {
+            let mut longer = field.clone();
+            longer.zone_mut(zone).insert(place, distinct(number, fix, zone));
+            longer.sequence.push_back(number);
+            longer.next_fix = fix.opposite();
+            // One more behind in sequence mends no bound.
+            if longer.within_bounds() {
+                each_longer(&longer, longer.next_fix, each);
+            }
+        }
+    }
+}
+
+fn distinct(number: u16, fix: Side, zone: Zone) -> Aircraft {
+    let part = f64::from(number) / 8.0;
+    let progress = if zone.is_flying() { Progress::Flying(part) } else { Progress::Waiting };
+    Aircraft { number, fix, speed: 100 + number, progress, waited: 2.0 + part }
 }

@@ -383,6 +383,7 @@ impl Field {
         }
     }
 
+    /// Where 3000 is taken and 2000 is not, the one at 3000 descends and makes room, in the same step.
     fn vertical_entry(&self, side: Side, number: u16, speed: u16) -> Result<(Field, Answer), Refusal> {
         self.check_absent(number)?;
         if self.potential(side) >= 2 {
@@ -397,10 +398,16 @@ impl Field {
         if !self.is_empty(Lateral(side)) {
             return Err(Refusal::LateralOccupied);
         }
-        if !self.is_empty(Holding3(side)) {
+        if self.is_empty(Holding3(side)) {
+            return Ok(self.entered(Holding3(side), side, number, speed));
+        }
+        if !self.is_empty(Holding2(side)) {
             return Err(Refusal::Holding3Occupied);
         }
-        Ok(self.entered(Holding3(side), side, number, speed))
+        let mut below = self.clone();
+        let along = below.transfer(Holding3(side), Holding2(side));
+        let (after, answer) = below.entered(Holding3(side), side, number, speed);
+        Ok((after, Answer { along, ..answer }))
     }
 
     fn lateral_entry(&self, side: Side, number: u16, speed: u16) -> Result<(Field, Answer), Refusal> {

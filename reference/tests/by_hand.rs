@@ -1,4 +1,4 @@
-//! The worked session, as document 02 leaves it, and every case of "Played by hand".
+//! The worked session and every case of "Played by hand", as document 02 leaves them.
 
 mod common;
 use common::*;
@@ -31,9 +31,10 @@ fn vertical_right_on_empty() {
 fn second_to_the_right() {
     let mut field = empty();
     play(&mut field, &[(1, 1, 7, 64)]);
-    let before = field.clone();
-    assert_eq!(line(&mut field, 1, 1, 8, 64), refused(20));
-    assert_eq!(field, before);
+    assert_eq!(line(&mut field, 1, 1, 8, 64), [0, 8, 1, 2, 7, 7]);
+    assert_eq!(field.find(7).map(|(zone, _)| zone.number()), Some(3));
+    assert_eq!(field.sequence, [7, 8]);
+    assert_eq!(field.next_fix, Side::Right);
 }
 
 #[test]

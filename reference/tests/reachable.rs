@@ -1,8 +1,8 @@
 //! Every field that can be reached from the empty one.
 
-use std::collections::BTreeSet;
+use std::collections::{BTreeSet, HashSet};
 
-use reference::explore::{requests, somebody_can_move, tick, Reached};
+use reference::explore::{each_within_bounds, requests, shape, somebody_can_move, tick, Reached};
 use reference::{Field, Progress, Request};
 
 #[test]
@@ -10,9 +10,9 @@ fn every_reachable_field() {
     let reached = Reached::all();
     assert_eq!(reached.fields.len(), 2760);
 
-    // No bound is ever broken: 10 and 25 never come.
+    // No bound is ever broken: 10 and 25 never come. Nor does 20.
     let refusals: BTreeSet<u8> = reached.refusals.keys().map(|&(_, number)| number).collect();
-    assert_eq!(refusals, BTreeSet::from([13, 14, 16, 17, 18, 19, 20, 21, 22, 23, 24]));
+    assert_eq!(refusals, BTreeSet::from([13, 14, 16, 17, 18, 19, 21, 22, 23, 24]));
 
     // So a step does the same where the bounds are not checked.
     for field in &reached.fields {
@@ -39,6 +39,19 @@ fn every_reachable_field() {
 
     // The most moves before the next entry or miss.
     assert_eq!(reached.most_moves().into_iter().max(), Some(27));
+}
+
+/// Every field that is reached is one of those within the bounds, of which none comes twice.
+#[test]
+fn among_those_within_the_bounds() {
+    let (mut count, mut shapes) = (0, HashSet::new());
+    each_within_bounds(|field| {
+        assert!(field.within_bounds());
+        count += 1;
+        shapes.insert(shape(field));
+    });
+    assert_eq!(shapes.len(), count);
+    assert!(Reached::all().fields.iter().all(|field| shapes.contains(&shape(field))));
 }
 
 /// The same field with no mile flown.

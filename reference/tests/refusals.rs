@@ -149,11 +149,9 @@ fn refusal_19_lateral_occupied() {
 }
 
 #[test]
-fn refusal_20_and_21_holdings_occupied() {
+fn refusal_21_2000_occupied() {
     let mut field = empty();
-    play(&mut field, &[(1, 2, 7, 64)]);
-    assert_eq!(line(&mut field, 1, 2, 8, 64), refused(20));
-    play(&mut field, &[(3, 0, 7, 0), (1, 2, 8, 64)]);
+    play(&mut field, &[(1, 2, 7, 64), (3, 0, 7, 0), (1, 2, 8, 64)]);
     assert_eq!(line(&mut field, 3, 0, 8, 0), refused(21));
 }
 

@@ -32,7 +32,7 @@ use tick::ticked;
 ghost use mathlib.Core.Path.{_≡_};
 ghost use mathlib.Core.Bool.{cond, _&&_};
 ghost use Rattle.field.specs.Boxes.{at2000, base};
-ghost use Rattle.rules.specs.Kinds.{mayApproach, baseFree, headGone, tailPut, moved, outOfSequence, fixTaken, entered, approached, landed, exited, fixAfterMiss, missedApproach, held, heldAlong};
+ghost use Rattle.rules.specs.Kinds.{mayApproach, baseFree, headGone, tailPut, moved, descended, outOfSequence, fixTaken, entered, madeRoom, enteredAbove, approached, landed, exited, fixAfterMiss, missedApproach, held, numberAt3000};
 ghost use Rattle.rules.specs.Step.{effectFor};
 
 // The field with the head of a zone taken off it.
@@ -68,6 +68,14 @@ fn moved(f: Field, from: usize, to: usize) -> Field
     g
 }
 
+// Kind 3: the field with the head of a zone, a holding at 3000, moved to 2000 of its side.
+fn descended(f: Field, zone: u8) -> Field
+    ensures { λ g. ⌜ g ≡ descended f zone ⌝ }
+{
+    let z = zone as usize;
+    moved(f, z, AT_2000 + z)
+}
+
 // The field with a number out of the landing sequence.
 fn out_of_sequence(f: Field, number: u16) -> Field
     ensures { λ r. ⌜ r ≡ outOfSequence f number ⌝ }
@@ -92,6 +100,23 @@ fn entered(f: Field, r: Request, zone: usize) -> Field
     let g = tail_put(f, zone, entering(r.number, fix, r.amount));
     let s = f.sequence;
     with_sequence(g, appended(s, r.number), opposite(fix))
+}
+
+// Kind 1: the field with 3000 of a side empty: whoever was there has descended.
+fn made_room(f: Field, side: u8) -> Field
+    ensures { λ g. ⌜ g ≡ madeRoom f side ⌝ }
+{
+    if is_empty(f, side as usize) {
+        return f;
+    }
+    descended(f, side)
+}
+
+// Kind 1: the field with whoever was at 3000 of the side at 2000, and the request's aircraft entered at 3000.
+fn entered_above(f: Field, r: Request) -> Field
+    ensures { λ g. ⌜ g ≡ enteredAbove f r ⌝ }
+{
+    entered(made_room(f, r.side), r, r.side as usize)
 }
 
 // Kind 4: the zone that an approach from a lateral zone leads to: base, or 2000 where a need is not met.
@@ -157,9 +182,10 @@ fn missed_approach(f: Field, r: Request) -> Field
 fn held(f: Field, zone: usize) -> Field
     ensures { λ g. ⌜ g ≡ held f zone ⌝ }
 {
-    let side = side_of(zone) as usize;
+    let own = side_of(zone);
+    let side = own as usize;
     if !is_empty(f, side) {
-        return moved(moved(f, side, AT_2000 + side), zone, side);
+        return moved(descended(f, own), zone, side);
     }
     if is_empty(f, AT_2000 + side) {
         return moved(f, zone, AT_2000 + side);
@@ -167,11 +193,11 @@ fn held(f: Field, zone: usize) -> Field
     moved(f, zone, side)
 }
 
-// The other aircraft that a hold from a zone moves; 0 where there is none.
-pub fn held_along(f: Field, zone: u8) -> u16
-    ensures { λ n. ⌜ n ≡ heldAlong f zone ⌝ }
+// The aircraft at 3000 of a side, which an entry or a hold there moves, by its number; 0 where there is none.
+pub fn number_at_3000(f: Field, side: u8) -> u16
+    ensures { λ n. ⌜ n ≡ numberAt3000 f side ⌝ }
 {
-    let a = aircraft_at(f, side_of(zone as usize) as usize, 1);
+    let a = aircraft_at(f, side as usize, 1);
     a.number
 }
 
@@ -182,9 +208,9 @@ pub fn effect(f: Field, r: Request, zone: u8) -> Field
     let kind = r.kind;
     let z = zone as usize;
     match kind {
-        1 => entered(f, r, r.side as usize),
+        1 => entered_above(f, r),
         2 => entered(f, r, LATERAL + r.side as usize),
-        3 => moved(f, z, AT_2000 + z),
+        3 => descended(f, zone),
         4 => approached(f, r.number, z),
         5 => moved(f, z, INTERMEDIATE),
         6 => moved(f, INTERMEDIATE, FINAL),

@@ -1,5 +1,4 @@
--- Laws of the bounds: the empty field, how many are present, and, for change 2.5 of document 02, the numbers and the shape of a field within them.
--- Assumes nothing.
+-- Laws of the bounds: the empty field, how many are present, and the numbers and the shape of a field within them. Assumes nothing.
 use mathlib.Core.Path.{_≡_, refl}
 use mathlib.Core.Bool.{not, _&&_}
 use Prim.Native.Nat.{ℕ, _≤_}
@@ -8,6 +7,7 @@ use lib.Dec.{T, eqb, leb, leb→le}
 use lib.Ieee.{eq, ofInt}
 use lib.Ieee.Fits.{and-i, and-l, and-r}
 use lib.ListN.{length, drop}
+use Rattle.leg.specs.Ticks.{Between}
 use Rattle.field.specs.declared.Legs.{Legs}
 use Rattle.field.specs.declared.Field.{Field}
 use Rattle.field.specs.Boxes.{isSide, zoneOf, queueOf, inZone, orderOf, emptyField, runway, everywhere}
@@ -114,7 +114,7 @@ unfolding numbersDiffer
 numbers-different f w = and-r (every (λ n. not (eqb n 0)) (numbersIn f everywhere)) (allDifferent (numbersIn f everywhere)) (within-e f w .differ)
 
 -- Its lengths fit its arrays, which have their places whatever the field.
-pub shaped-within : (f : Field) → T (withinBounds f) → length (f .zones) ≡ 13 → ((z : ℕ) → length (zoneOf f z .aircraft) ≡ 4) → length (f .sequence .numbers) ≡ 4 → Shaped f
+pub shaped-within : (f : Field) → T (withinBounds f) → length (f .zones) ≡ 13 → ((z : ℕ) → Between 1 13 z → length (zoneOf f z .aircraft) ≡ 4) → length (f .sequence .numbers) ≡ 4 → Shaped f
 unfolding zoneKept sequenceKept
 shaped-within f w zones places numbers =
     let s = f .sequence in
@@ -122,7 +122,7 @@ shaped-within f w zones places numbers =
     (λ z r.
     let q = zoneOf f z in
     record {
-      places = places z;
+      places = places z r;
       fits = leb→le (q .length) 4 (and-l (leb (q .length) 4) (every isNobody (drop (q .length) (q .aircraft))) (every-listed (λ y. zoneKept (zoneOf f y)) everywhere z (within-e f w .zones-kept) (zone-listed z r)));
     })
     (record { places = numbers; fits = leb→le (s .length) 4 (and-l (leb (s .length) 4) (every (λ n. eqb n 0) (drop (s .length) (s .numbers))) (within-e f w .sequence-kept)) })

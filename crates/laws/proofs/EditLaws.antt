@@ -15,9 +15,9 @@ use Rattle.field.specs.declared.Aircraft.{Aircraft}
 use Rattle.field.specs.declared.Zone.{Zone}
 use Rattle.field.specs.declared.Sequence.{Sequence}
 use Rattle.field.specs.declared.Field.{Field}
-use Rattle.field.specs.Boxes.{nobody, emptyZone, zoneOf, queueOf, inZone, orderOf}
+use Rattle.field.specs.Boxes.{nobody, emptyZone, zoneOf, queueOf, inZone}
 use Rattle.questions.specs.Counts.{howMany}
-use Rattle.field.specs.Edits.{withoutHead, withTail, appended, withZone, withSequence}
+use Rattle.field.specs.Edits.{withoutHead, withTail, withZone}
 use Rattle.field.proofs.Arrays.{set-from-one}
 use Rattle.field.proofs.Tests.{decided, if-true, if-false, either-way}
 
@@ -118,24 +118,6 @@ shaped-with-tail q a s =
     (λ e. record { places = simp length-set (s .places); fits = omega (arith, ltb-true (q .length) 4 e) })
     (λ e. s)
 
--- ---- the sequence
-
--- A sequence with room has the number that is appended behind all others.
-pub order-appended : (s : Sequence) (n : ℕ) → length (s .numbers) ≡ 4 → s .length < 4 → orderOf (appended s n) ≡ orderOf s ++ (n ∷ [])
-unfolding orderOf appended
-order-appended s n e h =
-    ap orderOf (if-true _ s (lt-ltb (s .length) 4 h))
-    ∙ ap (λ (k : ℕ). take k (set (s .numbers) (s .length) n)) (add-one (s .length))
-    ∙ take-suc-set (s .numbers) (s .length) n (omega arith)
-
--- Either way the array keeps its places, and the length fits it.
-pub shaped-appended : (s : Sequence) (n : ℕ) → ShapedSequence s → ShapedSequence (appended s n)
-unfolding appended
-shaped-appended s n h =
-    either-way ShapedSequence (ltb (s .length) 4) _ s
-    (λ e. record { places = simp length-set (h .places); fits = omega (arith, ltb-true (s .length) 4 e) })
-    (λ e. h)
-
 -- ---- a zone of the field
 
 module _ (f : Field) (z : ℕ) (q : Zone) where
@@ -158,14 +140,10 @@ module _ (f : Field) (z : ℕ) (q : Zone) where
       go (suc i) zero h = refl
       go (suc i) (suc j) h = getD-set-other (f .zones) i j q emptyZone (λ e. h (ap suc e))
 
-  -- The sequence, the next fix and the legs are as they were.
+  -- The sequence and the legs are as they were.
   pub sequence-kept : withZone f z q .sequence ≡ f .sequence
   unfolding withZone
   sequence-kept = refl
-
-  pub next-kept : withZone f z q .next ≡ f .next
-  unfolding withZone
-  next-kept = refl
 
   pub legs-kept : withZone f z q .legs ≡ f .legs
   unfolding withZone
@@ -219,10 +197,3 @@ module _ (f : Field) (s : Shaped f) (z : ℕ) where
   pub queue-put : (a : Aircraft) → Between 1 13 z → howMany f z < 4 → inZone (withZone f z (withTail (zoneOf f z) a)) z ≡ inZone f z ++ (a ∷ [])
   unfolding inZone
   queue-put a r h = queue-replaced f z (withTail (zoneOf f z) a) r (s .zones) ∙ tail-put (zoneOf f z) a (s .zone z .places) (omega (arith, how-many-is))
-
--- ---- the sequence of the field
-
--- A sequence of the right shape leaves a field of the right shape.
-pub shaped-with-sequence : (f : Field) (s : Sequence) (next : ℕ) → Shaped f → ShapedSequence s → Shaped (withSequence f s next)
-unfolding withSequence zoneOf
-shaped-with-sequence f s next h k = record { zones = h .zones; zone = h .zone; sequence = k }

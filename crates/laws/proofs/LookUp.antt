@@ -1,4 +1,4 @@
--- Look-up after an edit of one zone; for changes 2.5 and 2.9 of document 02. Assumes nothing.
+-- Look-up after an edit of one zone; for change 2.9 of document 02. Assumes nothing.
 use mathlib.Core.Path.{_≡_, refl, sym, ap, _∙_}
 use mathlib.Core.Logic.{_≢_}
 use mathlib.Core.Bool.{true, false}

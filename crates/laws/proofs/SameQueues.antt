@@ -65,7 +65,7 @@ nobody-last (a ∷ b ∷ c ∷ d ∷ []) (suc (suc (suc (suc zero)))) e h t = t
 nobody-last (a ∷ b ∷ c ∷ d ∷ []) (suc (suc (suc (suc (suc n))))) e h t = absurd (omega arith)
 nobody-last (a ∷ b ∷ c ∷ d ∷ x ∷ xs) n e h t = absurd (omega arith)
 
-kept-head : (q : Zone) → KeptZone q → KeptZone (withoutHead q)
+pub kept-head : (q : Zone) → KeptZone q → KeptZone (withoutHead q)
 unfolding withoutHead zoneKept
 kept-head q k = record { shaped = shaped-without-head q (k .shaped); kept = either-way (λ (p : Zone). T (zoneKept p)) (eqb (q .length) 0) q _ (λ e. k .kept) closed }
   where
@@ -103,7 +103,7 @@ fewer-nobody (a ∷ b ∷ c ∷ d ∷ []) (suc (suc (suc zero))) x e h t = tt
 fewer-nobody (a ∷ b ∷ c ∷ d ∷ []) (suc (suc (suc (suc n)))) x e h t = absurd (omega arith)
 fewer-nobody (a ∷ b ∷ c ∷ d ∷ y ∷ ys) n x e h t = absurd (omega arith)
 
-kept-tail : (q : Zone) (a : Aircraft) → KeptZone q → KeptZone (withTail q a)
+pub kept-tail : (q : Zone) (a : Aircraft) → KeptZone q → KeptZone (withTail q a)
 unfolding withTail zoneKept
 kept-tail q a k = record { shaped = shaped-with-tail q a (k .shaped); kept = either-way (λ (p : Zone). T (zoneKept p)) (ltb (q .length) 4) _ q longer (λ e. k .kept) }
   where

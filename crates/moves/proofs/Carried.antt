@@ -1,4 +1,4 @@
--- Where each one on the field after an accepted request comes from, and what it keeps: those with another number than the request's stay where they are, or go along with a hold; the one with its
+-- Where each one on the field after an accepted request comes from, and what it keeps: those with another number than the request's stay where they are, or go along with a hold or an entry; the one with its
 -- number has come into another zone or onto the runway, or has just entered. Assumes nothing.
 use mathlib.Core.Path.{_≡_, refl, sym, ap, _∙_, subst}
 use mathlib.Core.Logic.{_⊎_, inl, inr}
@@ -107,16 +107,16 @@ carried-one r a e g b runway d named k on =
     }
 
 -- one with another number than the request's has gone along before that
-pub followed-first : (r : Request) (a : List Placed) (x y : Placed) (b : List Placed) (runway : List Aircraft) (after : List Placed) → (x .aircraft .number ≡ r .number → ⊥) → Onward x y
-    → isFlyingZone (x .zone) ≡ false → isFlyingZone (y .zone) ≡ false → Carried r (a ++ y ∷ b) runway after runway → Carried r (a ++ x ∷ b) runway after runway
-followed-first r a x y b runway after other on from to c =
+pub followed-first : (r : Request) (a : List Placed) (x y : Placed) (b : List Placed) (runway : List Aircraft) (after : List Placed) (left : List Aircraft) → (x .aircraft .number ≡ r .number → ⊥) → Onward x y
+    → isFlyingZone (x .zone) ≡ false → isFlyingZone (y .zone) ≡ false → Carried r (a ++ y ∷ b) runway after left → Carried r (a ++ x ∷ b) runway after left
+followed-first r a x y b runway after left other on from to c =
     record {
       carry =
           λ Q p q.
           let rest = each-right Q a (x ∷ b) p in
           let down : Each (First Q) (a ++ y ∷ b) = each-append (First Q) a (y ∷ b) (firsts Q a (each-left Q a (x ∷ b) p)) (inr (x, rest .0, on, other, from, to), firsts Q b (rest .1)) in
           let both = c .carry (First Q) down (firsts Q (map onRunway runway) q) in
-          (backs Q after (both .0), backs Q (map onRunway runway) (both .1));
+          (backs Q after (both .0), backs Q (map onRunway left) (both .1));
     }
   where
     -- Q holds of it, or held before it went along

@@ -140,7 +140,7 @@ module _ (f : Side) (a : List Placed) (g : Placed) (b : List Placed) (e : Placed
   carried-both h =
       let in-zone = lower z (zone-in f a₂ e c runway legs orderly₂) in
       let second = carried-one r a₂ e (into y e) c runway (orderly₂ .different) named (ap isEntry h) (onward-into y e) in
-      followed-first r a g (into w g) (b ++ e ∷ c) runway (a₂ ++ into y e ∷ c) other (onward-into w g) (ap isFlyingZone above ∙ waits-above z in-zone missed-zone) (waits z in-zone missed-zone)
+      followed-first r a g (into w g) (b ++ e ∷ c) runway (a₂ ++ into y e ∷ c) runway other (onward-into w g) (ap isFlyingZone above ∙ waits-above z in-zone missed-zone) (waits z in-zone missed-zone)
       (subst (λ (l : List Placed). Carried r l runway (a₂ ++ into y e ∷ c) runway) (sym (regroup e)) second)
     where
       other : g .aircraft .number ≡ r .number → ⊥

@@ -9,6 +9,7 @@ pub mod Heads
 pub mod OnLine
 pub mod HoldBoth
 pub mod AtEnds
+pub mod EnterAbove
 pub mod Accepted
 pub mod Steps
 pub mod Outcomes

@@ -23,6 +23,7 @@ use Rattle.line.proofs.Orderly.{Orderly}
 use Rattle.line.proofs.Within.{within-bounds}
 use Rattle.moves.proofs.After.{After}
 use Rattle.rules.proofs.Checks.{refused-in, refused-append, checks-numbered, checks-refuse, input-numbered}
+use Rattle.rules.proofs.Refusals.{accepts}
 use Rattle.moves.proofs.Steps.{accepted-after}
 
 -- ---- the number of a refusal on an orderly field: 1 to 4, or 11 to 24
@@ -54,11 +55,7 @@ module _ (f : Side) (line : List Placed) (runway : List Aircraft) (legs : Legs) 
       let a = accepted-after f line runway legs o r i c in
       let w : withinBounds (effectOf F r) ≡ true = ap withinBounds (a .effect) ∙ passed (within-bounds (a .first-after) (a .line-after) (a .runway-after) legs (a .orderly)) in
       record {
-        number-0 =
-            number-of i
-            ∙ refused-append (checksOf F r) ((25, withinBounds (effectOf F r)) ∷ []) (checks-refuse F r)
-            ∙ if-true (cond (withinBounds (effectOf F r)) 0 25) (firstRefused (checksOf F r)) (eq-eqb (firstRefused (checksOf F r)) 0 c)
-            ∙ ap (λ (b : Bool). cond b 0 25) w;
+        number-0 = accepts F r (record { input = i; before = passed (within-bounds f line runway legs o); checks = c; after = w });
         after = a;
       }
 

@@ -21,11 +21,11 @@ use request::Request;
 use request::in_range;
 use request::rule_of;
 ghost use mathlib.Core.Path.{_≡_};
-ghost use mathlib.Core.Bool.{cond};
+ghost use mathlib.Core.Bool.{cond, _||_};
 ghost use mathlib.Core.List.{[], _∷_};
 ghost use lib.Dec.{eqb};
 ghost use Rattle.request.specs.Input.{within, firstRefused};
-ghost use Rattle.field.specs.Boxes.{at3000, lateral, missed};
+ghost use Rattle.field.specs.Boxes.{at3000, at2000, lateral, missed};
 ghost use Rattle.questions.specs.Counts.{isEmpty};
 ghost use Rattle.rules.specs.Kinds.{startsFrom, headChecks, presenceChecks, flownOutCheck, mayApproach, mayMerge, baseFree, verticalNeeds, lateralNeeds, descendNeeds, approachNeeds, mergeNeeds, flownOutNeeds, landNeeds, exitNeeds};
 ghost use Rattle.rules.specs.Step.{needsFor, checksFor};
@@ -114,9 +114,9 @@ fn may_merge(f: Field, number: u16) -> bool
     }
 }
 
-// The first zone of a side that a vertical entry needs empty and finds occupied: 18 missed, 19 lateral, 20 at 3000; 0 where none is.
+// What a vertical entry asks of the zones of its side: 18 missed occupied, 19 lateral, 20 both holdings; 0 where it is met.
 fn side_number(f: Field, side: u8) -> u16
-    ensures { λ n. ⌜ n ≡ firstRefused ((18, isEmpty f (missed side)) ∷ (19, isEmpty f (lateral side)) ∷ (20, isEmpty f (at3000 side)) ∷ []) ⌝ }
+    ensures { λ n. ⌜ n ≡ firstRefused ((18, isEmpty f (missed side)) ∷ (19, isEmpty f (lateral side)) ∷ (20, isEmpty f (at3000 side) || isEmpty f (at2000 side)) ∷ []) ⌝ }
 {
     let at = side as usize;
     if !is_empty(f, MISSED + at) {
@@ -125,10 +125,10 @@ fn side_number(f: Field, side: u8) -> u16
     if !is_empty(f, LATERAL + at) {
         return 19;
     }
-    if !is_empty(f, at) {
-        return 20;
+    if is_empty(f, at) {
+        return 0;
     }
-    0
+    with_need(0, 20, is_empty(f, AT_2000 + at))
 }
 
 // Kind 1: the first need of a vertical entry from a side that is not met; 0 where all are.

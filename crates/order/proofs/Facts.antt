@@ -12,7 +12,8 @@ use Rattle.request.specs.Input.{within}
 use Rattle.field.specs.Boxes.{opposite, sideOf, at3000, at2000, lateral, missed, area, operation, zonesFrom}
 use Rattle.questions.specs.Counts.{total}
 use Rattle.field.specs.Lists.{every}
-use Rattle.order.specs.Model.{Side, right, left, opp, num, count, countFix, free, isNil, Kind, descend, approaching, merge, final, hold, needs, target, mayEnter, mayEnterLateral, firstFix, all, okay, weight, heaviest}
+use Rattle.order.specs.Model.{Side, right, left, opp, num, count, countFix, free, isNil, Kind, descend, approaching, merge, final, hold, needs, target, mayComeIn, mayEnter, mayEnterLateral, firstFix, all, okay, weight, heaviest}
+use Rattle.field.proofs.Tests.{implies, implied}
 use Rattle.order.proofs.Claims.{Each, Claim, One, Two, ofSequences, of-sequence, ofOnes, of-one, ofTwos, of-two}
 
 -- ---- the sequence as a whole
@@ -198,6 +199,25 @@ moves k f zs₁ z zs₂ o h n =
       inside = m 3;
       lighter = ltb→lt (weight (zs₁ ++ w ∷ zs₂)) (weight (zs₁ ++ z ∷ zs₂)) (m 4);
     }
+
+-- ---- an entry where 3000 is occupied
+
+-- the one at 3000, zone z and side z, descends, and then another may enter
+abbrev comesIn : Claim One
+comesIn =
+    record {
+      given = λ f (zs₁, z, zs₂). needs descend zs₁ z zs₂;
+      shown = λ f (zs₁, z, zs₂). implies (mayComeIn f (zs₁ ++ z ∷ zs₂) z) (mayEnter f (zs₁ ++ at2000 z ∷ zs₂) z) ∷ [];
+    }
+
+comes-in-holds : T (ofOnes comesIn)
+comes-in-holds = tt
+
+-- an entry that needs only an empty 3000 may be made once the one there has descended
+pub enter-above : (f : Side) (zs₁ : List ℕ) (z : ℕ) (zs₂ : List ℕ)
+    → T (okay f (zs₁ ++ z ∷ zs₂)) → T (needs descend zs₁ z zs₂) → T (mayComeIn f (zs₁ ++ z ∷ zs₂) z) → T (mayEnter f (zs₁ ++ at2000 z ∷ zs₂) z)
+enter-above f zs₁ z zs₂ o n u =
+    implied (mayComeIn f (zs₁ ++ z ∷ zs₂) z) (mayEnter f (zs₁ ++ at2000 z ∷ zs₂) z) (of-one comesIn comes-in-holds f zs₁ z zs₂ o n 0) u
 
 -- ---- a hold where 3000 is occupied
 

@@ -87,10 +87,13 @@ target hold zs₁ z zs₂ = cond (free (zs₁ ++ z ∷ zs₂) (at2000 (sideOf z)
 
 -- ---- entries
 
--- kind 1, vertical entry on side s
+-- kind 1, vertical entry on side s: all that it needs but an empty 3000, ..
+abbrev pub mayComeIn : Side → List ℕ → ℕ → Bool
+mayComeIn f zs s = ltb (potential f zs s) 2 && eqb (total (countFix f zs s) approach) 0 && free zs (missed s) && free zs (lateral s)
+
+-- .. and that too
 abbrev pub mayEnter : Side → List ℕ → ℕ → Bool
-mayEnter f zs s =
-    ltb (potential f zs s) 2 && eqb (total (countFix f zs s) approach) 0 && free zs (missed s) && free zs (lateral s) && free zs (at3000 s)
+mayEnter f zs s = mayComeIn f zs s && free zs (at3000 s)
 
 -- kind 2, lateral entry on side s
 abbrev pub mayEnterLateral : Side → List ℕ → ℕ → Bool

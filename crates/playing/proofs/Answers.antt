@@ -21,8 +21,8 @@ use Rattle.field.specs.Lists.{every}
 use Rattle.bounds.specs.Bounds.{fitsZone, legalLegs, boundG, withinBounds}
 use Rattle.rules.specs.declared.Answer.{Answer}
 use Rattle.rules.specs.declared.Stepped.{Stepped}
-use Rattle.rules.specs.Kinds.{zoneBefore, heldAlong}
-use Rattle.rules.specs.Step.{checksOf, effectOf, numberOf, numberAndZeros, acceptance, answerOf, stepOf}
+use Rattle.rules.specs.Kinds.{zoneBefore}
+use Rattle.rules.specs.Step.{checksOf, effectOf, numberOf, numberAndZeros, acceptance, alongFor, answerOf, stepOf}
 use Rattle.field.proofs.Tests.{passed, decided}
 use Rattle.laws.proofs.BoundLaws.{within-each}
 use Rattle.laws.proofs.Fits.{fits-parts}
@@ -119,9 +119,9 @@ module _ (f : Field) (r : Request) where
   unfolding answerOf
   short-accepted t = told (eqb (r .kind) 12)
     where
-      told : (b : Bool) → Short (cond b (numberAndZeros 0) (acceptance (effectOf f r) (r .number) (cond (eqb (r .kind) 11) (heldAlong f (zoneBefore f r)) 0)))
+      told : (b : Bool) → Short (cond b (numberAndZeros 0) (acceptance (effectOf f r) (r .number) (alongFor (r .kind) f r (zoneBefore f r))))
       told true = short-zeros 0 (omega arith)
-      told false = short-acceptance (effectOf f r) (r .number) (cond (eqb (r .kind) 11) (heldAlong f (zoneBefore f r)) 0) t
+      told false = short-acceptance (effectOf f r) (r .number) (alongFor (r .kind) f r (zoneBefore f r)) t
 
   pub short-step : Short (stepOf f r .answer)
   unfolding stepOf

@@ -22,7 +22,7 @@ use Rattle.questions.specs.declared.Place.{Place}
 use Rattle.questions.specs.Counts.{total, haveFix, howMany, howManyWithFix, isEmpty, approachHolds, countedFor, potentialOf}
 use Rattle.questions.specs.Find.{placeOf, aircraftAt, fixOf, isFirst, leaderOf, leaderZone}
 use Rattle.bounds.specs.Bounds.{withinBounds}
-use Rattle.rules.specs.Kinds.{placeBefore, zoneBefore, presenceChecks, mayApproach, baseFree, mayMerge, verticalNeeds, approachNeeds, mergeNeeds, flownOutCheck, landNeeds, headGone, tailPut, moved, outOfSequence, fixTaken, entered, approached, landed, exited, fixAfterMiss, missedApproach, held}
+use Rattle.rules.specs.Kinds.{placeBefore, zoneBefore, presenceChecks, mayApproach, baseFree, mayMerge, verticalNeeds, approachNeeds, mergeNeeds, flownOutCheck, landNeeds, headGone, tailPut, moved, outOfSequence, fixTaken, entered, madeRoom, enteredAbove, approached, landed, exited, fixAfterMiss, missedApproach, held}
 use Rattle.rules.specs.Step.{byKind, needsFor, effectFor, checksFor, checksOf, effectOf, numberOf, stepOf}
 use Rattle.rules.specs.Reason.{Listed, listed, along, those, isInZone, isInArea, neverFalls, eachAmong, fromLanding, heightIn, hasRoom, lateralFree, approachOrder, areaOrder, roomToMiss, lateralEntry, Reason, hasPlaces, Sound, KeptBy}
 use Rattle.field.proofs.Tests.{pass, passed, decided}
@@ -144,7 +144,8 @@ module _ (f g : Field) (s : Same f g) where
           let a = empty-same (missed side) in
           let b = empty-same (lateral side) in
           let c = empty-same (at3000 side) in
-          cc (p, h, a, b, c)
+          let d = empty-same (at2000 side) in
+          cc (p, h, a, b, c, d)
 
       approaching : (n z : ℕ) → approachNeeds f n z ≡ approachNeeds g n z
       approaching n z = let a = may-approach-same n in let b = base-same (sideOf z) in cc (a, b)
@@ -176,12 +177,20 @@ moved-same : (f g : Field) (s : Same f g) (z w : ℕ) → Same (moved f z w) (mo
 unfolding moved
 moved-same f g s z w = put-same (headGone f z) (headGone g z) (gone-same f g s z) w (ap (arrived w) (at-same f g s z 1))
 
+entered-same : (f g : Field) (s : Same f g) (r : Request) (z : ℕ) → Same (entered f r z) (entered g r z)
+unfolding entered fixTaken
+entered-same f g s r z =
+    let fix : fixTaken f (r .side) ≡ fixTaken g (r .side) = ap (λ (q : Sequence). cond (eqb (length (orderOf q)) 0) (r .side) (f .next)) (s .sequence) ∙ ap (λ (n : ℕ). cond (eqb (length (orderOf (g .sequence))) 0) (r .side) n) (s .next) in
+    same-sequence _ _ (put-same f g s z (ap (λ (n : ℕ). entering (r .number) n (r .amount)) fix)) (ap (λ (q : Sequence). appended q (r .number)) (s .sequence)) (ap opposite fix)
+
 module _ (f g : Field) (s : Same f g) (r : Request) where
-  entered-same : (z : ℕ) → Same (entered f r z) (entered g r z)
-  unfolding entered fixTaken
-  entered-same z =
-      let fix : fixTaken f (r .side) ≡ fixTaken g (r .side) = ap (λ (q : Sequence). cond (eqb (length (orderOf q)) 0) (r .side) (f .next)) (s .sequence) ∙ ap (λ (n : ℕ). cond (eqb (length (orderOf (g .sequence))) 0) (r .side) n) (s .next) in
-      same-sequence _ _ (put-same f g s z (ap (λ (n : ℕ). entering (r .number) n (r .amount)) fix)) (ap (λ (q : Sequence). appended q (r .number)) (s .sequence)) (ap opposite fix)
+  room-same : (side : ℕ) → Same (madeRoom f side) (madeRoom g side)
+  unfolding madeRoom
+  room-same side = either-same _ _ (empty-same f g s (at3000 side)) s (moved-same f g s (at3000 side) (at2000 (at3000 side)))
+
+  above-same : Same (enteredAbove f r) (enteredAbove g r)
+  unfolding enteredAbove
+  above-same = entered-same _ _ (room-same (r .side)) r (at3000 (r .side))
 
   approached-same : (z : ℕ) → Same (approached f (r .number) z) (approached g (r .number) z)
   unfolding approached
@@ -228,7 +237,7 @@ module _ (f g : Field) (s : Same f g) (r : Request) where
       each : (z : ℕ) → Same (effectFor (r .kind) f r z) (effectFor (r .kind) g r z)
       each z =
           by-kinds Same (r .kind)
-          (entered-same (at3000 (r .side)), entered-same (lateral (r .side)), moved-same f g s z (at2000 z), approached-same z, moved-same f g s z intermediate, moved-same f g s intermediate finalApproach, landed-same, gone-same f g s runway, exited-same, missed-same, held-same z, same-ticked f g (r .amount) s)
+          (above-same, entered-same f g s r (lateral (r .side)), moved-same f g s z (at2000 z), approached-same z, moved-same f g s z intermediate, moved-same f g s intermediate finalApproach, landed-same, gone-same f g s runway, exited-same, missed-same, held-same z, same-ticked f g (r .amount) s)
 
 -- ---- the step
 both-ways : (a b : Bool) → (T a → T b) → (T b → T a) → a ≡ b

@@ -1,4 +1,4 @@
--- The marked cases of "Played by hand", the examples of docs/WHY-SAFE.md and the exits hold of the definitions, by one computation. Assumes nothing.
+-- The marked cases of "Played by hand", the examples of docs/WHY-SAFE.md, the exits and the entries hold of the definitions, by one computation. Assumes nothing.
 use mathlib.Core.Path.{refl}
 use lib.Dec.{T}
 use lib.Ieee.{add, sub, mul, div, ofInt, round, lt, le, eq}
@@ -12,28 +12,30 @@ use Rattle.bounds.specs.Bounds.{boundA, boundB, lateralRule, boundC, boundD, fi
 use Rattle.numbers.specs.Numbers.{numbersDiffer, sequenceExact}
 use Rattle.field.specs.Edits.{withoutHead, withTail, appended, removed, withZone, withSequence}
 use Rattle.tick.specs.Tick.{tickedAircraft, tickedZone, ticked}
-use Rattle.rules.specs.Kinds.{startsFrom, mayApproach, baseFree, mayMerge, headGone, tailPut, moved, outOfSequence, fixTaken, entered, approached, landed, exited, fixAfterMiss, missedApproach, held, heldAlong}
+use Rattle.rules.specs.Kinds.{startsFrom, mayApproach, baseFree, mayMerge, headGone, tailPut, moved, outOfSequence, fixTaken, entered, madeRoom, enteredAbove, approached, landed, exited, fixAfterMiss, missedApproach, held, numberAt3000}
 use Rattle.rules.specs.Step.{checksOf, effectOf, numberOf, numberAndZeros, acceptance, answerOf, stepOf}
 use Rattle.rules.specs.Reason.{along, approachOrder, areaOrder, roomToMiss, lateralEntry, QueueAgrees}
 use Rattle.rules.specs.Cases.{marked, caseHolds}
-use Rattle.rules.specs.Examples.{examples, exits, crowded, missOfSeven, BoundsNotEnough}
+use Rattle.rules.specs.Examples.{examples, exits, entries, onePlace, entryOfEight, JudgedAfterBoth, crowded, missOfSeven, BoundsNotEnough}
 use Rattle.field.proofs.Tests.{each-operation}
 
--- the four together, so that what is computed is unfolded once
-computed : T (every caseHolds marked) × T (every caseHolds examples) × T (every caseHolds exits) × BoundsNotEnough crowded missOfSeven
+-- all together, so that what is computed is unfolded once
+computed : T (every caseHolds marked) × T (every caseHolds examples) × T (every caseHolds exits) × T (every caseHolds entries) × JudgedAfterBoth onePlace entryOfEight × BoundsNotEnough crowded missOfSeven
 unfolding
     advanced pastEnd waitedAfter kindAllowed sideAllowed numberAllowed amountAllowed inputNumber isSide opposite isFlyingZone zoneOf queueOf inZone orderOf progressInto entering
     withProgress arrived withFix legOf flownOutIn emptyField howMany howManyWithFix inOperation inArea perFix approachHolds countedFor potentialOf findIn placeOf
     aircraftAt fixOf isFirst leaderOf leaderZone boundA boundB lateralRule boundC boundD numbersDiffer sequenceExact finalFirst isNobody zoneKept sequenceKept
     boundE boundF fitsZone legalLegs boundG withinBounds withoutHead withTail appended removed withZone withSequence tickedAircraft tickedZone ticked sideOf
     startsFrom mayApproach baseFree mayMerge headGone tailPut moved
-    outOfSequence fixTaken entered approached landed exited fixAfterMiss missedApproach held heldAlong checksOf effectOf numberOf numberAndZeros acceptance
+    outOfSequence fixTaken entered madeRoom enteredAbove approached landed exited fixAfterMiss missedApproach held numberAt3000 checksOf effectOf numberOf numberAndZeros acceptance
     answerOf stepOf
     add sub mul div ofInt round lt le eq along approachOrder areaOrder roomToMiss lateralEntry
 computed = (
   tt,
   tt,
   tt,
+  tt,
+  record { within-bounds = tt; first-within = tt; answer-25 = refl },
   record {
     within-bounds = tt;
     other-parts = tt;
@@ -55,6 +57,14 @@ examples-hold = computed .1
 pub exits-hold : T (every caseHolds exits)
 exits-hold = computed .2
 
+-- an entry moves the one at 3000 down
+pub entries-hold : T (every caseHolds entries)
+entries-hold = computed .3
+
+-- 25 is judged on the field after both moves of an entry
+pub judged-after-both : JudgedAfterBoth onePlace entryOfEight
+judged-after-both = computed .4
+
 -- the bounds alone are not enough
 pub bounds-not-enough : BoundsNotEnough crowded missOfSeven
-bounds-not-enough = computed .3
+bounds-not-enough = computed .5

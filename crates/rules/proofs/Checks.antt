@@ -8,7 +8,7 @@ use native.Mathlib.Nat.{ne-of-gt}
 use native.Mathlib.Omega.{arith}
 use lib.Dec.{T, leb, eqb, leb→le, le→leb}
 use lib.Ieee.Fits.{and-i, and-l, and-r}
-use borrow.Author.Tests.{ne-eqb}
+use borrow.Author.Tests.{ne-eqb, eqb-true}
 use Rattle.request.specs.Input.{isEntry, isTick, firstRefused, kindAllowed, sideAllowed, numberAllowed, amountAllowed, inputNumber}
 use Rattle.request.specs.declared.Request.{Request}
 use Rattle.request.proofs.Tests.{Numbered}
@@ -72,14 +72,20 @@ refused-append [] ds k = refl
 refused-append ((n, true) ∷ cs) ds k = refused-append cs ds (k .1)
 refused-append ((n, false) ∷ cs) ds k = sym (if-false (firstRefused ds) n (ne-eqb n 0 (ne-of-gt (leb→le 1 n (k .0)))))
 
--- what holds of each entry of a table by kind holds of the kind's own
-by-kind {ℓ} : {A : Type ℓ} (P : A → Type 0) (kind : ℕ) {k1 k2 k3 k4 k5 k6 k7 k8 k9 k10 k11 k12 : A}
-    → P k1 × P k2 × P k3 × P k4 × P k5 × P k6 × P k7 × P k8 × P k9 × P k10 × P k11 × P k12 → P (byKind kind k1 k2 k3 k4 k5 k6 k7 k8 k9 k10 k11 k12)
+-- neither of two lists refuses
+pub both-pass : (cs ds : List (ℕ × Bool)) → Numbered cs → firstRefused (cs ++ ds) ≡ 0 → (firstRefused cs ≡ 0) × (firstRefused ds ≡ 0)
+both-pass [] ds k e = (refl, e)
+both-pass ((n, true) ∷ cs) ds k e = both-pass cs ds (k .1) e
+both-pass ((n, false) ∷ cs) ds k e = absurd (ne-of-gt (leb→le 1 n (k .0)) e)
+
+-- what holds of each entry of a table by kind, where that is the kind, holds of the kind's own
+pub by-kind {ℓ} : {A : Type ℓ} (P : A → Type 0) (kind : ℕ) {k1 k2 k3 k4 k5 k6 k7 k8 k9 k10 k11 k12 : A}
+    → (kind ≡ 1 → P k1) × (kind ≡ 2 → P k2) × (kind ≡ 3 → P k3) × (kind ≡ 4 → P k4) × (kind ≡ 5 → P k5) × (kind ≡ 6 → P k6) × (kind ≡ 7 → P k7) × (kind ≡ 8 → P k8) × (kind ≡ 9 → P k9) × (kind ≡ 10 → P k10) × (kind ≡ 11 → P k11) × P k12 → P (byKind kind k1 k2 k3 k4 k5 k6 k7 k8 k9 k10 k11 k12)
 by-kind {A = A} P kind (p1, p2, p3, p4, p5, p6, p7, p8, p9, p10, p11, p12) =
     pick 1 p1 (pick 2 p2 (pick 3 p3 (pick 4 p4 (pick 5 p5 (pick 6 p6 (pick 7 p7 (pick 8 p8 (pick 9 p9 (pick 10 p10 (pick 11 p11 p12))))))))))
   where
-    pick : (n : ℕ) {x y : A} → P x → P y → P (cond (eqb kind n) x y)
-    pick n {x} {y} p q = either-way P (eqb kind n) x y (λ e. p) (λ e. q)
+    pick : (n : ℕ) {x y : A} → (kind ≡ n → P x) → P y → P (cond (eqb kind n) x y)
+    pick n {x} {y} p q = either-way P (eqb kind n) x y (λ e. p (eqb-true kind n e)) (λ e. q)
 
 numbered-append : (low high : ℕ) (cs ds : List (ℕ × Bool)) → T (numberedIn low high cs) → T (numberedIn low high ds) → T (numberedIn low high (cs ++ ds))
 numbered-append low high [] ds t u = u
@@ -98,7 +104,7 @@ pub checks-numbered : (f : Field) (r : Request) → T (numberedIn 11 24 (checksO
 unfolding checksOf
 checks-numbered f r =
     numbered-append 11 24 (presenceChecks (r .kind) (placeBefore f r)) (besides f r (r .kind)) (presence-numbered (r .kind) (placeBefore f r))
-    (by-kind (λ (cs : List (ℕ × Bool)). T (numberedIn 11 24 cs)) (r .kind) (tt, tt, tt, tt, tt, tt, tt, tt, tt, tt, tt, tt))
+    (by-kind (λ (cs : List (ℕ × Bool)). T (numberedIn 11 24 cs)) (r .kind) ((λ e. tt), (λ e. tt), (λ e. tt), (λ e. tt), (λ e. tt), (λ e. tt), (λ e. tt), (λ e. tt), (λ e. tt), (λ e. tt), (λ e. tt), tt))
 
 -- so each of them refuses
 numbered-refuses : (cs : List (ℕ × Bool)) → T (numberedIn 11 24 cs) → Numbered cs

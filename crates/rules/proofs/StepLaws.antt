@@ -1,7 +1,6 @@
 -- The step by its number, on any field: what is accepted takes effect, and what is refused leaves the field as it was. Assumes nothing.
 use mathlib.Core.Path.{_≡_, refl, sym, ap, _∙_}
 use mathlib.Core.Logic.{inl, inr}
-use mathlib.Core.Bool.{cond}
 use mathlib.Core.List.{[], _∷_, _++_}
 use lib.Dec.{eqb}
 use borrow.Author.Tests.{eqb-true, eq-eqb, ne-eqb}
@@ -13,13 +12,13 @@ use Rattle.questions.specs.Find.{placeOf}
 use Rattle.bounds.specs.Bounds.{withinBounds}
 use Rattle.rules.specs.declared.Answer.{Answer}
 use Rattle.rules.specs.declared.Stepped.{Stepped}
-use Rattle.rules.specs.Kinds.{zoneBefore, heldAlong}
-use Rattle.rules.specs.Step.{checksOf, effectOf, numberOf, numberAndZeros, acceptance, answerOf, stepOf}
+use Rattle.rules.specs.Kinds.{zoneBefore}
+use Rattle.rules.specs.Step.{checksOf, effectOf, numberOf, numberAndZeros, acceptance, alongFor, answerOf, stepOf}
 
 -- the answer to an accepted request has the number 0
 pub answer-number : (f : Field) (r : Request) → answerOf f r .number ≡ 0
 unfolding answerOf numberAndZeros acceptance
-answer-number f r = either-way (λ (a : Answer). a .number ≡ 0) (eqb (r .kind) 12) (numberAndZeros 0) (acceptance (effectOf f r) (r .number) (cond (eqb (r .kind) 11) (heldAlong f (zoneBefore f r)) 0)) (λ e. refl) (λ e. refl)
+answer-number f r = either-way (λ (a : Answer). a .number ≡ 0) (eqb (r .kind) 12) (numberAndZeros 0) (acceptance (effectOf f r) (r .number) (alongFor (r .kind) f r (zoneBefore f r))) (λ e. refl) (λ e. refl)
 
 pub number-is : (f : Field) (r : Request) → stepOf f r .answer .number ≡ numberOf f r
 unfolding stepOf numberAndZeros
@@ -32,16 +31,19 @@ pub field-accepted : (f : Field) (r : Request) → numberOf f r ≡ 0 → stepOf
 unfolding stepOf
 field-accepted f r e = ap (λ (s : Stepped). s .field) (if-true (record { answer = answerOf f r; field = effectOf f r }) (record { answer = numberAndZeros (numberOf f r); field = f }) (eq-eqb (numberOf f r) 0 e))
 
+pub answer-accepted : (f : Field) (r : Request) → numberOf f r ≡ 0 → stepOf f r .answer ≡ answerOf f r
+unfolding stepOf
+answer-accepted f r e = ap (λ (s : Stepped). s .answer) (if-true (record { answer = answerOf f r; field = effectOf f r }) (record { answer = numberAndZeros (numberOf f r); field = f }) (eq-eqb (numberOf f r) 0 e))
+
 pub field-refused : (f : Field) (r : Request) → (numberOf f r ≡ 0 → ⊥) → stepOf f r .field ≡ f
 unfolding stepOf
 field-refused f r e = ap (λ (s : Stepped). s .field) (if-false (record { answer = answerOf f r; field = effectOf f r }) (record { answer = numberAndZeros (numberOf f r); field = f }) (ne-eqb (numberOf f r) 0 e))
 
 -- the zone that an accepted request but a tick answers: where its aircraft is afterwards
 pub zone-answered : (f : Field) (r : Request) → numberOf f r ≡ 0 → (r .kind ≡ 12 → ⊥) → stepOf f r .answer .zone ≡ placeOf (effectOf f r) (r .number) .zone
-unfolding stepOf answerOf acceptance
+unfolding answerOf acceptance
 zone-answered f r e k =
-    ap (λ (s : Stepped). s .answer .zone) (if-true (record { answer = answerOf f r; field = effectOf f r }) (record { answer = numberAndZeros (numberOf f r); field = f }) (eq-eqb (numberOf f r) 0 e))
-    ∙ ap (λ (a : Answer). a .zone) (if-false (numberAndZeros 0) (acceptance (effectOf f r) (r .number) (cond (eqb (r .kind) 11) (heldAlong f (zoneBefore f r)) 0)) (ne-eqb (r .kind) 12 k))
+    ap (λ (a : Answer). a .zone) (answer-accepted f r e ∙ if-false (numberAndZeros 0) (acceptance (effectOf f r) (r .number) (alongFor (r .kind) f r (zoneBefore f r))) (ne-eqb (r .kind) 12 k))
 
 -- an accepted request passes the input rules
 pub input-of : (f : Field) (r : Request) → numberOf f r ≡ 0 → inputNumber r ≡ 0

@@ -65,8 +65,8 @@ abbrev pub marked : List Case
 marked =
     -- "Empty field, vertical right: zone 1, fix 1."
     record { leg = 64; requests = ask 1 1 7 64 ∷ []; answer = says 7 1 1 0 0; after = anyField }
-    -- "A second aircraft to the right: 20."
-    ∷ record { leg = 64; requests = ask 1 1 7 64 ∷ ask 1 1 8 64 ∷ []; answer = numberAndZeros 20; after = anyField }
+    -- "A second aircraft to the right", accepted since (02, 2.5): the first descends, in `along`
+    ∷ record { leg = 64; requests = ask 1 1 7 64 ∷ ask 1 1 8 64 ∷ []; answer = says 8 1 2 7 7; after = λ f. inOrder (7 ∷ 8 ∷ []) f && stands 7 3 f }
     -- "Left instead: zone 2, fix 2, leader the first."
     ∷ record { leg = 64; requests = ask 1 1 7 64 ∷ ask 1 2 8 64 ∷ []; answer = says 8 2 2 7 0; after = anyField }
     -- "Same number again: 11."

@@ -1,10 +1,11 @@
 -- The examples of docs/WHY-SAFE.md: requests from the empty field, and a field within the bounds that no list of requests reaches. And
--- exits, which wait for the leg since (02, 2.3).
+-- exits, which wait for the leg since (02, 2.3), and entries beside an occupied 3000 (02, 2.5).
 use mathlib.Core.Path.{_≡_}
 use mathlib.Core.Bool.{false, _&&_}
 use mathlib.Core.List.{List, [], _∷_}
 use Prim.Native.Nat.{ℕ}
 use lib.Dec.{T}
+use lib.ListN.{replicate}
 use Rattle.request.specs.Input.{within}
 use Rattle.request.specs.declared.Request.{Request}
 use Rattle.field.specs.declared.Aircraft.{Aircraft}
@@ -12,6 +13,7 @@ use Rattle.field.specs.declared.Zone.{Zone}
 use Rattle.field.specs.declared.Field.{Field}
 use Rattle.field.specs.Boxes.{right, left, finalApproach, nobody, emptyZone, entering, arrived}
 use Rattle.bounds.specs.Bounds.{withinBounds}
+use Rattle.rules.specs.Kinds.{madeRoom}
 use Rattle.rules.specs.Step.{numberAndZeros, stepOf}
 use Rattle.rules.specs.Cases.{ask, says, allLegs, Case, anyField, inOrder, stands, toBase, toFinal}
 use Rattle.rules.specs.Reason.{approachOrder, areaOrder, roomToMiss, lateralEntry, QueueAgrees}
@@ -22,9 +24,13 @@ use Rattle.rules.specs.Reason.{approachOrder, areaOrder, roomToMiss, lat
 abbrev pub sevenOnFinal : List Request → List Request
 sevenOnFinal rest = ask 1 1 7 64 ∷ ask 1 2 8 64 ∷ ask 3 0 8 0 ∷ ask 1 2 9 64 ∷ toBase 7 (toFinal 7 rest)
 
--- 7 enters right and 8 left, and both go to base
+-- 7 enters right and 8 left
+abbrev pub oneEach : List Request → List Request
+oneEach rest = ask 1 1 7 64 ∷ ask 1 2 8 64 ∷ rest
+
+-- both go to base
 abbrev pub bothToBase : List Request → List Request
-bothToBase rest = ask 1 1 7 64 ∷ ask 1 2 8 64 ∷ toBase 7 (toBase 8 rest)
+bothToBase rest = oneEach (toBase 7 (toBase 8 rest))
 
 abbrev pub examples : List Case
 examples =
@@ -72,11 +78,55 @@ exits =
     ∷ record { leg = 64; requests = eightBehind (ask 12 0 0 64 ∷ ask 9 0 8 0 ∷ []); answer = numberAndZeros 22; after = anyField }
     ∷ []
 
--- ---- the bounds alone are not enough
+-- ---- entries beside an occupied 3000
+
+abbrev pub entries : List Case
+entries =
+    -- 9 to the right: 7 descends and keeps its place in the sequence
+    record {
+      leg = 64;
+      requests = oneEach (ask 1 1 9 64 ∷ []);
+      answer = says 9 1 1 8 7;
+      after = λ f. inOrder (7 ∷ 8 ∷ 9 ∷ []) f && stands 7 3 f && stands 9 1 f;
+    }
+    -- the same in two steps, 7 having descended: nobody in `along`
+    ∷ record {
+      leg = 64;
+      requests = oneEach (ask 3 0 7 0 ∷ ask 1 1 9 64 ∷ []);
+      answer = says 9 1 1 8 0;
+      after = λ f. inOrder (7 ∷ 8 ∷ 9 ∷ []) f && stands 7 3 f && stands 9 1 f;
+    }
+    -- with both holdings of the side occupied 16 comes before 20
+    ∷ record { leg = 64; requests = oneEach (ask 1 1 9 64 ∷ ask 1 1 10 64 ∷ []); answer = numberAndZeros 16; after = stands 7 3 }
+    ∷ []
+
+-- ---- 25 is judged on the field after both moves
 
 -- a queue of one
 abbrev pub onlyOne : Aircraft → Zone
 onlyOne a = record { aircraft = a ∷ nobody ∷ nobody ∷ nobody ∷ []; length = 1 }
+
+-- 7 at 3000 right and a sequence of one place, such as no field of the program has: 7 may descend, and nobody else may enter
+abbrev pub onePlace : Field
+onePlace =
+    record {
+      zones = onlyOne (entering 7 right 64) ∷ replicate 12 emptyZone;
+      sequence = record { numbers = 7 ∷ []; length = 1 };
+      next = left;
+      legs = allLegs 64;
+    }
+
+-- 8 enters right
+abbrev pub entryOfEight : Request
+entryOfEight = ask 1 1 8 64
+
+-- a field within the bounds, and so after the first move of an entry; after the second 25 refuses it
+pub record JudgedAfterBoth (f : Field) (r : Request) : Type 0 where
+  pub within-bounds : T (withinBounds f)
+  pub first-within : T (withinBounds (madeRoom f (r .side)))
+  pub answer-25 : stepOf f r .answer .number ≡ 25
+
+-- ---- the bounds alone are not enough
 
 -- 7 on final with fix 1, behind it 8 at 2000 right with fix 2, and last 9 at 3000 right with fix 1
 abbrev pub crowded : Field

@@ -58,14 +58,14 @@ unfoldable pub mayMerge : Field → ℕ → Bool
 mayMerge f number = isFirst (f .sequence) number || within 11 12 (leaderZone f number)
 
 -- "1 vertical entry to 3000. Needs, in order: potential under 2; nobody on the approach with that fix; missed, lateral and 3000
--- zones of the side empty."
+-- zones of the side empty." Since (02, 2.5) 3000 may be occupied where 2000 below it is empty.
 abbrev pub verticalNeeds : Field → ℕ → List (ℕ × Bool)
 verticalNeeds f side =
     (16, ltb (potentialOf f side) 2)
     ∷ (17, not (approachHolds f side))
     ∷ (18, isEmpty f (missed side))
     ∷ (19, isEmpty f (lateral side))
-    ∷ (20, isEmpty f (at3000 side))
+    ∷ (20, isEmpty f (at3000 side) || isEmpty f (at2000 side))
     ∷ []
 
 -- "2 lateral entry. Needs potential 0."
@@ -111,6 +111,10 @@ tailPut f z a = withZone f z (withTail (zoneOf f z) a)
 unfoldable pub moved : Field → ℕ → ℕ → Field
 moved f z w = tailPut (headGone f z) w (arrived w (aircraftAt f z 1))
 
+-- kind 3, and what an entry (02, 2.5) and a hold do to the one at 3000: the head of zone z, a holding at 3000, to 2000 of its side
+abbrev pub descended : Field → ℕ → Field
+descended f z = moved f z (at2000 z)
+
 -- a number out of the landing sequence
 unfoldable pub outOfSequence : Field → ℕ → Field
 outOfSequence f number = withSequence f (removed (f .sequence) number) (f .next)
@@ -125,6 +129,14 @@ entered f r z =
     let fix = fixTaken f (r .side) in
     let g = tailPut f z (entering (r .number) fix (r .amount)) in
     withSequence g (appended (f .sequence) (r .number)) (opposite fix)
+
+-- kind 1 (02, 2.5): where 3000 of the side is occupied, the one there descends, ..
+unfoldable pub madeRoom : Field → ℕ → Field
+madeRoom f side = cond (isEmpty f (at3000 side)) f (descended f (at3000 side))
+
+-- .. and the caller enters, in one step
+unfoldable pub enteredAbove : Field → Request → Field
+enteredAbove f r = entered (madeRoom f (r .side)) r (at3000 (r .side))
 
 -- kind 4, from zone z: to base; "From lateral, an unmet need is no refusal: the aircraft goes to 2000 of its side and is accepted."
 unfoldable pub approached : Field → ℕ → ℕ → Field
@@ -161,8 +173,8 @@ held f z =
     let side = sideOf z in
     cond (isEmpty f (at3000 side))
     (cond (isEmpty f (at2000 side)) (moved f z (at2000 side)) (moved f z (at3000 side)))
-    (moved (moved f (at3000 side) (at2000 side)) z (at3000 side))
+    (moved (descended f (at3000 side)) z (at3000 side))
 
--- "in `along` the other aircraft that a hold moved (0 if none)": the one at 3000
-unfoldable pub heldAlong : Field → ℕ → ℕ
-heldAlong f z = aircraftAt f (at3000 (sideOf z)) 1 .number
+-- "in `along` the other aircraft that a hold moved (0 if none)", or that an entry moved (02, 2.5): the one at 3000 of the side, by its number
+unfoldable pub numberAt3000 : Field → ℕ → ℕ
+numberAt3000 f side = aircraftAt f (at3000 side) 1 .number

@@ -7,14 +7,14 @@ use lib.Dec.{eqb}
 use Rattle.request.specs.Input.{firstRefused, inputNumber}
 use Rattle.request.specs.declared.Request.{Request}
 use Rattle.field.specs.declared.Field.{Field}
-use Rattle.field.specs.Boxes.{at3000, at2000, lateral, intermediate, finalApproach, runway}
+use Rattle.field.specs.Boxes.{sideOf, lateral, intermediate, finalApproach, runway}
 use Rattle.questions.specs.declared.Place.{Place}
 use Rattle.questions.specs.Find.{placeOf, fixOf, leaderOf}
 use Rattle.bounds.specs.Bounds.{withinBounds}
 use Rattle.tick.specs.Tick.{ticked}
 use Rattle.rules.specs.declared.Answer.{Answer}
 use Rattle.rules.specs.declared.Stepped.{Stepped}
-use Rattle.rules.specs.Kinds.{placeBefore, zoneBefore, presenceChecks, verticalNeeds, lateralNeeds, descendNeeds, approachNeeds, mergeNeeds, flownOutNeeds, landNeeds, exitNeeds, moved, headGone, entered, approached, landed, exited, missedApproach, held, heldAlong}
+use Rattle.rules.specs.Kinds.{placeBefore, zoneBefore, presenceChecks, verticalNeeds, lateralNeeds, descendNeeds, approachNeeds, mergeNeeds, flownOutNeeds, landNeeds, exitNeeds, moved, descended, headGone, entered, enteredAbove, approached, landed, exited, missedApproach, held, numberAt3000}
 
 -- the entry of the twelve, for kinds 1 to 12, that belongs to the kind; the last for any other number
 abbrev pub byKind {ℓ} : {A : Type ℓ} → ℕ → A → A → A → A → A → A → A → A → A → A → A → A → A
@@ -47,9 +47,9 @@ checksFor kind f r at = presenceChecks kind at ++ needsFor kind f r at
 abbrev pub effectFor : ℕ → Field → Request → ℕ → Field
 effectFor kind f r z =
     byKind kind
-    (entered f r (at3000 (r .side)))
+    (enteredAbove f r)
     (entered f r (lateral (r .side)))
-    (moved f z (at2000 z))
+    (descended f z)
     (approached f (r .number) z)
     (moved f z intermediate)
     (moved f intermediate finalApproach)
@@ -80,7 +80,7 @@ unfoldable pub numberAndZeros : ℕ → Answer
 numberAndZeros number = record { number = number; aircraft = 0; zone = 0; fix = 0; leader = 0; along = 0 }
 
 -- "An accepted answer has number 0, then the aircraft, its zone, fix and leader after the step (0 if none), and in `along` the other
--- aircraft that a hold moved (0 if none)": of an aircraft on the field after the step
+-- aircraft that a hold moved (0 if none)", or an entry (02, 2.5): of an aircraft on the field after the step
 unfoldable pub acceptance : Field → ℕ → ℕ → Answer
 acceptance f number along =
     record {
@@ -92,11 +92,15 @@ acceptance f number along =
       along = along;
     }
 
+-- the other aircraft that a request moves, of a request whose aircraft was in zone z: by an entry (02, 2.5) or a hold; 0 for every other kind
+abbrev pub alongFor : ℕ → Field → Request → ℕ → ℕ
+alongFor kind f r z = cond (eqb kind 1) (numberAt3000 f (r .side)) (cond (eqb kind 11) (numberAt3000 f (sideOf z)) 0)
+
 -- the answer to an accepted request: "A tick answers zeros."
 unfoldable pub answerOf : Field → Request → Answer
 answerOf f r =
     cond (eqb (r .kind) 12) (numberAndZeros 0)
-    (acceptance (effectOf f r) (r .number) (cond (eqb (r .kind) 11) (heldAlong f (zoneBefore f r)) 0))
+    (acceptance (effectOf f r) (r .number) (alongFor (r .kind) f r (zoneBefore f r)))
 
 -- the step: "A refusal answers its number and zeros; the field is the one handed in."
 unfoldable pub stepOf : Field → Request → Stepped

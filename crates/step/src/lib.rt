@@ -1,8 +1,9 @@
 // The step of any request on any field (rules' specs/Step.antt).
 use bounds::within_bounds;
 use effects::effect;
-use effects::held_along;
+use effects::number_at_3000;
 use field::Field;
+use field::boxes::side_of;
 use needs::check_number;
 use questions::find::aircraft_at;
 use questions::find::leader_of;
@@ -15,8 +16,7 @@ ghost use mathlib.Core.Path.{_≡_};
 ghost use mathlib.Core.Bool.{cond};
 ghost use lib.Dec.{eqb};
 ghost use Rattle.request.specs.Input.{firstRefused};
-ghost use Rattle.rules.specs.Kinds.{heldAlong};
-ghost use Rattle.rules.specs.Step.{checksOf, effectOf, numberOf, numberAndZeros, acceptance, answerOf, stepOf};
+ghost use Rattle.rules.specs.Step.{checksOf, effectOf, numberOf, numberAndZeros, acceptance, alongFor, answerOf, stepOf};
 
 // The answer that has a number, and zeros.
 fn number_and_zeros(number: u16) -> Answer
@@ -51,11 +51,12 @@ fn acceptance(f: Field, number: u16, along: u16) -> Answer
 
 // The answer to an accepted request whose aircraft was in a zone, from the field before the step and the field `g` after it.
 fn answer(f: Field, r: Request, zone: u8, g: Field) -> Answer
-    ensures { λ a. ⌜ a ≡ cond (eqb (r .kind) 12) (numberAndZeros 0) (acceptance g (r .number) (cond (eqb (r .kind) 11) (heldAlong f zone) 0)) ⌝ }
+    ensures { λ a. ⌜ a ≡ cond (eqb (r .kind) 12) (numberAndZeros 0) (acceptance g (r .number) (alongFor (r .kind) f r zone)) ⌝ }
 {
     let kind = r.kind;
     match kind {
-        11 => acceptance(g, r.number, held_along(f, zone)),
+        1 => acceptance(g, r.number, number_at_3000(f, r.side)),
+        11 => acceptance(g, r.number, number_at_3000(f, side_of(zone as usize))),
         12 => number_and_zeros(0),
         _ => acceptance(g, r.number, 0),
     }

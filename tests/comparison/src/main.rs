@@ -62,7 +62,7 @@ impl Comparison {
         }
         println!("random sessions: {count} files, {} requests, answered so often:", table.requests);
         print!("{table}");
-        none_of(table.faults())
+        none_of([table.faults(), table.along_faults()].concat())
     }
 
     fn binders(&mut self, what: &str, binders: impl IntoIterator<Item = Vec<u8>>) -> Result<(), String> {

@@ -4,11 +4,11 @@ use reference::binder::NUMBERS;
 use reference::PracticeFile;
 use std::fmt;
 
-/// What can be answered to a kind from an empty field, never 10 and 25; kind 0 stands for every other than 1 to 12.
+/// What can be answered to a kind from an empty field, never 10, 20 and 25; kind 0 stands for every other than 1 to 12.
 fn reachable(kind: u8) -> &'static [u8] {
     match kind {
         0 => &[1],
-        1 => &[0, 2, 3, 4, 11, 16, 17, 18, 19, 20],
+        1 => &[0, 2, 3, 4, 11, 16, 17, 18, 19],
         2 => &[0, 2, 3, 4, 11, 16],
         3 => &[0, 2, 3, 4, 12, 13, 21],
         4 => &[0, 2, 3, 4, 12, 13, 22, 23],
@@ -21,10 +21,17 @@ fn reachable(kind: u8) -> &'static [u8] {
     }
 }
 
+/// Whether the answer to a kind can name another in `along`: a vertical entry and a hold.
+fn moves_two(kind: u8) -> bool {
+    matches!(kind, 1 | 11)
+}
+
 /// Counts by kind, 0 to 12, and number.
 #[derive(Default)]
 pub struct Table {
     counts: [[usize; 26]; 13],
+    /// By kind, the answers that name another in `along`. The report of a binder does not say them.
+    along: [usize; 13],
     pub requests: usize,
 }
 
@@ -33,8 +40,9 @@ impl Table {
     pub fn count(&mut self, file: &[u8], report: &[u8]) {
         let Ok(practice) = PracticeFile::read(file) else { return };
         for (request, line) in practice.requests.iter().zip(report.split(|&byte| byte == b'\n')) {
-            let kind = if request.kind <= 12 { request.kind } else { 0 };
-            self.counts[usize::from(kind)][answered(line)] += 1;
+            let kind = usize::from(if request.kind <= 12 { request.kind } else { 0 });
+            self.counts[kind][in_line(line, 1)] += 1;
+            self.along[kind] += usize::from(in_line(line, 6) != 0);
             self.requests += 1;
         }
     }
@@ -65,16 +73,28 @@ impl Table {
         }
         faults
     }
+
+    /// The same of `along`, where reports were counted. A hold seldom moves another, so that one is not asked for.
+    pub fn along_faults(&self) -> Vec<String> {
+        let mut faults = Vec::new();
+        if self.along[1] == 0 {
+            faults.push(String::from("no vertical entry moved another along"));
+        }
+        for kind in (0..=12).filter(|&kind| !moves_two(kind) && self.along[usize::from(kind)] > 0) {
+            faults.push(format!("kind {kind} moved another along"));
+        }
+        faults
+    }
 }
 
-/// The number in a line: its second one.
-fn answered(line: &[u8]) -> usize {
-    let word = line.split(|&byte| byte == b' ').nth(1).unwrap_or_default();
+/// One of the numbers in a line, the first at 0. In a report's line, the answer's is at 1 and `along` at 6.
+fn in_line(line: &[u8], place: usize) -> usize {
+    let word = line.split(|&byte| byte == b' ').nth(place).unwrap_or_default();
     word.iter().fold(0, |number, digit| 10 * number + usize::from(digit - b'0'))
 }
 
 impl fmt::Display for Table {
-    /// A row for each number, a column for each kind; a dash where a number cannot come.
+    /// A row for each number and one for `along`, a column for each kind; a dash where a number cannot come.
     fn fmt(&self, f: &mut fmt::Formatter) -> fmt::Result {
         write!(f, "number")?;
         for kind in 1..=12 {
@@ -82,19 +102,28 @@ impl fmt::Display for Table {
         }
         writeln!(f, "    other")?;
         for number in NUMBERS {
-            write!(f, "{number:>6}")?;
-            for kind in (1..=12).chain([0]) {
-                let count = self.counts[usize::from(kind)][usize::from(number)];
-                if count == 0 && !reachable(kind).contains(&number) {
-                    write!(f, "        -")?;
-                } else {
-                    write!(f, "{count:>9}")?;
-                }
-            }
-            writeln!(f)?;
+            let counts = self.counts.map(|of_kind| of_kind[usize::from(number)]);
+            row(f, &number.to_string(), counts, |kind| reachable(kind).contains(&number))?;
         }
-        Ok(())
+        row(f, "along", self.along, moves_two)
     }
+}
+
+/// A row of counts by kind.
+fn row(
+    f: &mut fmt::Formatter,
+    name: &str,
+    counts: [usize; 13],
+    can_come: impl Fn(u8) -> bool,
+) -> fmt::Result {
+    write!(f, "{name:>6}")?;
+    for kind in (1..=12).chain([0]) {
+        match counts[usize::from(kind)] {
+            0 if !can_come(kind) => write!(f, "        -")?,
+            count => write!(f, "{count:>9}")?,
+        }
+    }
+    writeln!(f)
 }
 
 /// What came of binders, by their reports.

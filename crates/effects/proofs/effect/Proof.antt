@@ -5,35 +5,29 @@ use borrow.Author.Needs.{needs}
 use Rattle.effects.proofs.effect.Statement.{statement}
 use Rattle.effects.proofs.effect.Tie as tie
 
+entered-above-requires : tie.Need-entered-above-requires
+entered-above-requires c κs = search needs
+
 cast-entered : tie.Need-cast-entered
 cast-entered c = search needs
-
-entered-requires : tie.Need-entered-requires
-entered-requires c κs = search needs
-
-cast-entered-2 : tie.Need-cast-entered-2
-cast-entered-2 c = search needs
 
 add-entered : tie.Need-add-entered
 add-entered c = search needs
 
-entered-requires-2 : tie.Need-entered-requires-2
-entered-requires-2 c κs = search needs
+entered-requires : tie.Need-entered-requires
+entered-requires c κs = search needs
 
-add-moved : tie.Need-add-moved
-add-moved c = search needs
-
-moved-requires : tie.Need-moved-requires
-moved-requires c κs = search needs
+descended-requires : tie.Need-descended-requires
+descended-requires c κs = search needs
 
 approached-requires : tie.Need-approached-requires
 approached-requires c κs = search needs
 
+moved-requires : tie.Need-moved-requires
+moved-requires c κs = search needs
+
 moved-requires-2 : tie.Need-moved-requires-2
 moved-requires-2 c κs = search needs
-
-moved-requires-3 : tie.Need-moved-requires-3
-moved-requires-3 c κs = search needs
 
 landed-requires : tie.Need-landed-requires
 landed-requires c κs = search needs
@@ -54,22 +48,22 @@ ticked-requires : tie.Need-ticked-requires
 ticked-requires c κs = search needs
 
 returns : tie.Need-returns
-returns c = c .entered .ensures ∙ sym (simp (c .before .before .match .keys1))
+returns c = c .entered-above .ensures ∙ sym (simp (c .before .match .keys1))
 
 returns-2 : tie.Need-returns-2
-returns-2 c = c .entered2 .ensures ∙ sym (simp (c .before .before .match .keys2))
+returns-2 c = c .entered .ensures ∙ sym (simp (c .before .before .match .keys2))
 
 returns-3 : tie.Need-returns-3
-returns-3 c = c .moved .ensures ∙ sym (simp (c .before .match .keys3))
+returns-3 c = c .descended .ensures ∙ sym (simp (c .before .match .keys3))
 
 returns-4 : tie.Need-returns-4
 returns-4 c = c .approached .ensures ∙ sym (simp (c .before .match .keys4))
 
 returns-5 : tie.Need-returns-5
-returns-5 c = c .moved2 .ensures ∙ sym (simp (c .before .match .keys5))
+returns-5 c = c .moved .ensures ∙ sym (simp (c .before .match .keys5))
 
 returns-6 : tie.Need-returns-6
-returns-6 c = c .moved3 .ensures ∙ sym (simp (c .before .match .keys6))
+returns-6 c = c .moved2 .ensures ∙ sym (simp (c .before .match .keys6))
 
 returns-7 : tie.Need-returns-7
 returns-7 c = c .landed .ensures ∙ sym (simp (c .before .match .keys7))
@@ -110,16 +104,14 @@ pub effect-spec : {M : Type 1} → statement M
 effect-spec =
     tie.close
     (tie.spec
+    entered-above-requires
     cast-entered
-    entered-requires
-    cast-entered-2
     add-entered
-    entered-requires-2
-    add-moved
-    moved-requires
+    entered-requires
+    descended-requires
     approached-requires
+    moved-requires
     moved-requires-2
-    moved-requires-3
     landed-requires
     head-gone-requires
     exited-requires

@@ -32,21 +32,18 @@ cast-side c = search needs
 is-empty-requires : tie.Need-is-empty-requires
 is-empty-requires c κs = search needs
 
-add-moved : tie.Need-add-moved
-add-moved c = search needs
+descended-requires : tie.Need-descended-requires
+descended-requires c κs = search needs
 
 moved-requires : tie.Need-moved-requires
 moved-requires c κs = search needs
-
-moved-requires-2 : tie.Need-moved-requires-2
-moved-requires-2 c κs = search needs
 
 returns : tie.Need-returns
 returns c =
     let b = c .before .before .before in
     let side = b .before .side-of .result in
-    c .moved2 .ensures
-    ∙ ap (λ (g : Field). moved g (b .before .before .args .zone) side) (c .before .moved .ensures)
+    c .moved .ensures
+    ∙ ap (λ (g : Field). moved g (b .before .before .args .zone) side) (c .before .descended .ensures)
     ∙ sym (if-false _ _ (fails (b .is-empty .ensures) (c .before .before .if1 .taken)))
     ∙ held-from _ _ (b .before .side-of .ensures)
 
@@ -56,28 +53,28 @@ add-is-empty c = search needs
 is-empty-requires-2 : tie.Need-is-empty-requires-2
 is-empty-requires-2 c κs = search needs
 
-add-moved-2 : tie.Need-add-moved-2
-add-moved-2 c = search needs
+add-moved : tie.Need-add-moved
+add-moved c = search needs
 
-moved-requires-3 : tie.Need-moved-requires-3
-moved-requires-3 c κs = search needs
+moved-requires-2 : tie.Need-moved-requires-2
+moved-requires-2 c κs = search needs
 
 returns-2 : tie.Need-returns-2
 returns-2 c =
     let b = c .before .before .before .before in
     let high = holds (b .is-empty .ensures) (c .before .before .before .if1 .left) in
-    c .moved3 .ensures
+    c .moved2 .ensures
     ∙ sym (if-true _ _ high ∙ if-true _ _ (sym (c .before .before .is-empty2 .ensures) ∙ c .before .if2 .taken))
     ∙ held-from _ _ (b .before .side-of .ensures)
 
-moved-requires-4 : tie.Need-moved-requires-4
-moved-requires-4 c κs = search needs
+moved-requires-3 : tie.Need-moved-requires-3
+moved-requires-3 c κs = search needs
 
 returns-3 : tie.Need-returns-3
 returns-3 c =
     let b = c .before .before .before .before in
     let high = holds (b .is-empty .ensures) (c .before .before .before .if1 .left) in
-    c .moved4 .ensures
+    c .moved3 .ensures
     ∙ sym (if-true _ _ high ∙ if-false _ _ (sym (c .before .before .is-empty2 .ensures) ∙ c .before .if2 .left))
     ∙ held-from _ _ (b .before .side-of .ensures)
 
@@ -88,14 +85,13 @@ held-spec =
     side-of-requires
     cast-side
     is-empty-requires
-    add-moved
+    descended-requires
     moved-requires
-    moved-requires-2
     returns
     add-is-empty
     is-empty-requires-2
-    add-moved-2
-    moved-requires-3
+    add-moved
+    moved-requires-2
     returns-2
-    moved-requires-4
+    moved-requires-3
     returns-3)

@@ -11,8 +11,8 @@ use Rattle.field.proofs.Tests.{if-true, if-false}
 use Rattle.questions.specs.declared.Place.{Place}
 use Rattle.rules.specs.declared.Answer.{Answer}
 use Rattle.rules.specs.declared.Stepped.{Stepped}
-use Rattle.rules.specs.Kinds.{placeBefore, heldAlong}
-use Rattle.rules.specs.Step.{checksFor, effectFor, checksOf, effectOf, numberAndZeros, acceptance, answerOf}
+use Rattle.rules.specs.Kinds.{placeBefore}
+use Rattle.rules.specs.Step.{checksFor, effectFor, checksOf, effectOf, numberAndZeros, acceptance, alongFor, answerOf}
 use borrow.Author.Needs.{needs}
 use Rattle.step.proofs.unjudged.Statement.{statement}
 use Rattle.step.proofs.unjudged.Tie as tie
@@ -24,7 +24,7 @@ checked f r p e = e ∙ ap (λ (at : Place). firstRefused (checksFor (r .kind) f
 
 -- the step by the field after it and the answer
 made : (f : Field) (r : Request) {at : Place} {g : Field} {a : Answer} → at ≡ placeBefore f r → g ≡ effectFor (r .kind) f r (at .zone)
-    → a ≡ cond (eqb (r .kind) 12) (numberAndZeros 0) (acceptance g (r .number) (cond (eqb (r .kind) 11) (heldAlong f (at .zone)) 0))
+    → a ≡ cond (eqb (r .kind) 12) (numberAndZeros 0) (acceptance g (r .number) (alongFor (r .kind) f r (at .zone)))
     → _≡_ {A = Stepped} (record { answer = a; field = g }) (record { answer = answerOf f r; field = effectOf f r })
 unfolding answerOf effectOf
 made f r {at} {g} {a} p eg ea =
@@ -36,7 +36,7 @@ made f r {at} {g} {a} p eg ea =
     stepped b h = record { answer = b; field = h }
 
     answered : Field → Place → Answer
-    answered h q = cond (eqb (r .kind) 12) (numberAndZeros 0) (acceptance h (r .number) (cond (eqb (r .kind) 11) (heldAlong f (q .zone)) 0))
+    answered h q = cond (eqb (r .kind) 12) (numberAndZeros 0) (acceptance h (r .number) (alongFor (r .kind) f r (q .zone)))
 
 place-of-requires : tie.Need-place-of-requires
 place-of-requires c κs = search needs

@@ -1,0 +1,4 @@
+pub mod Down
+pub mod DownWithin
+pub mod Descent
+pub mod Entry
