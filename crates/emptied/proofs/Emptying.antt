@@ -2,7 +2,7 @@
 -- lighter. Assumes nothing.
 use mathlib.Core.Path.{_≡_, refl, sym, ap, _∙_, subst, subst⁻¹}
 use mathlib.Core.Logic.{_⊎_, inl, inr}
-use mathlib.Core.Bool.{Bool, false, cond, not}
+use mathlib.Core.Bool.{Bool, true, false, cond, not, _&&_}
 use mathlib.Core.List.{List, [], _∷_}
 use Prim.Native.Nat.{ℕ, zero, suc, _+_, _*_, _≤_, _<_}
 use native.Mathlib.Nat.{pos-of-ne-zero, le-trans, le-of-eq}
@@ -25,8 +25,9 @@ use Rattle.bounds.specs.Bounds.{legalLegs, withinBounds}
 use Rattle.tick.specs.Tick.{ticked}
 use Rattle.order.specs.Model.{Side, one}
 use Rattle.rules.specs.Step.{effectOf, numberOf, stepOf}
-use Rattle.rules.specs.Play.{fieldAfter, addsMoves}
+use Rattle.rules.specs.Play.{fieldAfter, played, accepted, addsMoves}
 use Rattle.rules.proofs.Checks.{effect-at}
+use Rattle.rules.proofs.Refusals.{accepted-within}
 use Rattle.rules.proofs.StepLaws.{number-is, field-accepted}
 use Rattle.line.proofs.Line.{Placed, fieldOf}
 use Rattle.line.proofs.Orderly.{Orderly}
@@ -36,7 +37,7 @@ use Rattle.moves.proofs.Outcomes.{outcome}
 use Rattle.demand.specs.Demand.{allFlownOut, movesOn, MovesOn}
 use Rattle.demand.proofs.Runs.{refusable-range}
 use Rattle.demand.proofs.Unstuck.{unstuck}
-use Rattle.demand.proofs.Demand.{from-empty, present-is, light}
+use Rattle.demand.proofs.Demand.{from-empty, present-is, light, demand-3}
 use Rattle.press.specs.declared.Proposal.{Proposal}
 use Rattle.press.specs.declared.Proposal.the-variants.{Refused, None, Play}
 use Rattle.press.specs.declared.Ending.the-variants as ending
@@ -200,6 +201,30 @@ presses-few (suc n) g = let e = ap length (presses-more n g) in le-trans (le-of-
     by few None = omega arith
     by few (Play r) = let h = few (stepOf g r .field) in omega arith
 
+sums : {a b : ℕ} → a ≡ 0 → b ≡ 0 → a + b ≡ 0
+sums e h = omega arith
+
+-- no entry and no miss is among them
+no-adds : (n : ℕ) (g : Field) → T (withinBounds g) → accepted addsMoves (played g (presses n g)) ≡ 0
+no-adds zero g t = ap (λ (rs : List Request). accepted addsMoves (played g rs)) (presses-none g)
+no-adds (suc n) g t = by (λ f u. no-adds n f u) (proposalOf g) refl (subst⁻¹ (Proposed g) (proposal-is g t) (proposed g t))
+  where
+    none : (r : Request) → (r ≡ longTick) ⊎ T (movesOn (r .kind)) → addsMoves (r .kind) ≡ false
+    none r (inl e) = ap (λ (q : Request). addsMoves (q .kind)) e
+    none r (inr m) = no-more-moves (r .kind) m
+
+    counts : (r : Request) → addsMoves (r .kind) ≡ false → (b : Bool) → _≡_ {A = ℕ} (cond (b && addsMoves (r .kind)) 1 0) 0
+    counts r e true = ap (λ (b : Bool). cond b 1 0) e
+    counts r e false = refl
+
+    by : ((f : Field) → T (withinBounds f) → accepted addsMoves (played f (presses n f)) ≡ 0) → (p : Proposal) → proposalOf g ≡ p → Proposed g p → accepted addsMoves (played g (presses (suc n) g)) ≡ 0
+    by rest Refused e q = absurd q
+    by rest None e q = ap (λ (rs : List Request). accepted addsMoves (played g rs)) (presses-end (suc n) g e)
+    by rest (Play r) e q =
+        let first = counts r (none r (q .1)) (eqb (stepOf g r .answer .number) 0) in
+        let others = rest (stepOf g r .field) (accepted-within g r (number-is g r ∙ q .0)) in
+        ap (λ (rs : List Request). accepted addsMoves (played g rs)) (presses-play n g r e) ∙ sums first others
+
 module _ (legs : Legs) (l : T (legalLegs legs)) (rs : List Request) where
   abbrev reached : Field
   reached = fieldAfter (emptyField legs) rs
@@ -226,5 +251,6 @@ module _ (legs : Legs) (l : T (legalLegs legs)) (rs : List Request) where
       record {
         ending = sym (ap (λ (h : Held). h .ending) held);
         nobody = sym (ap (λ (h : Held). presentOn (h .field)) held) ∙ none;
+        few-moves = demand-3 legs l rs .few-moves (heldRequests reached) (no-adds mostPresses reached (bounded reached-stands));
         few = le-trans (le-of-eq (sym (ap (λ (h : Held). h .played) held))) (presses-few mostPresses reached);
       }

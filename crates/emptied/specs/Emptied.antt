@@ -2,17 +2,18 @@
 use mathlib.Core.Path.{_≡_}
 use Prim.Native.Nat.{_≤_}
 use lib.Dec.{T}
-use Rattle.limits.specs.Limits.{mostPresses}
+use Rattle.limits.specs.Limits.{mostMoves, mostPresses}
 use Rattle.request.specs.declared.Request.{Request}
 use Rattle.field.specs.declared.Field.{Field}
 use Rattle.questions.specs.Counts.{presentOn}
 use Rattle.bounds.specs.Bounds.{withinBounds}
 use Rattle.rules.specs.Step.{stepOf}
+use Rattle.rules.specs.Play.{played, moves}
 use Rattle.demand.specs.Demand.{movesOn}
 use Rattle.press.specs.declared.Proposal.the-variants.{None, Play}
 use Rattle.press.specs.declared.Ending.the-variants as ending
 use Rattle.press.specs.Press.{longTick, proposalOf, pressOf}
-use Rattle.press.specs.HeldDown.{heldOf}
+use Rattle.press.specs.HeldDown.{heldRequests, heldOf}
 
 -- a press on a field within the bounds
 pub record PressedOn (f : Field) : Type 0 where
@@ -30,6 +31,8 @@ pub record Emptied (f : Field) : Type 0 where
   pub ending : heldOf f .ending ≡ ending.None
   pub nobody : presentOn (heldOf f .field) ≡ 0
   pub few : heldOf f .played ≤ mostPresses
+  -- its moves are as few as those of any list without an entry or a miss
+  pub few-moves : moves (played f (heldRequests f)) ≤ mostMoves
 
 -- held down on a field within the bounds that no list of requests reaches, the button may end spent, after as many requests as its bound:
 -- so it does on `stuck` (`crates/rules/specs/Examples.antt`)
