@@ -8,13 +8,10 @@ extern "C" {
     fn baguymo_button(file: *const u8, length: usize, out: *mut u8) -> usize;
 }
 
-/// Bytes of the buffer that the library is lent for the report of a file or of a binder.
+/// Bytes of the buffer that the library is lent.
 pub const ROOM: usize = 131_072;
-/// The same for what the button does.
-pub const BUTTON_ROOM: usize = 1024;
 
 pub type Buffer = [u8; ROOM];
-pub type ButtonBuffer = [u8; BUTTON_ROOM];
 
 /// Plays a file or a binder into a buffer, and yields the length of the report.
 pub type Player<const N: usize> = fn(&[u8], &mut [u8; N]) -> usize;
@@ -27,7 +24,7 @@ pub const PLAYERS: [(&str, Player<ROOM>); 2] =
 pub const WEEK: [(&str, Player<ROOM>); 1] = [("the library", week_into)];
 
 /// Its function for the button.
-pub const BUTTON: [(&str, Player<BUTTON_ROOM>); 1] = [("the library", button_into)];
+pub const BUTTON: [(&str, Player<ROOM>); 1] = [("the library", button_into)];
 
 pub fn report_into(file: &[u8], out: &mut Buffer) -> usize {
     // SAFETY: both pointers are valid for the lengths that the library's signature states.
@@ -44,7 +41,7 @@ pub fn week_into(binder: &[u8], out: &mut Buffer) -> usize {
     unsafe { baguymo_week(binder.as_ptr(), binder.len(), out.as_mut_ptr()) }
 }
 
-pub fn button_into(file: &[u8], out: &mut ButtonBuffer) -> usize {
+pub fn button_into(file: &[u8], out: &mut Buffer) -> usize {
     // SAFETY: as above.
     unsafe { baguymo_button(file.as_ptr(), file.len(), out.as_mut_ptr()) }
 }
