@@ -35,7 +35,7 @@ pub record Emptied (f : Field) : Type 0 where
   pub few-moves : moves (played f (heldRequests f)) ≤ mostMoves
 
 -- held down on a field within the bounds that no list of requests reaches, the button may end spent, after as many requests as its bound:
--- so it does on `stuck` of `rules`' `specs/Examples.antt`
+-- so it does on `stuck` of `rules`
 pub record SpentOn (f : Field) : Type 0 where
   pub within-bounds : T (withinBounds f)
   pub ending : heldOf f .ending ≡ ending.Spent
