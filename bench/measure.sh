@@ -1,5 +1,5 @@
 # What bench/run and bench/against share, to be sourced from the root: what they need and build, and how two programs are measured on a
-# file. $made is a folder that is removed at the end, $bench the measuring program, $longest and $typical two practice files.
+# file. $made is a folder that is removed at the end, $bench the measuring program, $longest, $typical and $button three practice files.
 set -e -o pipefail
 
 # Ends the script where one of these is not installed.
@@ -21,11 +21,14 @@ staticlib() {
 
 staticlib . session
 staticlib . binder
+staticlib . demonstration
 cargo build --quiet --release --offline --locked --manifest-path bench/Cargo.toml
 bench=bench/target/release/bench
 longest=crates/cases/data/longest.scap
 typical=$made/typical.scap
 python3 tools/sessions.py bytes bench/typical.txt "$typical"
+button=$made/button.scap
+python3 tools/sessions.py bytes bench/button.txt "$button"
 
 # Instructions of so many plays of a file by one program, starting and reading included.
 instructions() {
@@ -34,31 +37,34 @@ instructions() {
     sed -n 's/^summary: //p' "$made/callgrind.out"
 }
 
-# Instructions a request: what two plays more cost.
-a_request() {
+# Instructions of each of so many requests or presses of a play: what two plays more cost.
+of_each() {
     local once thrice
     once=$(instructions "$1" "$2" 1)
     thrice=$(instructions "$1" "$2" 3)
     echo $(((thrice - once) / (2 * $3)))
 }
 
-# Takes a file in hand, and counts the instructions a request of each program on it: take FILE PROGRAM...
+# Takes a file in hand, and counts the instructions of each program for each of its requests, or for each press of the button after it:
+# take request|press FILE PROGRAM...
 declare -A counted
+declare -A plural=([request]=requests [press]=presses)
 take() {
     local program
-    file=$1
-    requests=$("$bench" requests "$file")
-    for program in "${@:2}"; do
-        counted[$program]=$(a_request "$program" "$file" "$requests")
+    each=$1
+    file=$2
+    number=$("$bench" "${plural[$each]}" "$file")
+    for program in "${@:3}"; do
+        counted[$program]=$(of_each "$program" "$file" "$number")
     done
 }
 
 # The line of two programs on the file in hand, each after what it is called: beside NOTE NAME PROGRAM NAME PROGRAM
 beside() {
     local first second ratio fewer
-    read -r first second ratio < <("$bench" time "$3" "$5" "$file")
+    read -r first second ratio < <("$bench" time "$3" "$5" "$file" "$number")
     fewer=$(awk "BEGIN { printf \"%.2f\", ${counted[$5]} / ${counted[$3]} }")
-    echo "$(basename "$file" .scap), $requests requests$1:" \
+    echo "$(basename "$file" .scap), $number ${plural[$each]}$1:" \
         "$2 $first a second, $4 $second, ratio $ratio;" \
-        "instructions a request: $2 ${counted[$3]}, $4 ${counted[$5]}, ratio $fewer"
+        "instructions a $each: $2 ${counted[$3]}, $4 ${counted[$5]}, ratio $fewer"
 }

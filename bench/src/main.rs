@@ -1,17 +1,19 @@
 //! The proved library and the reference, or two libraries, measured on one practice file.
 //!
-//!   bench requests FILE              how many requests it has
-//!   bench time PROGRAM PROGRAM FILE  requests a second of both, and their ratio
-//!   bench count PROGRAM FILE N       plays the file N times, to be counted
-//!   bench same LIBRARY LIBRARY FILE  whether both write the same report
-//!   bench typical                    prints the typical session in readable form
+//!   bench requests FILE                how many requests it has
+//!   bench presses FILE                 how many requests the button plays after it
+//!   bench time PROGRAM PROGRAM FILE N  for a play of N requests or presses, how many a second of both, and their ratio
+//!   bench count PROGRAM FILE N         plays the file N times, to be counted
+//!   bench same LIBRARY LIBRARY FILE    whether both write the same report
+//!   bench typical                      prints the typical session in readable form
 //!
-//! A PROGRAM is library, library-judged, reference, reference-unjudged or a LIBRARY: the path of a shared one, NAME.so.
+//! A PROGRAM is library, library-judged, library-button, reference, reference-unjudged, reference-button or a LIBRARY: the path of a
+//! shared one, NAME.so.
 
 mod loaded;
 
 use comparison::dice::Dice;
-use comparison::library::{judged_report_into, report_into, Buffer, ROOM};
+use comparison::library::{button_into, judged_report_into, report_into, ROOM};
 use comparison::sessions::typical;
 use loaded::loaded;
 use reference::{PracticeFile, Request};
@@ -32,7 +34,9 @@ fn program(name: &str) -> Program {
     match name {
         "library" => by_library(report_into),
         "library-judged" => by_library(judged_report_into),
+        "library-button" => by_library(button_into),
         "reference" => by_reference(reference::report),
+        "reference-button" => by_reference(reference::button),
         "reference-unjudged" => by_reference(reference::report_unjudged),
         _ if name.ends_with(".so") => by_library(loaded(name)),
         _ => panic!("no program: {name}"),
@@ -40,8 +44,8 @@ fn program(name: &str) -> Program {
 }
 
 /// The library's buffer is lent as the play before left it.
-fn by_library(play: impl Fn(&[u8], &mut Buffer) -> usize + 'static) -> Program {
-    let mut out = Box::new([0; ROOM]);
+fn by_library<const N: usize>(play: impl Fn(&[u8], &mut [u8; N]) -> usize + 'static) -> Program {
+    let mut out = Box::new([0; N]);
     Box::new(move |file| play(black_box(file), black_box(&mut out)))
 }
 
@@ -77,41 +81,50 @@ fn median(mut of: Vec<f64>) -> f64 {
     of[of.len() / 2]
 }
 
-fn time(mut first: Program, mut second: Program, file: &[u8], requests: f64) {
+/// What is played in one play, by both: so many requests or presses.
+fn time(mut first: Program, mut second: Program, file: &[u8], number: f64) {
     let first_plays = plays_in_a_round(|| first(file));
     let second_plays = plays_in_a_round(|| second(file));
     let (mut by_first, mut by_second, mut ratio) = (Vec::new(), Vec::new(), Vec::new());
     for _ in 0..ROUNDS {
-        by_first.push(requests / seconds(first_plays, || first(file)));
-        by_second.push(requests / seconds(second_plays, || second(file)));
+        by_first.push(number / seconds(first_plays, || first(file)));
+        by_second.push(number / seconds(second_plays, || second(file)));
         ratio.push(by_first[by_first.len() - 1] / by_second[by_second.len() - 1]);
     }
     println!("{:.0} {:.0} {:.2}", median(by_first), median(by_second), median(ratio));
 }
 
+/// How many requests a practice file has.
+fn requests(file: &[u8]) -> usize {
+    PracticeFile::read(file).expect("a practice file").requests.len()
+}
+
+/// How many requests the button plays after a practice file, by the last line of its report.
+fn presses(file: &[u8]) -> usize {
+    let report = String::from_utf8(reference::button(file)).expect("ASCII");
+    let number = report.trim_end().rsplit(' ').next().unwrap_or_default();
+    number.parse().expect("a number")
+}
+
 fn main() {
     let words: Vec<String> = env::args().skip(1).collect();
     let words: Vec<&str> = words.iter().map(String::as_str).collect();
-    let read = |path: &str| {
-        let file = fs::read(path).expect("a practice file");
-        let requests = PracticeFile::read(&file).expect("a practice file").requests.len();
-        (file, requests)
-    };
+    let read = |path: &str| fs::read(path).expect("a practice file");
     match words[..] {
-        ["requests", path] => println!("{}", read(path).1),
-        ["time", first, second, path] => {
-            let (file, requests) = read(path);
-            time(program(first), program(second), &file, requests as f64);
+        ["requests", path] => println!("{}", requests(&read(path))),
+        ["presses", path] => println!("{}", presses(&read(path))),
+        ["time", first, second, path, number] => {
+            time(program(first), program(second), &read(path), number.parse().expect("how many"));
         }
         ["count", name, path, plays] => {
-            let (file, _) = read(path);
+            let file = read(path);
             let mut play = program(name);
             for _ in 0..plays.parse().expect("how often") {
                 play(&file);
             }
         }
         ["same", first, second, path] => {
-            let (file, _) = read(path);
+            let file = read(path);
             let same = report(first, &file) == report(second, &file);
             println!("{}", if same { "the same report" } else { "different reports" });
         }

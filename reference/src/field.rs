@@ -1,6 +1,7 @@
 //! The field: zones, sequence, next fix, legs; its bounds; and one step.
 
 use std::collections::VecDeque;
+use std::fmt;
 
 use crate::refusal::Refusal;
 use crate::request::{Call, Request, FASTEST};
@@ -165,6 +166,14 @@ pub struct Answer {
 
 impl Answer {
     pub const ZEROS: Answer = Answer { aircraft: 0, zone: 0, fix: 0, leader: 0, along: 0 };
+}
+
+impl fmt::Display for Answer {
+    /// Its five numbers, as they stand in a line of a report.
+    fn fmt(&self, f: &mut fmt::Formatter) -> fmt::Result {
+        let Answer { aircraft, zone, fix, leader, along } = self;
+        write!(f, "{aircraft} {zone} {fix} {leader} {along}")
+    }
 }
 
 /// One letter for each bound of the paper.
@@ -350,12 +359,23 @@ impl Field {
         if !self.within_bounds() {
             return Err(Refusal::FieldBreaksBound);
         }
+        let (after, answer) = self.judged_after(call)?;
+        *self = after;
+        Ok(answer)
+    }
+
+    /// Whether a field within the bounds accepts a request.
+    pub fn accepts(&self, request: &Request) -> bool {
+        request.check().and_then(|call| self.judged_after(call)).is_ok()
+    }
+
+    /// The field after a call, if that is within the bounds, and the answer; whether this one is, is the caller's.
+    fn judged_after(&self, call: Call) -> Result<(Field, Answer), Refusal> {
         let (after, answer) = self.played(call)?;
         if !after.within_bounds() {
             return Err(Refusal::StepBreaksBound);
         }
-        *self = after;
-        Ok(answer)
+        Ok((after, answer))
     }
 
     /// The same, of a field that keeps the bounds and whose step keeps them: they are not checked.

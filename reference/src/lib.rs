@@ -3,11 +3,14 @@
 //!
 //! [`report`] is the whole of the program `play`: the bytes of a practice file
 //! in, the bytes of its report out. [`week`] does the same for a binder of
-//! practice files. Beneath them: [`file`] reads a practice file, [`binder`] a
+//! practice files, and [`button()`] for a practice file after which one button
+//! empties the field. Beneath them: [`file`] reads a practice file, [`binder`] a
 //! binder, [`request`] holds requests and the input rules, [`field`] the zones,
-//! the sequence, the bounds and the twelve kinds of request.
+//! the sequence, the bounds and the twelve kinds of request, [`mod@button`] what
+//! a press proposes.
 
 pub mod binder;
+pub mod button;
 pub mod explore;
 pub mod field;
 pub mod file;
@@ -15,6 +18,7 @@ pub mod refusal;
 pub mod request;
 
 pub use binder::Week;
+pub use button::Ending;
 pub use field::{Aircraft, Answer, Field, Legs, Progress, Side, Zone};
 pub use file::PracticeFile;
 pub use refusal::{BinderRefusal, FileRefusal, Refusal};
@@ -66,15 +70,40 @@ pub fn week(binder: &[u8]) -> Vec<u8> {
     out
 }
 
+/// The whole output of `button` for the bytes of one practice file.
+pub fn button(file: &[u8]) -> Vec<u8> {
+    if_read(file, |practice, out| hold_down(played(practice, Field::step, |_, _, _| ()), out))
+}
+
 fn report_by(file: &[u8], step: impl Fn(&mut Field, &Request) -> Result<Answer, Refusal>) -> Vec<u8> {
+    if_read(file, |practice, out| play(practice, step, out))
+}
+
+/// What is written for a file that plays; one line for a file that is refused.
+fn if_read(file: &[u8], write: impl FnOnce(&PracticeFile, &mut Vec<u8>)) -> Vec<u8> {
     let mut out = Vec::new();
     match PracticeFile::read(file) {
-        Ok(practice) => play(&practice, step, &mut out),
+        Ok(practice) => write(&practice, &mut out),
         Err(refusal) => {
             line(&mut out, format_args!("file {}", refusal.number()));
         }
     }
     out
+}
+
+/// Holds the button down: a line for each press that played a move, and one for the ending.
+fn hold_down(mut field: Field, out: &mut Vec<u8>) {
+    let held = button::hold_down(&mut field, button::MOST_PRESSES, |press, request, answer| {
+        if request != button::TICK {
+            line(out, format_args!("{press} {} {answer}", request.kind));
+        }
+    });
+    match held {
+        Ok((played, Ending::None)) => line(out, format_args!("none {played}")),
+        Ok((played, Ending::Spent)) => line(out, format_args!("spent {played}")),
+        // From an empty field no bound is ever broken.
+        Err(refusal) => panic!("refused {}", refusal.number()),
+    }
 }
 
 fn play(
@@ -89,13 +118,7 @@ fn play(
             counts.accepted(request);
         }
         index += 1;
-        line(
-            out,
-            format_args!(
-                "{} {} {} {} {} {} {}",
-                index, number, answer.aircraft, answer.zone, answer.fix, answer.leader, answer.along
-            ),
-        );
+        line(out, format_args!("{index} {number} {answer}"));
     });
     line(
         out,

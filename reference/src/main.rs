@@ -1,5 +1,6 @@
 //! Reads one practice file from standard input and writes its report; with
-//! the word `week`, a binder of them and its report.
+//! the word `week`, a binder of them and its report; with the word `button`, a
+//! practice file and what the button plays after it.
 
 use std::io::{self, Read, Write};
 use std::{env, process};
@@ -12,8 +13,9 @@ fn main() -> io::Result<()> {
     let (longest, report): (usize, Report) = match words[..] {
         [] => (reference::file::LONGEST, reference::report),
         ["week"] => (reference::binder::LONGEST, reference::week),
+        ["button"] => (reference::file::LONGEST, reference::button),
         _ => {
-            eprintln!("usage: reference < FILE, or reference week < BINDER");
+            eprintln!("usage: reference < FILE, reference week < BINDER or reference button < FILE");
             process::exit(2);
         }
     };

@@ -4,27 +4,9 @@ mod common;
 use common::*;
 
 use reference::field::Bound;
-use reference::{Aircraft, Field, Legs, Progress, Side, Zone};
+use reference::{Field, Legs, Progress, Side, Zone};
 use Side::{Left, Right};
 use Zone::*;
-
-fn put(field: &mut Field, zone: Zone, number: u16, fix: Side) {
-    let progress = if zone.is_flying() { Progress::Flying(0.0) } else { Progress::Waiting };
-    field.zone_mut(zone).push_back(Aircraft { number, fix, speed: 64, progress, waited: 0.0 });
-    if zone != Runway {
-        field.sequence.push_back(number);
-        field.next_fix = fix.opposite();
-    }
-}
-
-/// A field of aircraft numbered from 1, in sequence order.
-fn field(aircraft: &[(Zone, Side)]) -> Field {
-    let mut field = empty();
-    for (number, &(zone, fix)) in (1..).zip(aircraft) {
-        put(&mut field, zone, number, fix);
-    }
-    field
-}
 
 fn breaks(mut field: Field, bound: Bound) {
     assert_eq!(field.broken_bound(), Some(bound));

@@ -87,7 +87,7 @@ module _ (f : Side) (line : List Placed) (runway : List Aircraft) (legs : Legs) 
       let d = how-many-runway f line runway legs in
       omega arith
 
-  light : weightOf line runway ≤ mostMoves
+  pub light : weightOf line runway ≤ mostMoves
   light = let a = weight-small f (zonesIn line) (o .okay-line) in let b = o .one-landed in omega arith
 
 -- ---- every list

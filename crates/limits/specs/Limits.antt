@@ -1,5 +1,5 @@
 -- The limits of documents 01 and 02 that several definitions and theorems speak of, each by one name. The words in quotes are those of document 01, and the section is named where the words stand in it.
-use Prim.Native.Nat.{ℕ}
+use Prim.Native.Nat.{ℕ, _+_, _*_}
 
 -- "4 amount: 1 to 64 for a tick" ("Turned away by the request or the file"): the longest tick, in 64ths of a minute
 abbrev pub longestTick : ℕ
@@ -28,3 +28,11 @@ mostMoves = 29
 -- the most miles past the ends of legs that are added up of an aircraft (02, 2.2)
 abbrev pub mostWaited : ℕ
 mostWaited = 4096
+
+-- the most ticks of `longestTick` after which every leg is flown out: the longest leg at the lowest speed (02, 2.6)
+abbrev pub mostTicks : ℕ
+mostTicks = 4096
+
+-- the presses by which the button empties every field that requests reach: as many moves as there can be, each after as many ticks (02, 2.6)
+abbrev pub mostPresses : ℕ
+mostPresses = mostMoves * (mostTicks + 1)

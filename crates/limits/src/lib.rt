@@ -11,3 +11,12 @@ pub const LONGEST_LEG: u16 = 4096;
 
 // The most miles past the ends of legs that are added up of an aircraft.
 pub const MOST_WAITED: f64 = 4096.0;
+
+// The most moves without an entry or a missed approach between them.
+pub const MOST_MOVES: usize = 29;
+
+// The most ticks of the longest kind after which every leg is flown out.
+pub const MOST_TICKS: usize = 4096;
+
+// The presses by which the button empties every field that requests reach.
+pub const MOST_PRESSES: usize = MOST_MOVES * (MOST_TICKS + 1);

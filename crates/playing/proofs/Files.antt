@@ -17,11 +17,12 @@ use Rattle.practice.specs.Practice.{Practice, refused, holds, practiceOf}
 use Rattle.practice.proofs.Accepted.{LegKnown, legs-known}
 use Rattle.practice.proofs.Meaning.{held}
 use Rattle.field.specs.declared.Legs.{Legs}
+use Rattle.field.specs.Boxes.{emptyField}
 use Rattle.bounds.specs.Bounds.{legalLegs}
 use Rattle.rules.specs.declared.Answer.{Answer}
 use Rattle.demand.proofs.Flights.{legs-legal}
 use Rattle.playing.specs.declared.Played.{Played}
-use Rattle.playing.specs.Playing.{legsInMiles, answersFrom, presentFrom, requestsHeld, answersHeld, presentHeld, requestsOfFile, answersOf, playedOf}
+use Rattle.playing.specs.Playing.{legsInMiles, noLegs, answersFrom, presentFrom, fieldFrom, requestsHeld, answersHeld, presentHeld, fieldHeld, requestsOfFile, answersOf, fieldOfFile, playedOf}
 use Rattle.playing.proofs.Playing.{length-answers}
 
 module _ (file : List ℕ) where
@@ -36,7 +37,7 @@ module _ (file : List ℕ) where
   requestsInside = requestsOf (requestsBody file)
 
   abbrev playedBy : Practice → Played
-  playedBy p = record { number = fileNumber file; requests = length (requestsHeld p); present = presentHeld p }
+  playedBy p = record { number = fileNumber file; requests = length (requestsHeld p); present = presentHeld p; field = fieldHeld p }
 
   module _ (e : fileNumber file ≡ 0) where
     pub practice-holds : practiceOf file ≡ holds (legsOf (legsBody file)) requestsInside
@@ -47,9 +48,9 @@ module _ (file : List ℕ) where
     unfolding answersOf
     answers-held = ap answersHeld practice-holds
 
-    pub played-held : playedOf file ≡ record { number = 0; requests = length requestsInside; present = presentFrom legsHeld requestsInside }
-    unfolding playedOf requestsOfFile
-    played-held = ap playedBy practice-holds ∙ ap (λ (n : ℕ). record { number = n; requests = length requestsInside; present = presentFrom legsHeld requestsInside }) e
+    pub played-held : playedOf file ≡ record { number = 0; requests = length requestsInside; present = presentFrom legsHeld requestsInside; field = fieldFrom legsHeld requestsInside }
+    unfolding playedOf requestsOfFile fieldOfFile
+    played-held = ap playedBy practice-holds ∙ ap (λ (n : ℕ). record { number = n; requests = length requestsInside; present = presentFrom legsHeld requestsInside; field = fieldFrom legsHeld requestsInside }) e
 
   module _ (n : fileNumber file ≡ 0 → ⊥) where
     pub practice-refused : practiceOf file ≡ refused (fileNumber file)
@@ -60,8 +61,8 @@ module _ (file : List ℕ) where
     unfolding answersOf
     answers-none = ap answersHeld practice-refused
 
-    pub played-none : playedOf file ≡ record { number = fileNumber file; requests = 0; present = 0 }
-    unfolding playedOf requestsOfFile
+    pub played-none : playedOf file ≡ record { number = fileNumber file; requests = 0; present = 0; field = emptyField (legsInMiles noLegs) }
+    unfolding playedOf requestsOfFile fieldOfFile
     played-none = ap playedBy practice-refused
 
 -- the legs of an accepted file, whole 64ths as the file says them, are legal

@@ -8,6 +8,7 @@ use Rattle.practice.specs.declared.FileLegs.{FileLegs}
 use Rattle.practice.specs.File.{fileNumber}
 use Rattle.practice.specs.Practice.{Practice, refused, holds, practiceOf}
 use Rattle.field.specs.declared.Legs.{Legs}
+use Rattle.field.specs.declared.Field.{Field}
 use Rattle.field.specs.Boxes.{legsIn64ths, emptyField}
 use Rattle.questions.specs.Counts.{presentOn}
 use Rattle.rules.specs.declared.Answer.{Answer}
@@ -26,6 +27,10 @@ answersFrom legs requests = played (emptyField legs) requests
 unfoldable pub presentFrom : Legs → List Request → ℕ
 presentFrom legs requests = presentOn (fieldAfter (emptyField legs) requests)
 
+-- the field after the last of them
+unfoldable pub fieldFrom : Legs → List Request → Field
+fieldFrom legs requests = fieldAfter (emptyField legs) requests
+
 -- the requests that a file plays
 abbrev pub requestsHeld : Practice → List Request
 requestsHeld (refused number) = []
@@ -41,6 +46,15 @@ abbrev pub presentHeld : Practice → ℕ
 presentHeld (refused number) = 0
 presentHeld (holds legs requests) = presentFrom (legsInMiles legs) requests
 
+-- the legs of a refused file, all 0
+abbrev pub noLegs : FileLegs
+noLegs = record { missed = 0; base = 0; intermediate = 0; last = 0 }
+
+-- the field at the end; nobody is on the field of a refused file, which has no legs
+abbrev pub fieldHeld : Practice → Field
+fieldHeld (refused number) = emptyField (legsInMiles noLegs)
+fieldHeld (holds legs requests) = fieldFrom (legsInMiles legs) requests
+
 -- the same, of the bytes of a file
 unfoldable pub requestsOfFile : List ℕ → List Request
 requestsOfFile file = requestsHeld (practiceOf file)
@@ -48,6 +62,11 @@ requestsOfFile file = requestsHeld (practiceOf file)
 unfoldable pub answersOf : List ℕ → List (Request × Answer)
 answersOf file = answersHeld (practiceOf file)
 
--- what playing a file tells beside its answers: its number, how many requests were played, and how many aircraft are present at the end
+unfoldable pub fieldOfFile : List ℕ → Field
+fieldOfFile file = fieldHeld (practiceOf file)
+
+-- what playing a file tells beside its answers: its number, how many requests were played, how many aircraft are present at the end, and the
+-- field at the end
 unfoldable pub playedOf : List ℕ → Played
-playedOf file = record { number = fileNumber file; requests = length (requestsOfFile file); present = presentHeld (practiceOf file) }
+playedOf file =
+    record { number = fileNumber file; requests = length (requestsOfFile file); present = presentHeld (practiceOf file); field = fieldOfFile file }

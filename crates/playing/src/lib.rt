@@ -23,19 +23,22 @@ ghost use lib.Seq.{sets};
 ghost use Rattle.limits.specs.Limits.{mostRequests};
 ghost use Rattle.practice.specs.Requests.{requestsOf};
 ghost use Rattle.practice.specs.Practice.{practiceOf};
+ghost use Rattle.field.specs.Boxes.{emptyField};
 ghost use Rattle.bounds.specs.Bounds.{legalLegs};
 ghost use Rattle.rules.specs.Step.{numberOf, stepOf};
-ghost use Rattle.playing.specs.Playing.{legsInMiles, answersFrom, presentFrom, answersOf, playedOf};
+ghost use Rattle.playing.specs.Playing.{legsInMiles, noLegs, answersFrom, presentFrom, fieldFrom, answersOf, playedOf};
 ghost use Rattle.playing.specs.Log.{entryOf, logOf};
 
 // The caller's log, long enough for the requests of every file.
 pub type Log = [u16; 28672];
 
-// What playing a file tells beside the log: the file's number, how many requests were played, and how many aircraft are present at the end.
+// What playing a file tells beside the log: the file's number, how many requests were played, how many aircraft are present at the end, and
+// the field at the end.
 pub struct Played {
     pub number: u16,
     pub requests: usize,
     pub present: usize,
+    pub field: Field,
 }
 
 // The legs of a file as the field holds them.
@@ -82,7 +85,7 @@ fn put_entry(log: &mut [u16], at: usize, r: Request, a: Answer)
 fn play_body(body: &[u8], legs: Legs, judged: bool, log: &mut [u16]) -> Played
     requires { ⌜ (length (requestsOf (now body)) ≤ mostRequests) × (7 * mostRequests ≤ length (now log)) ⌝ }
     requires { ⌜ T (legalLegs legs) ⌝ }
-    ensures { λ r. ⌜ r ≡ record { number = 0; requests = length (requestsOf (now (body .entry))); present = presentFrom legs (requestsOf (now (body .entry))) } ⌝ }
+    ensures { λ r. ⌜ r ≡ record { number = 0; requests = length (requestsOf (now (body .entry))); present = presentFrom legs (requestsOf (now (body .entry))); field = fieldFrom legs (requestsOf (now (body .entry))) } ⌝ }
     ensures { λ r. ⌜ now (log .exit) ≡ sets (now (log .entry)) 0 (logOf (answersFrom legs (requestsOf (now (body .entry))))) ⌝ }
 {
     let empty = empty_field(legs);
@@ -105,6 +108,25 @@ fn play_body(body: &[u8], legs: Legs, judged: bool, log: &mut [u16]) -> Played
         number: 0,
         requests: i,
         present: present_on(last),
+        field: last,
+    }
+}
+
+// What playing a refused file tells.
+fn nothing_played(number: u16) -> Played
+    ensures { λ r. ⌜ r ≡ record { number = number; requests = 0; present = 0; field = emptyField (legsInMiles noLegs) } ⌝ }
+{
+    let legs = FileLegs {
+        missed: 0,
+        base: 0,
+        intermediate: 0,
+        last: 0,
+    };
+    Played {
+        number: number,
+        requests: 0,
+        present: 0,
+        field: empty_field(legs_in_miles(legs)),
     }
 }
 
@@ -116,11 +138,7 @@ pub fn play(file: &[u8], judged: bool, log: &mut Log) -> Played
     let numbers: &mut [u16] = log;
     let number = file_number(file);
     if number != 0 {
-        return Played {
-            number: number,
-            requests: 0,
-            present: 0,
-        };
+        return nothing_played(number);
     }
     play_body(&file[34..], legs_in_miles(file_legs(file)), judged, numbers)
 }

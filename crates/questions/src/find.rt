@@ -38,7 +38,7 @@ pub fn place_of(f: Field, number: u16) -> Place
 }
 
 // Who stands at a place, from 1, of a zone's queue; nobody where there is none.
-fn aircraft_in(q: Zone, place: usize) -> Aircraft
+pub fn aircraft_in(q: Zone, place: usize) -> Aircraft
     ensures { λ r. ⌜ r ≡ getD (boxes.nobody ∷ boxes.queueOf q) place boxes.nobody ⌝ }
 {
     if place == 0 {

@@ -5,7 +5,7 @@ use lib.Ieee.{add, sub, mul, div, ofInt, round, lt, le, eq}
 use Rattle.leg.specs.Progress.{advanced, pastEnd, waitedAfter}
 use Rattle.request.specs.Input.{kindAllowed, sideAllowed, numberAllowed, amountAllowed, inputNumber}
 use Rattle.field.specs.Boxes.{isSide, sideOf, opposite, isFlyingZone, zoneOf, queueOf, inZone, orderOf, progressInto, entering, withProgress, arrived, withFix, legOf, flownOutIn, emptyField}
-use Rattle.questions.specs.Counts.{howMany, howManyWithFix, inOperation, inArea, perFix, approachHolds, countedFor, potentialOf}
+use Rattle.questions.specs.Counts.{howMany, howManyWithFix, presentOn, inOperation, inArea, perFix, approachHolds, countedFor, potentialOf}
 use Rattle.questions.specs.Find.{findIn, placeOf, aircraftAt, fixOf, isFirst, leaderOf, leaderZone}
 use Rattle.field.specs.Lists.{every}
 use Rattle.bounds.specs.Bounds.{boundA, boundB, lateralRule, boundC, boundD, finalFirst, isNobody, zoneKept, sequenceKept, boundE, boundF, fitsZone, legalLegs, boundG, withinBounds}
@@ -16,14 +16,14 @@ use Rattle.rules.specs.Kinds.{startsFrom, mayApproach, baseFree, mayMerg
 use Rattle.rules.specs.Step.{checksOf, effectOf, numberOf, numberAndZeros, acceptance, answerOf, stepOf}
 use Rattle.rules.specs.Reason.{along, approachOrder, areaOrder, roomToMiss, lateralEntry, QueueAgrees}
 use Rattle.rules.specs.Cases.{marked, caseHolds}
-use Rattle.rules.specs.Examples.{examples, exits, entries, onePlace, entryOfEight, JudgedAfterBoth, crowded, missOfSeven, BoundsNotEnough}
+use Rattle.rules.specs.Examples.{examples, exits, entries, onePlace, entryOfEight, JudgedAfterBoth, crowded, missOfSeven, BoundsNotEnough, stuck, NobodyMoves}
 use Rattle.field.proofs.Tests.{each-operation}
 
 -- all together, so that what is computed is unfolded once
-computed : T (every caseHolds marked) × T (every caseHolds examples) × T (every caseHolds exits) × T (every caseHolds entries) × JudgedAfterBoth onePlace entryOfEight × BoundsNotEnough crowded missOfSeven
+computed : T (every caseHolds marked) × T (every caseHolds examples) × T (every caseHolds exits) × T (every caseHolds entries) × JudgedAfterBoth onePlace entryOfEight × BoundsNotEnough crowded missOfSeven × NobodyMoves stuck
 unfolding
     advanced pastEnd waitedAfter kindAllowed sideAllowed numberAllowed amountAllowed inputNumber isSide opposite isFlyingZone zoneOf queueOf inZone orderOf progressInto entering
-    withProgress arrived withFix legOf flownOutIn emptyField howMany howManyWithFix inOperation inArea perFix approachHolds countedFor potentialOf findIn placeOf
+    withProgress arrived withFix legOf flownOutIn emptyField howMany howManyWithFix presentOn inOperation inArea perFix approachHolds countedFor potentialOf findIn placeOf
     aircraftAt fixOf isFirst leaderOf leaderZone boundA boundB lateralRule boundC boundD numbersDiffer sequenceExact finalFirst isNobody zoneKept sequenceKept
     boundE boundF fitsZone legalLegs boundG withinBounds withoutHead withTail appended removed withZone withSequence tickedAircraft tickedZone ticked sideOf
     startsFrom mayApproach baseFree mayMerge headGone tailPut moved
@@ -43,6 +43,7 @@ computed = (
     no-room = refl;
     answer-25 = refl;
   },
+  record { within-bounds = tt; two-present = refl; none-accepted = tt; tick-leaves = refl },
 )
 
 -- the marked cases
@@ -68,3 +69,7 @@ judged-after-both = computed .4
 -- the bounds alone are not enough
 pub bounds-not-enough : BoundsNotEnough crowded missOfSeven
 bounds-not-enough = computed .5
+
+-- they do not let somebody move
+pub nobody-moves : NobodyMoves stuck
+nobody-moves = computed .6

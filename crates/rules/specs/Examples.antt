@@ -1,17 +1,20 @@
--- The examples of docs/WHY-SAFE.md: requests from the empty field, and a field within the bounds that no list of requests reaches. And
+-- The examples of docs/WHY-SAFE.md: requests from the empty field, and two fields within the bounds that no list of requests reaches. And
 -- exits, which wait for the leg since (02, 2.3), and entries beside an occupied 3000 (02, 2.5).
 use mathlib.Core.Path.{_≡_}
-use mathlib.Core.Bool.{false, _&&_}
+use mathlib.Core.Bool.{false, not, _&&_}
 use mathlib.Core.List.{List, [], _∷_}
 use Prim.Native.Nat.{ℕ}
-use lib.Dec.{T}
+use lib.Dec.{T, eqb}
 use lib.ListN.{replicate}
 use Rattle.request.specs.Input.{within}
 use Rattle.request.specs.declared.Request.{Request}
 use Rattle.field.specs.declared.Aircraft.{Aircraft}
 use Rattle.field.specs.declared.Zone.{Zone}
 use Rattle.field.specs.declared.Field.{Field}
-use Rattle.field.specs.Boxes.{right, left, finalApproach, nobody, emptyZone, entering, arrived}
+use Rattle.field.specs.Boxes.{right, left, finalApproach, zonesFrom, everywhere, nobody, emptyZone, entering, arrived}
+use Rattle.field.specs.Lists.{every}
+use Rattle.questions.specs.Counts.{presentOn}
+use Rattle.questions.specs.Find.{aircraftAt}
 use Rattle.bounds.specs.Bounds.{withinBounds}
 use Rattle.rules.specs.Kinds.{madeRoom}
 use Rattle.rules.specs.Step.{numberAndZeros, stepOf}
@@ -163,3 +166,22 @@ pub record BoundsNotEnough (f : Field) (r : Request) : Type 0 where
   pub queues-agree : (zone : ℕ) → T (within 1 12 zone) → QueueAgrees f zone
   pub no-room : roomToMiss f ≡ false
   pub answer-25 : stepOf f r .answer .number ≡ 25
+
+-- ---- the bounds alone do not let somebody move
+
+-- 7, first in sequence, at 3000 right with fix 1, and 8 at 2000 right with fix 2
+abbrev pub stuck : Field
+stuck =
+    record {
+      zones = onlyOne (entering 7 right 64) ∷ emptyZone ∷ onlyOne (entering 8 left 64) ∷ replicate 10 emptyZone;
+      sequence = record { numbers = 7 ∷ 8 ∷ 0 ∷ 0 ∷ []; length = 2 };
+      next = right;
+      legs = allLegs 64;
+    }
+
+-- a field within the bounds with two aircraft, on which no request of kinds 3 to 11 for the head of a zone is accepted, and a tick moves nobody
+pub record NobodyMoves (f : Field) : Type 0 where
+  pub within-bounds : T (withinBounds f)
+  pub two-present : presentOn f ≡ 2
+  pub none-accepted : T (every (λ kind. every (λ z. not (eqb (stepOf f (ask kind 0 (aircraftAt f z 1 .number) 0) .answer .number) 0)) everywhere) (zonesFrom 3 9))
+  pub tick-leaves : stepOf f (ask 12 0 0 64) .field ≡ f

@@ -1,5 +1,5 @@
 // A session: from the bytes of a practice file to the bytes of the report.
-mod lines;
+pub mod lines;
 mod tally;
 
 use crate::lines::put_answers;

@@ -44,7 +44,7 @@ pub(crate) fn put_end(out: &mut [u8], at: usize, t: Tally, present: usize) -> us
 }
 
 // The report of a refused file, from the buffer's first byte on.
-pub(crate) fn put_refused(out: &mut [u8], number: u16) -> usize
+pub fn put_refused(out: &mut [u8], number: u16) -> usize
     ensures { λ r. ⌜ Put (now (out .entry)) 0 (refusedReport number) (now (out .exit)) r ⌝ }
 {
     let next = put_text(out, 0, b"file ");

@@ -14,8 +14,9 @@ use rules::Answer;
 use rules::Stepped;
 ghost use mathlib.Core.Path.{_≡_};
 ghost use mathlib.Core.Bool.{cond};
-ghost use lib.Dec.{eqb};
-ghost use Rattle.request.specs.Input.{firstRefused};
+ghost use lib.Dec.{T, eqb};
+ghost use Rattle.request.specs.Input.{firstRefused, inputNumber};
+ghost use Rattle.bounds.specs.Bounds.{withinBounds};
 ghost use Rattle.rules.specs.Step.{checksOf, effectOf, numberOf, numberAndZeros, acceptance, alongFor, answerOf, stepOf};
 
 // The answer that has a number, and zeros.
@@ -63,7 +64,7 @@ fn answer(f: Field, r: Request, zone: u8, g: Field) -> Answer
 }
 
 // The step of a request that is turned away: the number and zeros, and the field handed in.
-fn turned_away(f: Field, number: u16) -> Stepped
+pub fn turned_away(f: Field, number: u16) -> Stepped
     ensures { λ s. ⌜ s ≡ record { answer = numberAndZeros number; field = f } ⌝ }
 {
     Stepped {
@@ -89,6 +90,23 @@ fn unjudged(f: Field, r: Request) -> Stepped
     }
 }
 
+// The step of a request that keeps the input rules on a field within the bounds: the field after it is judged.
+fn judged_after(f: Field, r: Request) -> Stepped
+    requires { ⌜ (inputNumber r ≡ 0) × T (withinBounds f) ⌝ }
+    ensures { λ s. ⌜ s ≡ stepOf f r ⌝ }
+{
+    let s = unjudged(f, r);
+    let a = s.answer;
+    if a.number != 0 {
+        return s;
+    }
+    let g = s.field;
+    if !within_bounds(g) {
+        return turned_away(f, 25);
+    }
+    s
+}
+
 // The step: the answer to a request and the field after it. The field is judged before and after.
 pub fn step(f: Field, r: Request) -> Stepped
     ensures { λ s. ⌜ s ≡ stepOf f r ⌝ }
@@ -100,16 +118,19 @@ pub fn step(f: Field, r: Request) -> Stepped
     if !within_bounds(f) {
         return turned_away(f, 10);
     }
-    let s = unjudged(f, r);
-    let a = s.answer;
-    if a.number != 0 {
-        return s;
+    judged_after(f, r)
+}
+
+// The same step, for a caller who has shown that the field is within the bounds: only the field after it is judged.
+pub fn step_within(f: Field, r: Request) -> Stepped
+    requires { ⌜ T (withinBounds f) ⌝ }
+    ensures { λ s. ⌜ s ≡ stepOf f r ⌝ }
+{
+    let input = input_number(r);
+    if input != 0 {
+        return turned_away(f, input);
     }
-    let g = s.field;
-    if !within_bounds(g) {
-        return turned_away(f, 25);
-    }
-    s
+    judged_after(f, r)
 }
 
 // The same step, for a caller who has shown that neither 10 nor 25 is its number: the field is not judged.

@@ -1,10 +1,29 @@
 //! Fields and requests for the tests.
 #![allow(dead_code)]
 
-use reference::{Answer, Field, Legs, PracticeFile, Progress, Refusal, Request};
+use reference::{Aircraft, Answer, Field, Legs, PracticeFile, Progress, Refusal, Request, Side, Zone};
 
 pub fn empty() -> Field {
     Field::empty(Legs::from_64ths([64; 4]))
+}
+
+/// One more at the end of a zone, at the start of its leg, and of the sequence.
+pub fn put(field: &mut Field, zone: Zone, number: u16, fix: Side) {
+    let progress = if zone.is_flying() { Progress::Flying(0.0) } else { Progress::Waiting };
+    field.zone_mut(zone).push_back(Aircraft { number, fix, speed: 64, progress, waited: 0.0 });
+    if zone != Zone::Runway {
+        field.sequence.push_back(number);
+        field.next_fix = fix.opposite();
+    }
+}
+
+/// A field of aircraft numbered from 1, in sequence order.
+pub fn field(aircraft: &[(Zone, Side)]) -> Field {
+    let mut field = empty();
+    for (number, &(zone, fix)) in (1..).zip(aircraft) {
+        put(&mut field, zone, number, fix);
+    }
+    field
 }
 
 pub fn ask(field: &mut Field, kind: u8, side: u8, number: u16, amount: u16) -> Result<Answer, Refusal> {

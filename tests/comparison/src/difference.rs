@@ -1,6 +1,6 @@
 //! Where the two programs differ, as readable sessions.
 
-use crate::library::{Library, Player, PLAYERS, WEEK};
+use crate::library::{Library, Player, BUTTON, PLAYERS, WEEK};
 use reference::{binder, PracticeFile, Request};
 
 /// The report that both programs give of a file, the library judging the fields or not, or how they differ.
@@ -13,9 +13,14 @@ pub fn same_week(library: &mut Library, binder: &[u8]) -> Result<Vec<u8>, String
     same(library, &WEEK, binder, reference::week(binder))
 }
 
-fn same(
+/// What both print of a file when the button is held down after it, or how they differ.
+pub fn same_button(library: &mut Library, file: &[u8]) -> Result<Vec<u8>, String> {
+    same(library, &BUTTON, file, reference::button(file))
+}
+
+fn same<const N: usize>(
     library: &mut Library,
-    players: &[(&str, Player)],
+    players: &[(&str, Player<N>)],
     input: &[u8],
     expected: Vec<u8>,
 ) -> Result<Vec<u8>, String> {
@@ -42,11 +47,14 @@ fn first_line(expected: &[u8], name: &str, report: &[u8]) -> String {
     format!("{name}'s report goes on after the reference's")
 }
 
+/// A way to compare the two programs on a file.
+pub type Same = fn(&mut Library, &[u8]) -> Result<Vec<u8>, String>;
+
 /// How the two differ on a file, and its readable session without the requests that do not matter.
 /// A file that cannot be read as one is given in hexadecimal.
-pub fn readable(library: &mut Library, file: &[u8]) -> String {
-    let file = shortened(file.to_vec(), |file| same_report(library, file).is_err());
-    let how = same_report(library, &file).err().unwrap_or_default();
+pub fn readable(library: &mut Library, same: Same, file: &[u8]) -> String {
+    let file = shortened(file.to_vec(), |file| same(library, file).is_err());
+    let how = same(library, &file).err().unwrap_or_default();
     format!("{how}\n{}", text(&file))
 }
 

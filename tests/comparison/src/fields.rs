@@ -35,13 +35,18 @@ fn parted(field: &Field) -> (Vec<Request>, Vec<Request>) {
     asked(field).into_iter().partition(|request| field.clone().step(request).is_ok())
 }
 
+/// Each request and a tick after it.
+fn ticked(way: &[Request]) -> impl Iterator<Item = Request> + '_ {
+    way.iter().flat_map(|&request| [request, tick()])
+}
+
 /// The files that lead to one field: one that asks for all that is refused
 /// there, one for all that is refused before the last tick, where the last to
 /// move is at the start of its leg, and one for each request that is accepted.
 /// An accepted request is asked for twice, and then after a tick.
 fn files_of(way: &[Request], field: &Field) -> Vec<Vec<u8>> {
     let (accepted, refused) = parted(field);
-    let to_field = || way.iter().flat_map(|&request| [request, tick()]);
+    let to_field = || ticked(way);
     let mut files = vec![file(to_field().chain(refused).collect())];
     let mut start: Vec<Request> = to_field().collect();
     start.pop();
@@ -58,4 +63,15 @@ pub fn files() -> (usize, impl Iterator<Item = Vec<u8>>) {
     let count = reached.fields.len();
     let files = (0..count).flat_map(move |place| files_of(&reached.way_to(place), &reached.fields[place]));
     (count, files)
+}
+
+/// For each field two files that lead to it, with all legs flown out, and with the last to move at the start of its leg.
+pub fn ways() -> impl Iterator<Item = Vec<u8>> {
+    let reached = Reached::all();
+    (0..reached.fields.len()).flat_map(move |place| {
+        let mut way: Vec<Request> = ticked(&reached.way_to(place)).collect();
+        let flown_out = file(way.clone());
+        way.pop();
+        [flown_out, file(way)]
+    })
 }

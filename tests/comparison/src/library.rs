@@ -5,6 +5,7 @@ extern "C" {
     fn baguymo_report(file: *const u8, length: usize, out: *mut u8) -> usize;
     fn baguymo_report_judged(file: *const u8, length: usize, out: *mut u8) -> usize;
     fn baguymo_week(binder: *const u8, length: usize, out: *mut u8) -> usize;
+    fn baguymo_button(file: *const u8, length: usize, out: *mut u8) -> usize;
 }
 
 /// Bytes of the buffer that the library is lent.
@@ -13,14 +14,17 @@ pub const ROOM: usize = 131_072;
 pub type Buffer = [u8; ROOM];
 
 /// Plays a file or a binder into a buffer, and yields the length of the report.
-pub type Player = fn(&[u8], &mut Buffer) -> usize;
+pub type Player<const N: usize> = fn(&[u8], &mut [u8; N]) -> usize;
 
 /// Both functions of the library for a file. The second judges the field before and after every request.
-pub const PLAYERS: [(&str, Player); 2] =
+pub const PLAYERS: [(&str, Player<ROOM>); 2] =
     [("the library", report_into), ("the judging library", judged_report_into)];
 
 /// Its function for a binder.
-pub const WEEK: [(&str, Player); 1] = [("the library", week_into)];
+pub const WEEK: [(&str, Player<ROOM>); 1] = [("the library", week_into)];
+
+/// Its function for the button.
+pub const BUTTON: [(&str, Player<ROOM>); 1] = [("the library", button_into)];
 
 pub fn report_into(file: &[u8], out: &mut Buffer) -> usize {
     // SAFETY: both pointers are valid for the lengths that the library's signature states.
@@ -35,6 +39,11 @@ pub fn judged_report_into(file: &[u8], out: &mut Buffer) -> usize {
 pub fn week_into(binder: &[u8], out: &mut Buffer) -> usize {
     // SAFETY: as above.
     unsafe { baguymo_week(binder.as_ptr(), binder.len(), out.as_mut_ptr()) }
+}
+
+pub fn button_into(file: &[u8], out: &mut Buffer) -> usize {
+    // SAFETY: as above.
+    unsafe { baguymo_button(file.as_ptr(), file.len(), out.as_mut_ptr()) }
 }
 
 /// Bytes before and after the buffer that must stay as they are.
@@ -55,15 +64,16 @@ impl Default for Library {
 impl Library {
     /// The report of a file or a binder, or what else the library wrote than a
     /// report. What the buffer holds before is another byte each time.
-    pub fn report(&mut self, play: Player, input: &[u8]) -> Result<&[u8], String> {
+    pub fn report<const N: usize>(&mut self, play: Player<N>, input: &[u8]) -> Result<&[u8], String> {
         self.fill = self.fill.wrapping_add(101);
-        self.memory.fill(self.fill);
-        let buffer = &mut self.memory[MARGIN..MARGIN + ROOM];
+        let memory = &mut self.memory[..MARGIN + N + MARGIN];
+        memory.fill(self.fill);
+        let buffer = &mut memory[MARGIN..MARGIN + N];
         let length = play(input, buffer.try_into().expect("the buffer's length"));
-        if length > ROOM {
+        if length > N {
             return Err(format!("says that its report has {length} bytes"));
         }
-        let (before, rest) = self.memory.split_at(MARGIN);
+        let (before, rest) = memory.split_at(MARGIN);
         let (report, after) = rest.split_at(length);
         if !all_are(before, self.fill) || !all_are(after, self.fill) {
             return Err(String::from("wrote outside its report"));

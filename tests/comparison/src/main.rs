@@ -1,14 +1,16 @@
 //! Plays many practice files by the proved library, with the fields judged
-//! and not, and by the reference, and many binders by both: comparison [SEED
-//! [COUNT]], COUNT random sessions and a tenth as many random binders. The
-//! last line says how many of them were compared, and the verdict.
+//! and not, and by the reference, many binders by both, and many files after
+//! which the button is held down: comparison [SEED [COUNT]], COUNT random
+//! sessions, a tenth as many random binders, and a tenth as many for the
+//! button. The last line says how many of them were compared, and the verdict.
 
 use comparison::dice::Dice;
-use comparison::difference::{readable, readable_binder, same_report, same_week};
+use comparison::difference::{readable, readable_binder, same_button, same_report, same_week};
 use comparison::library::Library;
-use comparison::table::{Table, Weeks};
+use comparison::table::{Presses, Table, Weeks};
 use comparison::{binders, damaged, fields, sessions};
 use reference::binder::to_bytes;
+use reference::PracticeFile;
 use std::path::Path;
 use std::process::ExitCode;
 use std::{env, fs};
@@ -17,6 +19,11 @@ const SEED: u64 = 1;
 const COUNT: usize = 20_000;
 /// Random sessions for each random binder.
 const A_BINDER: usize = 10;
+/// Random sessions for each after which the button is held down, and for each of those with edge legs and speeds.
+const A_PRESSED: usize = 10;
+const AN_EDGE: usize = 100;
+/// Damaged files that play for each after which the button is held down.
+const A_DAMAGED: usize = 16;
 
 #[derive(Default)]
 struct Comparison {
@@ -27,6 +34,9 @@ struct Comparison {
     refused: [usize; 3],
     binders: usize,
     weeks: Weeks,
+    /// Files after which the button was held down.
+    pressed: usize,
+    presses: Presses,
 }
 
 impl Comparison {
@@ -34,7 +44,11 @@ impl Comparison {
     fn file(&mut self, file: &[u8]) -> Result<Vec<u8>, String> {
         self.compared += 1;
         let Ok(report) = same_report(&mut self.library, file) else {
-            return Err(format!("file {} differs: {}", self.compared, readable(&mut self.library, file)));
+            return Err(format!(
+                "file {} differs: {}",
+                self.compared,
+                readable(&mut self.library, same_report, file)
+            ));
         };
         match report.strip_prefix(b"file ") {
             None => self.played += 1,
@@ -78,6 +92,21 @@ impl Comparison {
         println!("{what}: {} binders", self.binders - before);
         Ok(())
     }
+
+    /// Files after which the button is held down.
+    fn pressed(&mut self, what: &str, files: impl IntoIterator<Item = Vec<u8>>) -> Result<(), String> {
+        let before = self.pressed;
+        for file in files {
+            self.pressed += 1;
+            let Ok(report) = same_button(&mut self.library, &file) else {
+                let how = readable(&mut self.library, same_button, &file);
+                return Err(format!("the button after file {} differs: {how}", self.pressed));
+            };
+            self.presses.count(&report);
+        }
+        println!("the button after {what}: {} files", self.pressed - before);
+        Ok(())
+    }
 }
 
 fn none_of(faults: Vec<String>) -> Result<(), String> {
@@ -113,7 +142,8 @@ fn all(comparison: &mut Comparison, seed: u64, count: usize) -> Result<(), Strin
     if [played, five, six, seven].contains(&0) {
         return Err(String::from("one of these never came\n"));
     }
-    all_binders(comparison, &mut dice, count / A_BINDER)
+    all_binders(comparison, &mut dice, count / A_BINDER)?;
+    all_pressed(comparison, &mut dice, count)
 }
 
 fn all_binders(comparison: &mut Comparison, dice: &mut Dice, count: usize) -> Result<(), String> {
@@ -127,6 +157,20 @@ fn all_binders(comparison: &mut Comparison, dice: &mut Dice, count: usize) -> Re
     none_of(comparison.weeks.faults())
 }
 
+fn all_pressed(comparison: &mut Comparison, dice: &mut Dice, count: usize) -> Result<(), String> {
+    comparison.pressed("stored sessions", stored())?;
+    let damaged = damaged::files(dice).into_iter().enumerate();
+    let some = damaged.filter(|(place, file)| place % A_DAMAGED == 0 || PracticeFile::read(file).is_err());
+    comparison.pressed("damaged files, of those that play one in 16", some.map(|(_, file)| file))?;
+    comparison.pressed("random bytes", (0..count / A_PRESSED).map(|_| damaged::random(dice)))?;
+    comparison.pressed("the reachable fields, numbers and miles aside", fields::ways())?;
+    let edges = (0..count / AN_EDGE).map(|_| sessions::at_the_edges(dice)).chain([sessions::slowest()]);
+    comparison.pressed("legs of 1 and 4096 64ths, speeds 1 and 512", edges)?;
+    comparison.pressed("random sessions", (0..count / A_PRESSED).map(|_| sessions::session(dice)))?;
+    println!("{}", comparison.presses);
+    none_of(comparison.presses.faults())
+}
+
 fn argument<T: std::str::FromStr>(place: usize, default: T) -> T {
     match env::args().nth(place) {
         Some(word) => word.parse().unwrap_or_else(|_| panic!("not a number: {word}")),
@@ -138,15 +182,15 @@ fn main() -> ExitCode {
     let (seed, count) = (argument(1, SEED), argument(2, COUNT));
     let mut comparison = Comparison::default();
     let outcome = all(&mut comparison, seed, count);
-    let Comparison { compared, binders, .. } = comparison;
+    let Comparison { compared, binders, pressed, .. } = comparison;
     match outcome {
         Ok(()) => {
-            println!("compare: {compared} files compared (seed {seed}), fields judged and not, and {binders} binders: every report the same");
+            println!("compare: {compared} files compared (seed {seed}), fields judged and not, {binders} binders, and the button after {pressed} files: every report the same");
             ExitCode::SUCCESS
         }
         Err(fault) => {
             print!("{fault}");
-            println!("compare: FAILED after {compared} files and {binders} binders (seed {seed})");
+            println!("compare: FAILED after {compared} files, {binders} binders and the button after {pressed} files (seed {seed})");
             ExitCode::FAILURE
         }
     }

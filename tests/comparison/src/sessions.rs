@@ -189,6 +189,20 @@ pub fn session_of(dice: &mut Dice, length: usize) -> Vec<u8> {
     drawn(dice, legs_64ths, &habits, length).to_bytes()
 }
 
+/// A practice file whose legs and speeds are the least and the greatest that are allowed.
+pub fn at_the_edges(dice: &mut Dice) -> Vec<u8> {
+    let legs_64ths = [(); 4].map(|()| dice.pick(&[1, 4096]));
+    let habits = Habits { speeds: [(); 3].map(|()| dice.pick(&[1, 512])), ..Habits::drawn(dice) };
+    let length = dice.between(1, 100);
+    drawn(dice, legs_64ths, &habits, length).to_bytes()
+}
+
+/// Four who have come in at the least speed, on the longest legs.
+pub fn slowest() -> Vec<u8> {
+    let requests = (1..=4).map(|number| Request::new(1, 2 - number as u8 % 2, number, 1)).collect();
+    PracticeFile { legs_64ths: [4096; 4], requests }.to_bytes()
+}
+
 /// A session as in practice: legs of two to five miles, 90 to 180 knots, ticks
 /// of half a minute or a minute, few misses and exits, some requests in error.
 pub fn typical(dice: &mut Dice, length: usize) -> PracticeFile {

@@ -1,4 +1,4 @@
-//! How often each number was answered for each kind.
+//! How often each number was answered for each kind, and what the button proposed.
 
 use reference::binder::NUMBERS;
 use reference::PracticeFile;
@@ -168,5 +168,74 @@ impl fmt::Display for Weeks {
         let requests = self.table.requests;
         write!(f, "{refused} binders refused 30, {read} read; of their files {played} played, ")?;
         write!(f, "{five} refused 5, {six} refused 6, {seven} refused 7; {requests} answers counted")
+    }
+}
+
+/// What the button proposes, in its order.
+const PROPOSED: [usize; 8] = [8, 7, 6, 5, 11, 4, 3, 12];
+
+/// What came of holding the button down, by its reports.
+#[derive(Default)]
+pub struct Presses {
+    /// Requests that were played, by kind.
+    kinds: [usize; 13],
+    none: usize,
+    spent: usize,
+    refused: usize,
+    /// The most requests that were played after one file.
+    most: usize,
+}
+
+impl Presses {
+    pub fn count(&mut self, report: &[u8]) {
+        let mut lines: Vec<&[u8]> = report.trim_ascii_end().split(|&byte| byte == b'\n').collect();
+        let last = lines.pop().unwrap_or_default();
+        match last.split(|&byte| byte == b' ').next() {
+            Some(b"none") => self.none += 1,
+            Some(b"spent") => self.spent += 1,
+            _ => {
+                self.refused += 1;
+                return;
+            }
+        }
+        for line in &lines {
+            self.kinds[in_line(line, 1)] += 1;
+        }
+        let played = in_line(last, 1);
+        self.kinds[12] += played - lines.len();
+        self.most = self.most.max(played);
+    }
+
+    /// What should have come and did not, and what came and should not.
+    pub fn faults(&self) -> Vec<String> {
+        let mut faults = Vec::new();
+        for (kind, &count) in self.kinds.iter().enumerate() {
+            match (PROPOSED.contains(&kind), count) {
+                (true, 0) => faults.push(format!("the button never proposed kind {kind}")),
+                (false, 1..) => faults.push(format!("the button proposed kind {kind}")),
+                _ => {}
+            }
+        }
+        if self.none == 0 || self.refused == 0 {
+            faults.push(String::from("one of these never came"));
+        }
+        if self.spent > 0 {
+            faults.push(String::from("the button did not empty a field that was reached"));
+        }
+        faults
+    }
+}
+
+impl fmt::Display for Presses {
+    /// How it ended, and a column for each kind.
+    fn fmt(&self, f: &mut fmt::Formatter) -> fmt::Result {
+        let Presses { kinds, none, spent, refused, most } = self;
+        write!(f, "{none} times it ended with none, {spent} with spent, and {refused} files were refused; ")?;
+        writeln!(f, "at most {most} requests after a file; proposed so often:")?;
+        for kind in PROPOSED {
+            write!(f, "{:>9}", format!("kind {kind}"))?;
+        }
+        writeln!(f)?;
+        PROPOSED.into_iter().try_for_each(|kind| write!(f, "{:>9}", kinds[kind]))
     }
 }

@@ -14,9 +14,10 @@ use Rattle.practice.specs.File.{legsOf, legsBody, requestsBody, fileNumber}
 use Rattle.practice.specs.Requests.{requestsOf}
 use Rattle.practice.proofs.Meaning.{Held, held}
 use Rattle.field.specs.declared.Legs.{Legs}
+use Rattle.field.specs.Boxes.{emptyField}
 use Rattle.bounds.specs.Bounds.{legalLegs}
 use Rattle.playing.specs.declared.Played.{Played}
-use Rattle.playing.specs.Playing.{legsInMiles, answersFrom, presentFrom}
+use Rattle.playing.specs.Playing.{legsInMiles, noLegs, answersFrom, presentFrom, fieldFrom}
 use Rattle.playing.specs.Log.{logOf}
 use Rattle.playing.proofs.Files.{legsHeld, requestsInside, practice-holds, answers-held, played-held, answers-none, played-none, file-legs-legal}
 use Rattle.playing.proofs.Logs.{log-written}
@@ -49,13 +50,19 @@ requests-read file = ap requestsOf (part-to-end file 34)
 file-number-requires : tie.Need-file-number-requires
 file-number-requires c κs = search needs
 
+nothing-played-requires : tie.Need-nothing-played-requires
+nothing-played-requires c κs = search needs
+
 returns : tie.Need-returns
 returns c =
-    let file = file-of (c .before) in
-    let n = c .before .file-number .ensures in
-    let log = now (c .before .before .before .before .args .log) in (
-      ap (λ (k : ℕ). record { number = k; requests = 0; present = 0 }) n ∙ sym (played-none file (refused c)),
-      sym (ap (λ ps. logOf ps ++ drop (7 * 0) log) (answers-none file (refused c))),
+    let k = c .before in
+    let file = file-of (k .before) in
+    let n = k .before .file-number .ensures in
+    let log = now (k .before .before .before .before .args .log) in
+    let told = c .nothing-played .ensures ∙ ap (λ (m : ℕ). record { number = m; requests = 0; present = 0; field = emptyField (legsInMiles noLegs) }) n in
+    let none : c .nothing-played .result .requests ≡ 0 = ap (λ (p : Played). p .requests) told in (
+      told ∙ sym (played-none file (refused k)),
+      sym (ap (λ ps. logOf ps ++ drop (7 * c .nothing-played .result .requests) log) (answers-none file (refused k)) ∙ ap (λ (m : ℕ). drop (7 * m) log) none),
     )
 
 sub-play-body : tie.Need-sub-play-body
@@ -92,8 +99,8 @@ returns-2 c =
     ap (λ (p : Played). p .requests) (c .play-body .ensures .0) ∙ ap length rs ∙ sym (length-answers (legsHeld file) (requestsInside file)) in
     let n = length-answers (legsHeld file) (requestsInside file) in (
       c .play-body .ensures .0
-          ∙ ap (λ (l : Legs). record { number = 0; requests = length (requestsOf (take (length file - 34) (drop 34 file))); present = presentFrom l (requestsOf (take (length file - 34) (drop 34 file))) }) legs
-          ∙ ap (λ (r : List Request). record { number = 0; requests = length r; present = presentFrom (legsHeld file) r }) rs
+          ∙ ap (λ (l : Legs). record { number = 0; requests = length (requestsOf (take (length file - 34) (drop 34 file))); present = presentFrom l (requestsOf (take (length file - 34) (drop 34 file))); field = fieldFrom l (requestsOf (take (length file - 34) (drop 34 file))) }) legs
+          ∙ ap (λ (r : List Request). record { number = 0; requests = length r; present = presentFrom (legsHeld file) r; field = fieldFrom (legsHeld file) r }) rs
           ∙ sym (played-held file (accepted k)),
       c .play-body .ensures .1
           ∙ ap (λ (l : Legs). sets log 0 (logOf (answersFrom l (requestsOf (take (length file - 34) (drop 34 file)))))) legs
@@ -107,6 +114,7 @@ play-spec =
     tie.close
     (tie.spec
     file-number-requires
+    nothing-played-requires
     returns
     sub-play-body
     part-play-body-start

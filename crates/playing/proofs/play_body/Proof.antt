@@ -18,7 +18,7 @@ use Rattle.rules.specs.declared.Stepped.{Stepped}
 use Rattle.rules.specs.Play.{fieldAfter, played}
 use Rattle.rules.specs.Reason.{Sound}
 use Rattle.reason.proofs.Reason.{empty-sound, neither-10-nor-25}
-use Rattle.playing.specs.Playing.{answersFrom, presentFrom}
+use Rattle.playing.specs.Playing.{answersFrom, presentFrom, fieldFrom}
 use Rattle.playing.specs.Log.{logOf}
 use Rattle.playing.proofs.Answers.{Short, short-step}
 use Rattle.playing.proofs.Playing.{Playing, playing-none, playing-more, playing-turn, all-logged, last-field, all-played, here}
@@ -147,7 +147,7 @@ same-length c =
     l .loop .inv .1 (empty l) .same
 
 returns : tie.Need-returns Inv-loop μ-loop
-unfolding answersFrom presentFrom
+unfolding answersFrom presentFrom fieldFrom
 returns c =
     let k = c .before .before in
     let l = k .before .before .before in
@@ -155,8 +155,9 @@ returns c =
     let e = l .before .empty-field .ensures in
     let z = no-reading k in
     let count = all-played rs (l .loop .inv .1 (empty l)) z in
-    let present = c .present-on .ensures ∙ ap presentOn (last-field rs (l .loop .inv .1 _) z) ∙ ap (λ (f : Field). presentOn (fieldAfter f rs)) e in (
-      (λ i. record { number = 0; requests = count i; present = present i }),
+    let last = last-field rs (l .loop .inv .1 _) z ∙ ap (λ (f : Field). fieldAfter f rs) e in
+    let present = c .present-on .ensures ∙ ap presentOn last in (
+      (λ i. record { number = 0; requests = count i; present = present i; field = last i }),
       all-logged rs (l .loop .inv .1 (empty l)) z ∙ ap (λ (f : Field). sets (now (start l .args .log)) 0 (logOf (played f rs))) e,
     )
 

@@ -1,0 +1,4 @@
+pub mod Moves
+pub mod Arriving
+pub mod Spent
+pub mod Emptying

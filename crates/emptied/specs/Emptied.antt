@@ -1,0 +1,42 @@
+-- What holds of the button (02, 2.6): of a press on any field within the bounds, of the button held down, and of a field on which it ends spent.
+use mathlib.Core.Path.{_≡_}
+use Prim.Native.Nat.{_≤_}
+use lib.Dec.{T}
+use Rattle.limits.specs.Limits.{mostMoves, mostPresses}
+use Rattle.request.specs.declared.Request.{Request}
+use Rattle.field.specs.declared.Field.{Field}
+use Rattle.questions.specs.Counts.{presentOn}
+use Rattle.bounds.specs.Bounds.{withinBounds}
+use Rattle.rules.specs.Step.{stepOf}
+use Rattle.rules.specs.Play.{played, moves}
+use Rattle.demand.specs.Demand.{movesOn}
+use Rattle.press.specs.declared.Proposal.the-variants.{None, Play}
+use Rattle.press.specs.declared.Ending.the-variants as ending
+use Rattle.press.specs.Press.{longTick, proposalOf, pressOf}
+use Rattle.press.specs.HeldDown.{heldRequests, heldOf}
+
+-- a press on a field within the bounds
+pub record PressedOn (f : Field) : Type 0 where
+  -- it says none exactly when nobody is on the field
+  pub none-then-nobody : proposalOf f ≡ None → presentOn f ≡ 0
+  pub nobody-then-none : presentOn f ≡ 0 → proposalOf f ≡ None
+  -- a request that it proposes is accepted, and the press is its step
+  pub accepted : (r : Request) → proposalOf f ≡ Play r → stepOf f r .answer .number ≡ 0
+  pub is-step : (r : Request) → proposalOf f ≡ Play r → pressOf f .stepped ≡ stepOf f r
+  -- it ticks only where no request of kinds 3 to 8 and 11 is accepted
+  pub no-move : proposalOf f ≡ Play longTick → (r : Request) → T (movesOn (r .kind)) → stepOf f r .answer .number ≡ 0 → ⊥
+
+-- held down, the button empties the field, and says none, within its bound
+pub record Emptied (f : Field) : Type 0 where
+  pub ending : heldOf f .ending ≡ ending.None
+  pub nobody : presentOn (heldOf f .field) ≡ 0
+  pub few : heldOf f .played ≤ mostPresses
+  -- its moves are as few as those of any list without an entry or a miss
+  pub few-moves : moves (played f (heldRequests f)) ≤ mostMoves
+
+-- held down on a field within the bounds that no list of requests reaches, the button may end spent, after as many requests as its bound:
+-- so it does on `stuck` of `rules`
+pub record SpentOn (f : Field) : Type 0 where
+  pub within-bounds : T (withinBounds f)
+  pub ending : heldOf f .ending ≡ ending.Spent
+  pub all : heldOf f .played ≡ mostPresses
