@@ -16,7 +16,7 @@ use lib.Ieee.Positive.{num, den, den-pos, own-value, positive}
 use Rattle.limits.specs.Limits.{longestLegMiles, longestOwnLegMiles}
 use Rattle.leg.specs.Progress.{whole, sixtyFourths, legalLeg, legalMissedLeg}
 use Rattle.leg.specs.Ticks.{Exactly}
-use Rattle.leg.proofs.Floats.{value→worth, add-worth, sub-values, sub-worth, worth-of-le, le-up}
+use Rattle.leg.proofs.Floats.{value→worth, add-worth, sub-values, sub-worth, worth-of-le, le-up, eq-self}
 use Rattle.leg.proofs.Grid.{whole-value, sixtyFourths-is, parts, parts-value, add-grid}
 use Rattle.leg.proofs.Bounds.{at-least, at-most, least-value, leg-positive, leg-small, miles-worth, eq-value}
 use Rattle.leg.proofs.Waited.{rounded}
@@ -115,6 +115,9 @@ equal-legal own leg l e =
     and-i (le (sixtyFourths 1) own) (le own (whole longestLegMiles))
     (le-of-values (sixtyFourths 1) own 1 64 (num leg) (den leg) (lit< tt) (den-pos leg) (least-value longestLegMiles (lit< tt) leg l) v low)
     (le-of-values own (whole longestLegMiles) (num leg) (den leg) longestLegMiles 1 (den-pos leg) (lit< tt) v (whole-value longestLegMiles (lit≤ tt)) (leg-small longestLegMiles (lit< tt) leg l))
+
+pub equal-self : (leg : Float) → T (legalLeg leg) → T (eq leg leg)
+equal-self leg l = eq-self leg (leg-positive longestLegMiles (lit< tt) leg l)
 
 pub longer-legal : (leg : Float) → T (legalLeg leg) → T (legalMissedLeg leg)
 longer-legal leg l =

@@ -1,4 +1,4 @@
--- `field::boxes::arrived` meets its contract, by those of `with_progress` and `progress_into`. Assumes nothing.
+-- `field::boxes::arrived` meets its contract, by those of `progress_into`, `leg_of` and `on_leg`. Assumes nothing.
 use borrow.Author.Needs.{needs}
 use Rattle.field.specs.Boxes.{arrived}
 use Rattle.field.proofs.boxes.arrived.Statement.{statement}
@@ -7,12 +7,15 @@ use Rattle.field.proofs.boxes.arrived.Tie as tie
 progress-into-requires : tie.Need-progress-into-requires
 progress-into-requires c κs = search needs
 
-with-progress-requires : tie.Need-with-progress-requires
-with-progress-requires c κs = search needs
+leg-of-requires : tie.Need-leg-of-requires
+leg-of-requires c κs = search needs
+
+on-leg-requires : tie.Need-on-leg-requires
+on-leg-requires c κs = search needs
 
 returns : tie.Need-returns
 unfolding arrived
 returns c = cc
 
 pub arrived-spec : {M : Type 1} → statement M
-arrived-spec = tie.close (tie.spec progress-into-requires with-progress-requires returns)
+arrived-spec = tie.close (tie.spec progress-into-requires leg-of-requires on-leg-requires returns)
