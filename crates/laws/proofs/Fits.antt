@@ -98,7 +98,7 @@ leg-legal legs t z u =
     each-from 7 6 (λ (z : ℕ). T (legalLeg (legOf legs z))) (tm, (tm, (tb, (tb, (and-r (m && b) i three, (and-r (m && b && i) l t, tt)))))) z low (omega arith)
 
 -- A missed zone is flown in, ..
-missed-flown : (z : ℕ) → (eqb z (missed right) || eqb z (missed left)) ≡ true → T (isFlyingZone z)
+pub missed-flown : (z : ℕ) → (eqb z (missed right) || eqb z (missed left)) ≡ true → T (isFlyingZone z)
 unfolding isFlyingZone
 missed-flown z e = elim (decided (eqb z (missed right))) [
   | inl h ↦ subst (λ (y : ℕ). T (isFlyingZone y)) (sym (eqb-true z (missed right) h)) tt

@@ -43,11 +43,6 @@ missed-zone : (f : Side) → (eqb (missed (num f)) 7 || eqb (missed (num f)) 8) 
 missed-zone right = refl
 missed-zone left = refl
 
-missed-flown : (f : Side) → T (isFlyingZone (missed (num f)))
-unfolding isFlyingZone
-missed-flown right = tt
-missed-flown left = tt
-
 -- ---- the first of the line leaves the sequence
 module _ (f : Side) (e : Placed) (b : List Placed) (runway : List Aircraft) (legs : Legs) (o : Orderly f (e ∷ b) runway legs) (r : Request) (named : r .number ≡ e .aircraft .number) where
   abbrev F : Field
@@ -109,7 +104,7 @@ module _ (f : Side) (e : Placed) (b : List Placed) (runway : List Aircraft) (leg
         lighter = λ u. absurd (true≢false (ap addsMoves (sym h) ∙ u));
         carried =
             let i = into-turned-away legs w (e .aircraft) in
-            let to : Turned legs e g = record { turned-number = i .number; turned-speed = i .speed; turned-waited = i .waited; begins-anew = i .progress; from-final = z; to-missed = missed-flown f; leg-ahead = i .leg-is } in
+            let to : Turned legs e g = record { turned-number = i .number; turned-speed = i .speed; turned-waited = i .waited; begins-anew = i .progress; from-final = z; to-missed = missed-zone f; leg-ahead = i .leg-is } in
             λ u. record { carry = λ Q p q. (each-append (Came legs r Q) b (g ∷ []) (behind-all Q p) (turned e (p .0) to (sym named) h, tt), runway-all Q q) };
         ticked-on = λ u. absurd (let n : 12 ≡ 10 = sym u ∙ h in omega arith);
         runway-on = λ u. absurd (let n : 12 ≡ 10 = sym u ∙ h in omega arith);

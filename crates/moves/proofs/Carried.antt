@@ -2,7 +2,7 @@
 -- number has come into another zone or onto the runway, has missed its approach, or has just entered. Assumes nothing.
 use mathlib.Core.Path.{_≡_, refl, sym, ap, _∙_, subst}
 use mathlib.Core.Logic.{_⊎_, inl, inr}
-use mathlib.Core.Bool.{true, false, true≢false}
+use mathlib.Core.Bool.{true, false, _||_, true≢false}
 use mathlib.Core.List.{List, [], _∷_, _++_, map}
 use Prim.Native.Nat.{ℕ}
 use lib.Dec.{T, eqb}
@@ -12,7 +12,7 @@ use Rattle.request.specs.Input.{isEntry}
 use Rattle.request.specs.declared.Request.{Request}
 use Rattle.field.specs.declared.Aircraft.{Aircraft}
 use Rattle.field.specs.declared.Legs.{Legs}
-use Rattle.field.specs.Boxes.{finalApproach, isFlyingZone, legOf, progressInto}
+use Rattle.field.specs.Boxes.{right, left, missed, finalApproach, isFlyingZone, legOf, progressInto}
 use Rattle.field.specs.Lists.{isIn, allDifferent}
 use Rattle.rules.specs.Play.{addsMoves}
 use Rattle.field.proofs.Lists.{or-false-left, or-false-right, absent-left, absent-right, Alone, alone}
@@ -65,7 +65,7 @@ pub record Turned (legs : Legs) (e g : Placed) : Type 0 where
   pub turned-waited : g .aircraft .waited ≡ e .aircraft .waited
   pub begins-anew : g .aircraft .progress ≡ progressInto (g .zone)
   pub from-final : e .zone ≡ finalApproach
-  pub to-missed : T (isFlyingZone (g .zone))
+  pub to-missed : (eqb (g .zone) (missed right) || eqb (g .zone) (missed left)) ≡ true
   pub leg-ahead : g .aircraft .leg ≡ missedLeg (legs .missed) (e .aircraft .progress) (e .aircraft .leg)
 
 -- g has just entered by the request
