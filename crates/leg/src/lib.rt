@@ -110,7 +110,11 @@ pub fn legal(leg: f64) -> bool
 pub fn legal_missed(leg: f64) -> bool
     ensures { λ r. ⌜ r ≡ legalMissedLeg leg ⌝ }
 {
-    if 0.015625 <= leg { leg <= LONGEST_OWN_LEG } else { false }
+    if 0.015625 <= leg {
+        leg <= LONGEST_OWN_LEG
+    } else {
+        false
+    }
 }
 
 // A leg of k 64ths of a mile.
