@@ -1,6 +1,7 @@
 -- `field::boxes::turned_away` meets its contract, by those of `progress_into`, `missed_leg` and `on_leg`. Assumes nothing.
+use mathlib.Core.Path.{_∙_}
 use borrow.Author.Needs.{needs}
-use Rattle.field.specs.Boxes.{turnedAway}
+use Rattle.field.specs.Boxes.{onLeg, turnedAway}
 use Rattle.field.proofs.boxes.turned_away.Statement.{statement}
 use Rattle.field.proofs.boxes.turned_away.Tie as tie
 
@@ -15,7 +16,10 @@ on-leg-requires c κs = search needs
 
 returns : tie.Need-returns
 unfolding turnedAway
-returns c = cc
+returns c =
+    let into = c .before .before in
+    let a = into .before .args .a in
+    c .on-leg .ensures ∙ (λ i. onLeg a (into .progress-into .ensures i) (c .before .missed-leg .ensures i))
 
 pub turned-away-spec : {M : Type 1} → statement M
 turned-away-spec = tie.close (tie.spec progress-into-requires missed-leg-requires on-leg-requires returns)
