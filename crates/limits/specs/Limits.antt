@@ -17,6 +17,10 @@ longestLeg = 4096
 abbrev pub longestLegMiles : ℕ
 longestLegMiles = 64
 
+-- bound g's "1/64 to 128 miles in zones 7 and 8" (02, 2.7): the longest leg of an aircraft's own, in miles, the missed leg and the whole of final
+abbrev pub longestOwnLegMiles : ℕ
+longestOwnLegMiles = 128
+
 -- "n a multiple of 6 up to 24,576", of "6 bytes each" ("The practice file"): the most requests of a practice file
 abbrev pub mostRequests : ℕ
 mostRequests = 4096

@@ -9,6 +9,9 @@ pub const FASTEST: u16 = 512;
 // The longest leg of a practice file, in 64ths of a mile.
 pub const LONGEST_LEG: u16 = 4096;
 
+// The longest leg of an aircraft's own, in miles.
+pub const LONGEST_OWN_LEG: f64 = 128.0;
+
 // The most miles past the ends of legs that are added up of an aircraft.
 pub const MOST_WAITED: f64 = 4096.0;
 
