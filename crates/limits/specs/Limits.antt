@@ -33,10 +33,10 @@ mostMoves = 29
 abbrev pub mostWaited : ℕ
 mostWaited = 4096
 
--- the most ticks of `longestTick` after which every leg is flown out: the longest leg at the lowest speed (02, 2.6)
+-- the most ticks of `longestTick` after which every leg is flown out: the longest of an aircraft's own at the lowest speed (02, 2.6 and 2.7)
 abbrev pub mostTicks : ℕ
-mostTicks = 4096
+mostTicks = 8192
 
--- the presses by which the button empties every field that requests reach: as many moves as there can be, each after as many ticks (02, 2.6)
+-- the presses by which the button empties every field that requests reach: as many moves as there can be, each after as many ticks (02, 2.6 and 2.7)
 abbrev pub mostPresses : ℕ
 mostPresses = mostMoves * (mostTicks + 1)

@@ -19,7 +19,7 @@ pub const MOST_WAITED: f64 = 4096.0;
 pub const MOST_MOVES: usize = 29;
 
 // The most ticks of the longest kind after which every leg is flown out.
-pub const MOST_TICKS: usize = 4096;
+pub const MOST_TICKS: usize = 8192;
 
 // The presses by which the button empties every field that requests reach.
 pub const MOST_PRESSES: usize = MOST_MOVES * (MOST_TICKS + 1);
