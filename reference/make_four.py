@@ -81,9 +81,11 @@ def four(legs, speeds):
         out.extend([('# = %s  %s' % (answer, why)).rstrip(), request])
         fields = [int(word) for word in answer.split()]
         if len(fields) == 6:
-            flying.pop(fields[1], None)
+            flown, of = flying.pop(fields[1], (0, 0))
             if fields[2] in LEG_OF_ZONE:
-                flying[fields[1]] = [0, 64 * legs[LEG_OF_ZONE[fields[2]]]]
+                # Who misses flies out what is left of final first.
+                left = of - flown if request.startswith('10 ') else 0
+                flying[fields[1]] = [0, left + 64 * legs[LEG_OF_ZONE[fields[2]]]]
 
     for how, request, answer, why in FOUR:
         words = request.split()

@@ -71,6 +71,11 @@ def waited_after(waited, past):
     return min(rounded(waited + past), MOST_WAITED)
 
 
+def missed_leg(missed, last, flown):
+    """The leg ahead on a miss, by document 02, 2.7: the difference rounded once, and the sum."""
+    return rounded(missed + rounded(last - flown))
+
+
 def line(leg, speed, start, before, amounts):
     """The line of one combination."""
     words = [bits(leg), str(speed), bits(start), bits(before)]
@@ -82,18 +87,38 @@ def line(leg, speed, start, before, amounts):
     return " ".join(words + ["1" if miles == leg else "0"])
 
 
-def main():
+def starts_of(leg):
+    """The miles at the start that are within a leg, or None."""
+    starts = [rounded(Fraction(start)) for start in STARTS] + [just_below(leg), leg]
+    return [start if start <= leg else None for start in starts]
+
+
+def ticks(legs):
     """Writes the lines of all combinations whose start is within the leg."""
-    legs = [rounded(Fraction(k, 64)) for k in WHOLE_LEGS] + [rounded(Fraction(leg)) for leg in OTHER_LEGS]
     before = [rounded(Fraction(waited)) for waited in WAITED]
     combination = 0
     for leg in legs:
-        starts = [rounded(Fraction(start)) for start in STARTS] + [just_below(leg), leg]
         for speed in SPEEDS:
-            for start in starts:
-                if start <= leg:
+            for start in starts_of(leg):
+                if start is not None:
                     print(line(leg, speed, start, before[combination % len(before)], AMOUNTS[combination % len(AMOUNTS)]))
                 combination += 1
+
+
+def misses(legs):
+    """Writes the lines of all misses whose miles flown are within the leg of final."""
+    for missed in legs:
+        for last in legs:
+            for flown in starts_of(last):
+                if flown is not None:
+                    print(bits(missed), bits(last), bits(flown), bits(missed_leg(missed, last, flown)))
+
+
+def main():
+    """Writes all lines."""
+    legs = [rounded(Fraction(k, 64)) for k in WHOLE_LEGS] + [rounded(Fraction(leg)) for leg in OTHER_LEGS]
+    ticks(legs)
+    misses(legs)
 
 
 if __name__ == "__main__":

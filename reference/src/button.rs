@@ -6,7 +6,7 @@ use crate::request::{Request, LONGEST_TICK};
 
 /// The most moves from a field that was reached from the empty one, and the most ticks before each of them.
 pub const MOST_MOVES: usize = 29;
-pub const MOST_TICKS: usize = 4096;
+pub const MOST_TICKS: usize = 8192;
 /// How often the button is pressed at the most while it is held down.
 pub const MOST_PRESSES: usize = MOST_MOVES * (MOST_TICKS + 1);
 

@@ -159,7 +159,7 @@ pub fn describe(field: &Field) -> String {
 }
 
 /// Hands on every field within the bounds, reached or not, numbers and miles aside. They are 1, 2 and so on along
-/// the sequence, then the runway; each has its own speed, miles and miles waited.
+/// the sequence, then the runway; each has its own speed, miles and miles waited, and after a miss its own leg.
 pub fn each_within_bounds(mut each: impl FnMut(&Field)) {
     for next_fix in Side::BOTH {
         let none = Field { next_fix, ..Field::empty(Legs::from_64ths([64; 4])) };
@@ -192,6 +192,10 @@ fn each_longer(field: &Field, fix: Side, each: &mut impl FnMut(&Field)) {
 
 fn distinct(number: u16, fix: Side, zone: Zone) -> Aircraft {
     let part = f64::from(number) / 8.0;
-    let progress = if zone.is_flying() { Progress::Flying(part) } else { Progress::Waiting };
-    Aircraft { number, fix, speed: 100 + number, progress, waited: 2.0 + part }
+    let (progress, leg) = match zone {
+        Zone::Missed(_) => (Progress::Flying(part), 1.0 + part),
+        _ if zone.is_flying() => (Progress::Flying(part), 1.0),
+        _ => (Progress::Waiting, 0.0),
+    };
+    Aircraft { number, fix, speed: 100 + number, progress, waited: 2.0 + part, leg }
 }

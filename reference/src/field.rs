@@ -112,6 +112,16 @@ pub enum Progress {
     Flying(f64),
 }
 
+impl Progress {
+    /// Miles flown on this leg; 0 while waiting.
+    pub fn miles(self) -> f64 {
+        match self {
+            Progress::Waiting => 0.0,
+            Progress::Flying(miles) => miles,
+        }
+    }
+}
+
 #[derive(Clone, Copy, Debug, PartialEq)]
 pub struct Aircraft {
     pub number: u16,
@@ -121,10 +131,15 @@ pub struct Aircraft {
     pub progress: Progress,
     /// Miles that it would have flown past the ends of its legs, since its entry.
     pub waited: f64,
+    /// Length of its own leg in miles; 0 while it waits.
+    pub leg: f64,
 }
 
 /// The most miles that are added up as waited.
 pub const MOST_WAITED: f64 = 4096.0;
+
+/// The longest leg after a miss: all of final, and then the missed leg.
+pub const LONGEST_MISSED: f64 = 128.0;
 
 /// Lengths of the legs in miles.
 #[derive(Clone, Copy, Debug, PartialEq)]
@@ -142,7 +157,7 @@ impl Legs {
         Legs { base, intermediate, final_, missed }
     }
 
-    /// The leg flown in a zone; none where aircraft wait.
+    /// The field's leg in a zone; none where aircraft wait.
     pub fn of(&self, zone: Zone) -> Option<f64> {
         match zone {
             Missed(_) => Some(self.missed),
@@ -340,14 +355,25 @@ impl Field {
             [base, intermediate, final_, missed].into_iter().all(|leg| (1.0 / 64.0..=64.0).contains(&leg));
         legs_allowed
             && self.everyone().all(|(zone, aircraft)| {
-                let progress_fits = match (aircraft.progress, self.legs.of(zone)) {
-                    (Progress::Waiting, None) => true,
-                    (Progress::Flying(miles), Some(leg)) => (0.0..=leg).contains(&miles),
-                    _ => false,
-                };
                 let waited_fits = (0.0..=MOST_WAITED).contains(&aircraft.waited);
-                (1..=FASTEST).contains(&aircraft.speed) && progress_fits && waited_fits
+                (1..=FASTEST).contains(&aircraft.speed) && self.leg_fits(zone, aircraft) && waited_fits
             })
+    }
+
+    /// Bound g of an aircraft's own leg, and of its miles against that.
+    fn leg_fits(&self, zone: Zone, aircraft: &Aircraft) -> bool {
+        let leg = aircraft.leg;
+        match (aircraft.progress, self.legs.of(zone)) {
+            (Progress::Waiting, None) => leg == 0.0,
+            (Progress::Flying(miles), Some(of_field)) => {
+                let leg_allowed = match zone {
+                    Missed(_) => (1.0 / 64.0..=LONGEST_MISSED).contains(&leg),
+                    _ => leg == of_field,
+                };
+                leg_allowed && (0.0..=leg).contains(&miles)
+            }
+            _ => false,
+        }
     }
 }
 
@@ -513,18 +539,20 @@ impl Field {
         Ok((after, answer))
     }
 
+    /// The leg ahead is the missed leg, and before it what is left of final.
     fn miss(&self, number: u16) -> Result<(Field, Answer), Refusal> {
         self.at_head(number, |zone| (zone == Final).then_some(()))?;
         let mut after = self.clone();
         if let Some(mut aircraft) = after.zone_mut(Final).pop_front() {
             let to = Missed(aircraft.fix);
+            let leg = self.legs.missed + (aircraft.leg - aircraft.progress.miles());
             after.leave_sequence(number);
             if !after.sequence.is_empty() {
                 aircraft.fix = after.next_fix;
             }
             after.next_fix = aircraft.fix.opposite();
             after.sequence.push_back(number);
-            after.put(aircraft, to);
+            after.put(Aircraft { leg, progress: Progress::Flying(0.0), ..aircraft }, to);
         }
         let answer = after.answer(number);
         Ok((after, answer))
@@ -547,20 +575,18 @@ impl Field {
         Ok(self.moved(number, from, to))
     }
 
-    /// Everyone flying advances and stops at the end of the leg. What is past it is added to the miles waited.
+    /// Everyone flying advances and stops at the end of the own leg. What is past it is added to the miles waited.
     fn ticked(&self, amount: u16) -> Field {
         let mut after = self.clone();
-        for (zone, queue) in Zone::ALL.into_iter().zip(&mut after.zones) {
-            let Some(leg) = self.legs.of(zone) else { continue };
-            for aircraft in queue {
-                if let Progress::Flying(miles) = &mut aircraft.progress {
-                    let advance = (f64::from(aircraft.speed) / 64.0) * (f64::from(amount) / 64.0);
-                    let sum = *miles + advance;
-                    *miles = if sum < leg { sum } else { leg };
-                    let past = if sum > leg { sum - leg } else { 0.0 };
-                    let waited = aircraft.waited + past;
-                    aircraft.waited = if waited < MOST_WAITED { waited } else { MOST_WAITED };
-                }
+        for aircraft in after.zones.iter_mut().flatten() {
+            let leg = aircraft.leg;
+            if let Progress::Flying(miles) = &mut aircraft.progress {
+                let advance = (f64::from(aircraft.speed) / 64.0) * (f64::from(amount) / 64.0);
+                let sum = *miles + advance;
+                *miles = if sum < leg { sum } else { leg };
+                let past = if sum > leg { sum - leg } else { 0.0 };
+                let waited = aircraft.waited + past;
+                aircraft.waited = if waited < MOST_WAITED { waited } else { MOST_WAITED };
             }
         }
         after
@@ -584,9 +610,9 @@ impl Field {
     }
 
     fn check_flown_out(&self, number: u16) -> Result<(), Refusal> {
-        let (zone, aircraft) = self.find(number).ok_or(Refusal::NotOnField)?;
-        match (aircraft.progress, self.legs.of(zone)) {
-            (Progress::Flying(miles), Some(leg)) if miles == leg => Ok(()),
+        let (_, aircraft) = self.find(number).ok_or(Refusal::NotOnField)?;
+        match aircraft.progress {
+            Progress::Flying(miles) if miles == aircraft.leg => Ok(()),
             _ => Err(Refusal::LegNotFlownOut),
         }
     }
@@ -603,7 +629,7 @@ impl Field {
         let fix = if after.sequence.is_empty() { side } else { after.next_fix };
         after.next_fix = fix.opposite();
         after.sequence.push_back(number);
-        after.put(Aircraft { number, fix, speed, progress: Progress::Waiting, waited: 0.0 }, to);
+        after.put(Aircraft { number, fix, speed, progress: Progress::Waiting, waited: 0.0, leg: 0.0 }, to);
         let answer = after.answer(number);
         (after, answer)
     }
@@ -620,15 +646,23 @@ impl Field {
     fn transfer(&mut self, from: Zone, to: Zone) -> u16 {
         match self.zone_mut(from).pop_front() {
             Some(aircraft) => {
-                self.put(aircraft, to);
+                self.arrive(aircraft, to);
                 aircraft.number
             }
             None => 0,
         }
     }
 
-    fn put(&mut self, mut aircraft: Aircraft, to: Zone) {
-        aircraft.progress = if to.is_flying() { Progress::Flying(0.0) } else { Progress::Waiting };
+    /// To the end of a zone, at the start of the field's leg there, or waiting.
+    fn arrive(&mut self, aircraft: Aircraft, to: Zone) {
+        let (progress, leg) = match self.legs.of(to) {
+            Some(leg) => (Progress::Flying(0.0), leg),
+            None => (Progress::Waiting, 0.0),
+        };
+        self.put(Aircraft { progress, leg, ..aircraft }, to);
+    }
+
+    fn put(&mut self, aircraft: Aircraft, to: Zone) {
         self.zone_mut(to).push_back(aircraft);
     }
 

@@ -43,6 +43,7 @@ fn lesson() -> Vec<u8> {
             (7, 0, 7, 0),
             (10, 0, 7, 0),
             (12, 0, 0, 64),
+            (12, 0, 0, 64),
             (11, 0, 7, 0),
             (4, 0, 7, 0),
             (12, 0, 0, 64),
@@ -84,7 +85,7 @@ fn lesson_week(times: usize, [five, six, seven]: [usize; 3]) -> String {
         format!("9{}\n", row(&[])),
         format!("10{}\n", row(&[(0, 1)])),
         format!("11{}\n", row(&[(0, 1)])),
-        format!("12{}\n", row(&[(0, 6)])),
+        format!("12{}\n", row(&[(0, 7)])),
         format!("other{}\n", row(&[(1, 3)])),
         // Kinds 4, 5 and 6 twice each, 7, 8, 10 and 11 once.
         format!("moves {}\nlandings {}\n", 10 * times, times),

@@ -145,6 +145,44 @@ fn bound_g_speeds_miles_and_legs() {
     }
 }
 
+/// One in a zone with its own leg, and with miles where it flies.
+fn with_leg(zone: Zone, leg: f64, miles: f64) -> Field {
+    let mut field = empty();
+    put(&mut field, zone, 1, Right);
+    let aircraft = &mut field.zone_mut(zone)[0];
+    aircraft.leg = leg;
+    if zone.is_flying() {
+        aircraft.progress = Progress::Flying(miles);
+    }
+    field
+}
+
+#[test]
+fn bound_g_own_legs() {
+    for zone in Zone::ALL {
+        let (kept, broken) = match zone {
+            Missed(_) => ([1.0 / 64.0, 0.3, 1.0, 64.5, 128.0], [0.0, 0.015, 128.5, -1.0, f64::NAN]),
+            Base(_) | Intermediate | Final => ([1.0; 5], [0.0, 0.5, 2.0, 128.0, f64::NAN]),
+            _ => ([0.0, -0.0, 0.0, -0.0, 0.0], [1.0, 1.0 / 64.0, -1.0, f64::MIN_POSITIVE, f64::NAN]),
+        };
+        kept.into_iter().for_each(|leg| holds(&with_leg(zone, leg, 0.0)));
+        broken.into_iter().for_each(|leg| breaks(with_leg(zone, leg, 0.0), Bound::G));
+    }
+}
+
+/// In a missed zone the own leg counts, also where it is shorter or longer than the field's, which is a mile.
+#[test]
+fn bound_g_miles_against_the_own_leg() {
+    for side in Side::BOTH {
+        for (leg, miles) in [(0.5, 0.5), (2.0, 1.5), (2.0, 2.0), (128.0, 128.0), (1.0 / 64.0, 0.0)] {
+            holds(&with_leg(Missed(side), leg, miles));
+        }
+        for (leg, miles) in [(0.5, 0.75), (2.0, 2.5), (2.0, -0.5), (2.0, f64::NAN), (128.0, 129.0)] {
+            breaks(with_leg(Missed(side), leg, miles), Bound::G);
+        }
+    }
+}
+
 #[test]
 fn bound_g_miles_waited() {
     for zone in Zone::ALL {

@@ -15,9 +15,9 @@ const ORDER: [u8; 7] = [8, 7, 6, 5, 11, 4, 3];
 /// The same field with every leg flown out.
 fn flown_out(field: &Field) -> Field {
     let mut end = field.clone();
-    for (zone, queue) in Zone::ALL.into_iter().zip(&mut end.zones) {
-        for aircraft in queue {
-            aircraft.progress = field.legs.of(zone).map_or(Progress::Waiting, Progress::Flying);
+    for aircraft in end.zones.iter_mut().flatten() {
+        if let Progress::Flying(miles) = &mut aircraft.progress {
+            *miles = aircraft.leg;
         }
     }
     end
@@ -174,8 +174,8 @@ fn held(field: &mut Field, most: usize) -> Result<(usize, Ending), Refusal> {
 
 #[test]
 fn the_bound() {
-    assert_eq!((MOST_MOVES, MOST_TICKS), (29, 4096));
-    assert_eq!(MOST_PRESSES, 118_813);
+    assert_eq!((MOST_MOVES, MOST_TICKS), (29, 8192));
+    assert_eq!(MOST_PRESSES, 237_597);
 }
 
 /// The last allowed press may empty the field; one less leaves somebody.
@@ -206,7 +206,7 @@ fn spent() {
     let before = stuck.clone();
     let mut moves = 0;
     let held = hold_down(&mut stuck, MOST_PRESSES, |_, request, _| moves += usize::from(request.kind != 12));
-    assert_eq!((held, moves), (Ok((118_813, Ending::Spent)), 0));
+    assert_eq!((held, moves), (Ok((237_597, Ending::Spent)), 0));
     assert_eq!(stuck, before);
 }
 
@@ -226,32 +226,47 @@ fn emptied(mut field: Field) -> (usize, usize) {
     (moves, ticks)
 }
 
-/// Every field that can be reached, numbers aside: with its legs flown out, with none, and on longer legs at many speeds.
+/// The same field on other legs, everyone at the start of one; in a missed zone all of final is still ahead.
+fn on_legs(field: &Field, legs: Legs) -> Field {
+    let mut start = Field { legs, ..field.clone() };
+    for (zone, queue) in Zone::ALL.into_iter().zip(&mut start.zones) {
+        for aircraft in queue.iter_mut().filter(|_| zone.is_flying()) {
+            let ahead = if matches!(zone, Missed(_)) { legs.final_ } else { 0.0 };
+            aircraft.leg = legs.of(zone).unwrap_or(0.0) + ahead;
+            aircraft.progress = Progress::Flying(0.0);
+        }
+    }
+    start
+}
+
+/// Every field that can be reached, numbers aside: with its legs flown out, and on longer legs at many speeds.
 #[test]
 fn every_reachable_field_is_emptied() {
     let mut most = 0;
     for (index, reached) in Reached::all().fields.iter().enumerate() {
         most = most.max(emptied(reached.clone()).0);
-        let mut slow = Field { legs: Legs::from_64ths([9, 24, 40, 33]), ..reached.clone() };
+        let mut slow = on_legs(reached, Legs::from_64ths([9, 24, 40, 33]));
         for (place, aircraft) in slow.zones.iter_mut().flatten().enumerate() {
             aircraft.speed = [1, 512, 7, 64, 33][(place + index) % 5];
-            if let Progress::Flying(miles) = &mut aircraft.progress {
-                *miles = 0.0;
-            }
         }
         emptied(slow.clone());
         // Off the 64ths.
-        emptied(Field { legs: Legs { base: 0.3, intermediate: 0.7, final_: 0.1, missed: 0.9 }, ..slow });
+        emptied(on_legs(&slow, Legs { base: 0.3, intermediate: 0.7, final_: 0.1, missed: 0.9 }));
     }
     assert_eq!(most, 27);
 }
 
-/// One aircraft at speed 1 flies 4,096 ticks on a leg of 64 miles.
+/// One aircraft at speed 1 flies 4,096 ticks on a leg of 64 miles, and 8,192 after a miss at the start of final.
 #[test]
-fn a_leg_of_4096_ticks() {
+fn the_most_ticks_before_a_move() {
     let mut field = Field::empty(Legs::from_64ths([4096, 1, 1, 1]));
     play(&mut field, &[(2, 1, 7, 1)]);
     assert_eq!(emptied(field), (5, 4098));
+    let mut field = Field::empty(Legs::from_64ths([1, 1, 4096, 4096]));
+    play(&mut field, &[(2, 1, 7, 1)]);
+    to_final(&mut field, 7);
+    play(&mut field, &[(10, 0, 7, 0)]);
+    assert_eq!(emptied(field), (6, 8192 + 2 + 4096));
 }
 
 fn button(file: &[u8]) -> String {

@@ -96,7 +96,10 @@ fn hold_moves_two() {
     let mut field = empty();
     play(&mut field, &[(1, 1, 7, 64), (3, 0, 7, 0), (1, 1, 8, 64)]);
     to_final(&mut field, 7);
+    // A mile of final and a mile of the missed leg.
     play(&mut field, &[(10, 0, 7, 0), (12, 0, 0, 64)]);
+    assert_eq!(line(&mut field, 11, 0, 7, 0), refused(15));
+    play(&mut field, &[(12, 0, 0, 64)]);
     assert_eq!(line(&mut field, 11, 0, 7, 0), [0, 7, 1, 1, 8, 8]);
     assert_eq!(field.find(8).map(|(zone, _)| zone.number()), Some(3));
 }

@@ -85,15 +85,18 @@ fn each_aircraft_has_its_own() {
     // 7's hold moves 8 down from 3000, and later 8 holds beside nobody.
     play(&mut field, &[(1, 1, 7, 64), (3, 0, 7, 0), (1, 1, 8, 128)]);
     to_final(&mut field, 7);
-    play(&mut field, &[(10, 0, 7, 0), (12, 0, 0, 64), (12, 0, 0, 32), (11, 0, 7, 0)]);
+    play(&mut field, &[(10, 0, 7, 0), (12, 0, 0, 64), (12, 0, 0, 64), (12, 0, 0, 32), (11, 0, 7, 0)]);
     assert_eq!((waited(&field, 7), waited(&field, 8)), (0.5, 0.0));
     play(&mut field, &[(4, 0, 8, 0), (12, 0, 0, 64), (5, 0, 8, 0), (12, 0, 0, 64), (6, 0, 8, 0)]);
     assert_eq!((waited(&field, 7), waited(&field, 8)), (0.5, 2.0));
     play(&mut field, &[(3, 0, 7, 0), (10, 0, 8, 0), (4, 0, 7, 0), (12, 0, 0, 48)]);
-    assert_eq!((miles(&field, 7), miles(&field, 8)), (0.75, 1.0));
-    assert_eq!((waited(&field, 7), waited(&field, 8)), (0.5, 2.5));
+    assert_eq!((miles(&field, 7), miles(&field, 8)), (0.75, 1.5));
+    assert_eq!((waited(&field, 7), waited(&field, 8)), (0.5, 2.0));
+    play(&mut field, &[(12, 0, 0, 16), (12, 0, 0, 16)]);
+    assert_eq!((miles(&field, 7), miles(&field, 8)), (1.0, 2.0));
+    assert_eq!((waited(&field, 7), waited(&field, 8)), (0.75, 2.5));
     play(&mut field, &[(11, 0, 8, 0)]);
-    assert_eq!((waited(&field, 7), waited(&field, 8)), (0.5, 2.5));
+    assert_eq!((waited(&field, 7), waited(&field, 8)), (0.75, 2.5));
 }
 
 #[test]
@@ -159,6 +162,10 @@ impl Flown {
     fn past(&self) -> u64 {
         self.past + self.leg.map_or(0, |(flown, leg)| flown.saturating_sub(leg))
     }
+
+    fn left(&self) -> u64 {
+        self.leg.map_or(0, |(flown, leg)| leg.saturating_sub(flown))
+    }
 }
 
 /// What a list of requests should do to everyone, by the answers alone.
@@ -191,8 +198,10 @@ impl Exact {
         let speed = u64::from(request.amount);
         let leg = self.leg(zone);
         let one = self.all.entry(number).or_insert(Flown { speed, leg: None, past: 0, legs: 0 });
+        // Who misses has what is left of final ahead, too.
+        let left = if request.kind == 10 { one.left() } else { 0 };
         one.past = one.past();
-        one.leg = leg.map(|leg| (0, leg));
+        one.leg = leg.map(|leg| (0, left + leg));
         one.legs += usize::from(leg.is_some());
         if zone == 0 {
             self.all.remove(&number);
@@ -202,9 +211,10 @@ impl Exact {
     fn check(&self, field: &Field) {
         assert_eq!(field.present(), self.all.len());
         for (number, one) in &self.all {
-            if let Some((flown, leg)) = one.leg {
-                assert_eq!(miles(field, *number) * 4096.0, flown.min(leg) as f64);
+            if let Some((flown, of)) = one.leg {
+                assert_eq!(miles(field, *number) * 4096.0, flown.min(of) as f64);
             }
+            assert_eq!(leg(field, *number) * 4096.0, one.leg.map_or(0, |(_, of)| of) as f64);
             assert_eq!(waited(field, *number) * 4096.0, one.past().min(4096 * 4096) as f64);
         }
     }
@@ -235,11 +245,11 @@ impl Dice {
     }
 }
 
-/// Miles and miles waited, after each request of many random lists.
+/// Miles, own legs and miles waited, after each request of many random lists.
 #[test]
 fn exact_in_4096ths() {
     let mut dice = Dice(22);
-    let (mut most, mut most_legs, mut some) = (0, 0, 0);
+    let (mut most, mut most_legs, mut some, mut longer) = (0, 0, 0, 0);
     for list in 0..300 {
         let longest = dice.pick(&[4, 64, 512, 4096]);
         let legs_64ths = [(); 4].map(|()| 1 + dice.below(longest) as u16);
@@ -254,6 +264,9 @@ fn exact_in_4096ths() {
                 exact.accepted(&request, answer);
             }
             exact.check(&field);
+            longer += usize::from(
+                answer[0] == 0 && request.kind == 10 && leg(&field, answer[1]) > field.legs.missed,
+            );
             for one in exact.all.values() {
                 most = most.max(one.past());
                 most_legs = most_legs.max(if one.past() > 0 { one.legs } else { 0 });
@@ -261,6 +274,7 @@ fn exact_in_4096ths() {
             }
         }
     }
-    // Sums past 4,096 miles came, those of many legs, and many below.
+    // Sums past 4,096 miles came, those of many legs, and many below; and misses before the end of final.
     assert!(most > 4096 * 4096 && most_legs > 8 && some > 10_000, "{most} {most_legs} {some}");
+    assert!(longer > 50, "{longer}");
 }

@@ -12,12 +12,15 @@ use field::boxes::order_length;
 use field::boxes::queue_length;
 use field::zones::AT_2000;
 use field::zones::FINAL;
+use field::zones::FIRST_FLOWN;
 use field::zones::LAST_LATERAL;
+use field::zones::LAST_MISSED;
 use field::zones::LATERAL;
 use field::zones::MISSED;
 use field::zones::RUNWAY;
 use leg::Progress;
 use leg::legal;
+use leg::legal_missed;
 use leg::waited_within;
 use leg::within;
 use limits::FASTEST;
@@ -38,7 +41,7 @@ ghost use Rattle.field.specs.Boxes.{zonesFrom, everywhere, zoneOf, queueOf, inZ
 ghost use Rattle.questions.specs.Counts.{howMany};
 ghost use Rattle.questions.specs.Find.{fixOf};
 ghost use Rattle.field.specs.Lists.{every};
-ghost use Rattle.bounds.specs.Bounds.{boundA, boundB, lateralRule, boundC, boundD, finalFirst, isWaiting, isNobody, zoneKept, sequenceKept, boundE, boundF, fitsZone, legalLegs, boundG, withinBounds};
+ghost use Rattle.bounds.specs.Bounds.{boundA, boundB, lateralRule, boundC, boundD, finalFirst, isWaiting, isNobody, zoneKept, sequenceKept, boundE, boundF, legFits, fitsZone, legalLegs, boundG, withinBounds};
 
 // Bound a: at most four in the operation area, one on the runway.
 pub fn bound_a(f: Field) -> bool
@@ -149,8 +152,11 @@ pub fn is_nobody(a: Aircraft) -> bool
         return false;
     }
     if a.waited == 0.0 {
-        let p = a.progress;
-        return is_waiting(p);
+        if a.leg == 0.0 {
+            let p = a.progress;
+            return is_waiting(p);
+        }
+        return false;
     }
     false
 }
@@ -249,8 +255,22 @@ pub fn bound_f(f: Field) -> bool
     true
 }
 
-// Whether an aircraft of a zone has a side as fix, a speed from 1 to the highest and miles waited from 0 to the most, and flies within the
-// zone's leg where the zone is flown in and waits elsewhere.
+// Whether an own leg fits a zone: from 1/64 of a mile to the longest where a miss leads, and elsewhere equal to the zone's leg, 0 where no
+// leg is flown.
+pub fn leg_fits(legs: Legs, zone: usize, leg: f64) -> bool
+    ensures { λ r. ⌜ r ≡ legFits legs zone leg ⌝ }
+{
+    if zone == FIRST_FLOWN {
+        return legal_missed(leg);
+    }
+    if zone == LAST_MISSED {
+        return legal_missed(leg);
+    }
+    leg == leg_of(legs, zone)
+}
+
+// Whether an aircraft of a zone has a side as fix, a speed from 1 to the highest, miles waited from 0 to the most and an own leg that fits,
+// and flies within that leg where the zone is flown in and waits elsewhere.
 pub fn fits_zone(legs: Legs, zone: usize, a: Aircraft) -> bool
     ensures { λ r. ⌜ r ≡ fitsZone legs zone a ⌝ }
 {
@@ -266,12 +286,15 @@ pub fn fits_zone(legs: Legs, zone: usize, a: Aircraft) -> bool
     if !waited_within(a.waited) {
         return false;
     }
+    if !leg_fits(legs, zone, a.leg) {
+        return false;
+    }
     let p = a.progress;
     if is_flying_zone(zone) {
         if is_waiting(p) {
             return false;
         }
-        return within(p, leg_of(legs, zone));
+        return within(p, a.leg);
     }
     is_waiting(p)
 }

@@ -23,9 +23,9 @@ use Rattle.questions.specs.Find.{placeOf}
 use Rattle.order.specs.Model.{Side, right}
 use Rattle.rules.specs.Step.{numberOf, stepOf}
 use Rattle.rules.specs.Play.{fieldAfter, played}
-use Rattle.demand.specs.Exact.{WholeLegs, inMiles, Flight, noFlight, ticking, entry, onward, flightWith, flightAfter, EachAircraft, Account, Exact}
+use Rattle.demand.specs.Exact.{WholeLegs, inMiles, Flight, noFlight, ticking, entry, onward, afterMiss, flightWith, flightAfter, EachAircraft, Account, Exact}
 use Rattle.field.proofs.Tests.{decided, if-true, if-false}
-use Rattle.field.proofs.Lists.{alone}
+use Rattle.field.proofs.Lists.{or-false-left, or-false-right, alone}
 use Rattle.laws.proofs.TickLaws.{number-kept}
 use Rattle.line.proofs.Line.{Placed, numbersOf, inside, fieldOf, empty-is}
 use Rattle.line.proofs.Counted.{in-line, on-runway}
@@ -33,13 +33,13 @@ use Rattle.line.proofs.Located.{zone-split, located, located-runway}
 use Rattle.line.proofs.Orderly.{Orderly}
 use Rattle.moves.proofs.Ticking.{tickPlaced}
 use Rattle.moves.proofs.Kept.{placedFits}
-use Rattle.moves.proofs.Carried.{Each, onRunway, Came, stayed, went, followed, came-in}
+use Rattle.moves.proofs.Carried.{Each, onRunway, Came, stayed, went, turned, followed, came-in}
 use Rattle.moves.proofs.After.{zone-in}
 use Rattle.rules.proofs.StepLaws.{number-is, field-accepted, field-refused, input-of, zone-answered}
 use Rattle.moves.proofs.Outcomes.{Accepted, outcome}
 use Rattle.demand.proofs.Runs.{refusable-range}
 use Rattle.demand.proofs.Demand.{empty-orderly}
-use Rattle.demand.proofs.Flights.{legs-legal, Known, known-waiting, known-ticked, known-onward, known-along, known-entry}
+use Rattle.demand.proofs.Flights.{legs-legal, Known, known-waiting, known-ticked, known-onward, known-turned, known-along, known-entry}
 
 -- ---- each one of a line
 each-map : (P Q : Placed → Type 0) (line : List Placed) → ((e : Placed) → P e → Q e) → Each P line → Each Q line
@@ -60,11 +60,11 @@ known-same w s t e h p = subst (λ (x : Flight). Known w x (e .zone) (e .aircraf
 
 -- ---- a tick
 line-ticked : (w : WholeLegs) (amount : ℕ) → Between 1 longestTick amount → (s : ℕ → Flight) (line : List Placed) → T (every (placedFits (inMiles w)) line) → Each (KnownBy w s) line
-    → Each (KnownBy w (λ n. ticking (s n) amount)) (map (tickPlaced (inMiles w) amount) line)
+    → Each (KnownBy w (λ n. ticking (s n) amount)) (map (tickPlaced amount) line)
 line-ticked w amount fits s [] t p = tt
 line-ticked w amount fits s (e ∷ line) t p =
     let here = known-ticked w amount fits (s (e .aircraft .number)) (e .zone) (e .aircraft) (and-l (placedFits (inMiles w) e) (every (placedFits (inMiles w)) line) t) (p .0) in (
-      subst (λ (n : ℕ). Known w (ticking (s n) amount) (e .zone) (tickPlaced (inMiles w) amount e .aircraft)) (sym (number-kept (inMiles w) amount (e .zone) (e .aircraft))) here,
+      subst (λ (n : ℕ). Known w (ticking (s n) amount) (e .zone) (tickPlaced amount e .aircraft)) (sym (number-kept amount (e .zone) (e .aircraft))) here,
       line-ticked w amount fits s line (and-r (placedFits (inMiles w) e) (every (placedFits (inMiles w)) line) t) (p .1),
     )
 
@@ -115,7 +115,7 @@ module _ (w : WholeLegs) (f : Side) (line : List Placed) (runway : List Aircraft
   more n = flightWith w n (s n) (r, stepOf F r .answer)
 
   abbrev by-name : ℕ → Flight
-  by-name n = cond (isEntry (r .kind)) (entry (r .amount) zone) (onward w (s n) zone)
+  by-name n = cond (isEntry (r .kind)) (entry (r .amount) zone) (cond (eqb (r .kind) 10) (afterMiss w (s n) zone) (onward w (s n) zone))
 
   -- the flight of a number after the request, by whether it is accepted
   more-by : (n : ℕ) {b : Bool} → eqb (stepOf F r .answer .number) 0 ≡ b → more n ≡ cond (b && isTick (r .kind)) (ticking (s n) (r .amount)) (cond (b && eqb (r .number) n) (by-name n) (s n))
@@ -153,19 +153,27 @@ module _ (w : WholeLegs) (f : Side) (line : List Placed) (runway : List Aircraft
       answered g n p =
           zone-answered F r (a .number-0) h ∙ ap (λ (k : Field). placeOf k (r .number) .zone) (a .after .effect) ∙ ap (λ (m : ℕ). placeOf G m .zone) (sym n) ∙ p
 
-      came : (g : Placed) → Came r (KnownBy w s) g → placeOf G (g .aircraft .number) .zone ≡ g .zone → KnownBy w more g
+      came : (g : Placed) → Came (inMiles w) r (KnownBy w s) g → placeOf G (g .aircraft .number) .zone ≡ g .zone → KnownBy w more g
       came g (stayed d p) q = known-same w s more g (others (g .aircraft .number) d) p
       came g (went e p on n k) q =
           let here = on .same-number ∙ n in
+          let m = g .aircraft .number in
           let known = known-onward w (s (e .aircraft .number)) zone e g p on (answered g here q) in
-          subst (λ (x : Flight). Known w x (g .zone) (g .aircraft))
-          (ap (λ (m : ℕ). onward w (s m) zone) (sym (on .same-number)) ∙ sym (if-false (entry (r .amount) zone) (onward w (s (g .aircraft .number)) zone) k) ∙ named (g .aircraft .number) here)
-          known
+          let entered = or-false-left (isEntry (r .kind)) (eqb (r .kind) 10) k in
+          let missed = or-false-right (isEntry (r .kind)) (eqb (r .kind) 10) k in
+          let by : by-name m ≡ onward w (s m) zone = if-false (entry (r .amount) zone) _ entered ∙ if-false (afterMiss w (s m) zone) (onward w (s m) zone) missed in
+          subst (λ (x : Flight). Known w x (g .zone) (g .aircraft)) (ap (λ (m : ℕ). onward w (s m) zone) (sym (on .same-number)) ∙ sym by ∙ named m here) known
+      came g (turned e p on n k) q =
+          let here = on .turned-number ∙ n in
+          let m = g .aircraft .number in
+          let known = known-turned w (s (e .aircraft .number)) zone e g p on (answered g here q) in
+          let by : by-name m ≡ afterMiss w (s m) zone = if-false (entry (r .amount) zone) _ (ap isEntry k) ∙ if-true (afterMiss w (s m) zone) (onward w (s m) zone) (eq-eqb (r .kind) 10 k) in
+          subst (λ (x : Flight). Known w x (g .zone) (g .aircraft)) (ap (λ (m : ℕ). afterMiss w (s m) zone) (sym (on .turned-number)) ∙ sym by ∙ named m here) known
       came g (followed e p on d i j) q =
           subst (λ (x : Flight). Known w x (g .zone) (g .aircraft)) (ap s (sym (on .same-number)) ∙ others (g .aircraft .number) (λ n. d (sym (on .same-number) ∙ n))) (known-along w (s (e .aircraft .number)) e g p on i j)
       came g (came-in v) q =
-          subst (λ (x : Flight). Known w x (g .zone) (g .aircraft)) (sym (if-true (entry (r .amount) zone) (onward w (s (g .aircraft .number)) zone) (v .an-entry)) ∙ named (g .aircraft .number) (v .new-number))
-          (known-entry w (r .amount) zone (g .zone) (g .aircraft) (v .new-speed) (v .none-waited) (v .not-flown) (answered g (v .new-number) q))
+          subst (λ (x : Flight). Known w x (g .zone) (g .aircraft)) (sym (if-true (entry (r .amount) zone) _ (v .an-entry)) ∙ named (g .aircraft .number) (v .new-number))
+          (known-entry w (r .amount) zone (g .zone) (g .aircraft) (v .new-speed) (v .none-waited) (v .no-leg) (v .not-flown) (answered g (v .new-number) q))
 
   -- everyone after an accepted request
   accepted-known : Each (KnownBy w s) line → Each (KnownBy w s) (map onRunway runway) → (a : Accepted f line runway (inMiles w) r) → Each (KnownBy w more) (a .after .line-after) × Each (KnownBy w more) (map onRunway (a .after .runway-after))
@@ -174,7 +182,7 @@ module _ (w : WholeLegs) (f : Side) (line : List Placed) (runway : List Aircraft
       by-tick : r .kind ≡ 12 → Each (KnownBy w more) (a .after .line-after) × Each (KnownBy w more) (map onRunway (a .after .runway-after))
       by-tick h =
           let t = tick-known r (input-of F r (a .number-0)) h in (
-            subst (Each (KnownBy w more)) (sym (a .after .ticked-on h)) (ticked-known a h (map (tickPlaced (inMiles w) (r .amount)) line) (line-ticked w (r .amount) (record { least = t .amount-low; most = t .amount-high }) s line (o .fit-line) p)),
+            subst (Each (KnownBy w more)) (sym (a .after .ticked-on h)) (ticked-known a h (map (tickPlaced (r .amount)) line) (line-ticked w (r .amount) (record { least = t .amount-low; most = t .amount-high }) s line (o .fit-line) p)),
             subst (λ (l : List Aircraft). Each (KnownBy w more) (map onRunway l)) (sym (a .after .runway-on h)) (ticked-known a h (map onRunway runway) (runway-ticked w (r .amount) s runway q)),
           )
 
@@ -183,8 +191,8 @@ module _ (w : WholeLegs) (f : Side) (line : List Placed) (runway : List Aircraft
           let t = a .after in
           let both = t .carried h .carry (KnownBy w s) p q in
           let found = Found (t .first-after) (t .line-after) (t .runway-after) (inMiles w) (t .orderly) in (
-            each-both (Came r (KnownBy w s)) found (KnownBy w more) (t .line-after) (came a h) (both .0) (found-line (t .first-after) (t .line-after) (t .runway-after) (inMiles w) (t .orderly)),
-            each-both (Came r (KnownBy w s)) found (KnownBy w more) (map onRunway (t .runway-after)) (came a h) (both .1) (found-runway (t .first-after) (t .line-after) (t .runway-after) (inMiles w) (t .orderly)),
+            each-both (Came (inMiles w) r (KnownBy w s)) found (KnownBy w more) (t .line-after) (came a h) (both .0) (found-line (t .first-after) (t .line-after) (t .runway-after) (inMiles w) (t .orderly)),
+            each-both (Came (inMiles w) r (KnownBy w s)) found (KnownBy w more) (map onRunway (t .runway-after)) (came a h) (both .1) (found-runway (t .first-after) (t .line-after) (t .runway-after) (inMiles w) (t .orderly)),
           )
 
 exact-runs : (w : WholeLegs) (rs : List Request) (f : Side) (line : List Placed) (runway : List Aircraft) → Orderly f line runway (inMiles w) → (s : ℕ → Flight) → Each (KnownBy w s) line → Each (KnownBy w s) (map onRunway runway)
@@ -210,7 +218,7 @@ exact-runs w (r ∷ rs) f line runway o s p q =
 -- ---- by zone
 module _ (w : WholeLegs) (s : ℕ → Flight) where
   abbrev AccountIn : ℕ → Aircraft → Type 0
-  AccountIn z a = Account w (s (a .number)) z a
+  AccountIn z a = Account (s (a .number)) z a
 
   inside-each : (z : ℕ) (line : List Placed) → Each (KnownBy w s) line → EachAircraft (AccountIn z) (inside z line)
   inside-each z [] p = tt

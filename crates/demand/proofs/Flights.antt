@@ -1,36 +1,32 @@
--- What is kept of one aircraft and its flight by a tick and by each way to come to a zone: the account of its miles and of its miles waited. Assumes nothing.
+-- What is kept of one aircraft and its flight by a tick and by each way to come to a zone: the account of its leg, of its miles and of its miles waited. Assumes nothing.
 use mathlib.Core.Path.{_≡_, refl, sym, ap, _∙_, subst}
-use mathlib.Core.Bool.{true, false, _&&_, false≢true}
+use mathlib.Core.Bool.{Bool, true, false, cond, _&&_, _||_, false≢true}
 use Prim.Native.Nat.{ℕ, _+_, _-_, _*_, min}
 use native.Mathlib.Nat.{add-assoc, mul-add, mul-zero}
 use native.Mathlib.Omega.{arith}
-use lib.Dec.{T, leb, leb→le, le→leb}
+use lib.Dec.{T, eqb, leb, leb→le, le→leb}
 use lib.Ieee.{Float, ofInt}
 use lib.Ieee.Fits.{and-i, and-l, and-r}
-use Rattle.limits.specs.Limits.{longestTick, longestLeg}
-use Rattle.leg.specs.Progress.{whole, sixtyFourths, progressAfter, waitedWith, legalLeg}
-use Rattle.leg.specs.Ticks.{Between, Exactly, FlownExactly}
+use Rattle.limits.specs.Limits.{longestTick, longestLeg, longestOwnLegMiles}
+use Rattle.leg.specs.Progress.{whole, sixtyFourths, progressAfter, waitedWith, missedLeg, legalLeg}
+use Rattle.leg.specs.Ticks.{Between, Exactly, LegIn4096ths, FlownExactly}
 use Rattle.leg.specs.declared.Progress.{Progress}
 use Rattle.leg.specs.declared.Progress.the-variants.{Flying}
-use Rattle.leg.proofs.Theorems.{zero-exact, sixty-fourths-legal, one-tick-exact, one-tick-waited}
+use Rattle.leg.proofs.Theorems.{zero-exact, sixty-fourths-in-4096ths, sixty-fourths-legal, one-tick-exact-in-4096ths, one-tick-waited-in-4096ths, missed-leg-exact}
 use Rattle.request.specs.Input.{within}
 use Rattle.field.specs.declared.Aircraft.{Aircraft}
-use Rattle.field.specs.Boxes.{isFlyingZone, legOf, progressInto}
+use Rattle.field.specs.Boxes.{right, left, missed, finalApproach, isFlyingZone, legOf, progressInto}
 use Rattle.bounds.specs.Bounds.{fitsZone, legalLegs}
 use Rattle.tick.specs.Tick.{tickedAircraft}
-use Rattle.demand.specs.Exact.{WholeLegs, inMiles, in64ths, pastIn, mostIn4096ths, Flight, ticking, entry, onward, Account}
+use Rattle.demand.specs.Exact.{WholeLegs, inMiles, in64ths, in4096ths, pastIn, mostIn4096ths, Flight, ticking, entry, pastSoFar, onward, afterMiss, Account}
 use Rattle.field.proofs.Tests.{pass, passed, if-true, if-false, either-way, each-zone}
-use Rattle.field.proofs.Arrival.{progress-by}
-use Rattle.laws.proofs.Fits.{fits-parts}
+use Rattle.field.proofs.Arrival.{progress-by, leg-not-flown}
+use Rattle.laws.proofs.Fits.{fits-parts, missed-flown}
 use Rattle.laws.proofs.TickLaws.{tickedAt}
 use Rattle.line.proofs.Line.{Placed}
-use Rattle.moves.proofs.Carried.{Onward}
+use Rattle.moves.proofs.Carried.{Onward, Turned}
 
 -- ---- legs
-miles-are : (w : WholeLegs) (z : ℕ) → T (within 1 13 z) → T (isFlyingZone z) → legOf (inMiles w) z ≡ sixtyFourths (in64ths w z)
-unfolding isFlyingZone legOf
-miles-are w = each-zone (λ (z : ℕ). T (isFlyingZone z) → legOf (inMiles w) z ≡ sixtyFourths (in64ths w z)) ((λ u. absurd u), ((λ u. absurd u), ((λ u. absurd u), ((λ u. absurd u), ((λ u. absurd u), ((λ u. absurd u), ((λ u. refl), ((λ u. refl), ((λ u. refl), ((λ u. refl), ((λ u. refl), ((λ u. refl), ((λ u. absurd u), tt)))))))))))))
-
 leg-fits : (w : WholeLegs) (z : ℕ) → T (within 1 13 z) → Between 1 longestLeg (in64ths w z)
 leg-fits w = each-zone (λ (z : ℕ). Between 1 longestLeg (in64ths w z)) (w .final-fits, (w .final-fits, (w .final-fits, (w .final-fits, (w .final-fits, (w .final-fits, (w .missed-fits, (w .missed-fits, (w .base-fits, (w .base-fits, (w .intermediate-fits, (w .final-fits, (w .final-fits, tt)))))))))))))
 
@@ -43,6 +39,11 @@ legs-legal w =
     let f = legalLeg (sixtyFourths (w .final-leg)) in
     and-i (m && b && i) f (and-i (m && b) i (and-i m b (sixty-fourths-legal (w .missed-leg) (w .missed-fits)) (sixty-fourths-legal (w .base-leg) (w .base-fits))) (sixty-fourths-legal (w .intermediate-leg) (w .intermediate-fits))) (sixty-fourths-legal (w .final-leg) (w .final-fits))
 
+-- final is flown in
+flown-final : (z : ℕ) → z ≡ finalApproach → T (isFlyingZone z)
+unfolding isFlyingZone
+flown-final z e = subst (λ (y : ℕ). T (isFlyingZone y)) (sym e) tt
+
 -- a flying zone is one of 7 to 12
 zone-13 : (z : ℕ) → T (isFlyingZone z) → T (within 1 13 z)
 unfolding isFlyingZone
@@ -51,21 +52,60 @@ zone-13 z t =
     let h = leb→le z 12 (and-r (leb 7 z) (leb z 12) t) in
     and-i (leb 1 z) (leb z 13) (le→leb 1 z (omega arith)) (le→leb z 13 (omega arith))
 
+-- the leg of a zone in 4096ths is exact
+flown-exact : (w : WholeLegs) (z : ℕ) → T (within 1 13 z) → T (isFlyingZone z) → Exactly (legOf (inMiles w) z) (64 * in64ths w z)
+unfolding isFlyingZone legOf
+flown-exact w =
+    let m = sixty-fourths-in-4096ths (w .missed-leg) (w .missed-fits) .exact in
+    let b = sixty-fourths-in-4096ths (w .base-leg) (w .base-fits) .exact in
+    let i = sixty-fourths-in-4096ths (w .intermediate-leg) (w .intermediate-fits) .exact in
+    let f = sixty-fourths-in-4096ths (w .final-leg) (w .final-fits) .exact in
+    each-zone (λ (z : ℕ). T (isFlyingZone z) → Exactly (legOf (inMiles w) z) (64 * in64ths w z))
+    ((λ u. absurd u), ((λ u. absurd u), ((λ u. absurd u), ((λ u. absurd u), ((λ u. absurd u), ((λ u. absurd u), ((λ u. m), ((λ u. m), ((λ u. b), ((λ u. b), ((λ u. i), ((λ u. f), ((λ u. absurd u), tt)))))))))))))
+
+zone-leg-exact : (w : WholeLegs) (z : ℕ) → Exactly (legOf (inMiles w) z) (in4096ths w z)
+unfolding ofInt
+zone-leg-exact w z =
+    either-way (λ (n : ℕ). Exactly (legOf (inMiles w) z) n) (isFlyingZone z) (64 * in64ths w z) 0 (λ e. flown-exact w z (zone-13 z (pass e)) (pass e))
+    (λ e. subst (λ (x : Float). Exactly x 0) (sym (leg-not-flown (inMiles w) z e)) (refl, refl))
+
+-- what is known of an own leg of n / 4096 miles in zone z
+pub record LegKnown (w : WholeLegs) (z n : ℕ) : Type 0 where
+  pub range : T (isFlyingZone z) → Between 1 (4096 * longestOwnLegMiles) n
+  pub none : isFlyingZone z ≡ false → n ≡ 0
+  pub all-of-final : z ≡ finalApproach → n ≡ 64 * w .final-leg
+
+zone-leg-known : (w : WholeLegs) (z : ℕ) → LegKnown w z (in4096ths w z)
+unfolding isFlyingZone
+zone-leg-known w z =
+    record {
+      range =
+          λ u.
+          let r = leg-fits w z (zone-13 z u) in
+          let low = r .least in
+          let high = r .most in
+          let range : Between 1 (4096 * longestOwnLegMiles) (64 * in64ths w z) = record { least = omega arith; most = omega arith } in
+          subst (Between 1 (4096 * longestOwnLegMiles)) (sym (if-true (64 * in64ths w z) 0 (passed {b = isFlyingZone z} u))) range;
+      none = λ e. if-false (64 * in64ths w z) 0 e;
+      all-of-final = λ e. ap (in4096ths w) e;
+    }
+
 -- ---- what is past the end of a leg
-past-flying : (w : WholeLegs) (z n : ℕ) → isFlyingZone z ≡ true → pastIn w z n ≡ n - 64 * in64ths w z
-past-flying w z n e = if-true (n - 64 * in64ths w z) 0 e
+past-flying : (z k n : ℕ) → isFlyingZone z ≡ true → pastIn z k n ≡ n - k
+past-flying z k n e = if-true (n - k) 0 e
 
-past-waiting : (w : WholeLegs) (z n : ℕ) → isFlyingZone z ≡ false → pastIn w z n ≡ 0
-past-waiting w z n e = if-false (n - 64 * in64ths w z) 0 e
+past-waiting : (z k n : ℕ) → isFlyingZone z ≡ false → pastIn z k n ≡ 0
+past-waiting z k n e = if-false (n - k) 0 e
 
-past-none : (w : WholeLegs) (z : ℕ) → pastIn w z 0 ≡ 0
-past-none w z = either-way (λ (n : ℕ). n ≡ 0) (isFlyingZone z) (0 - 64 * in64ths w z) 0 (λ e. let h : 0 - 64 * in64ths w z ≡ 0 = omega arith in h) (λ e. refl)
+past-none : (z k : ℕ) → pastIn z k 0 ≡ 0
+past-none z k = either-way (λ (n : ℕ). n ≡ 0) (isFlyingZone z) (0 - k) 0 (λ e. let h : 0 - k ≡ 0 = omega arith in h) (λ e. refl)
 
--- ---- what is kept of an aircraft in zone z: its account, its speed, and a zone of its flight that has the same leg
+-- ---- what is kept of an aircraft in zone z: its account, its speed, its leg, and a zone of its flight that is flown in where z is
 pub record Known (w : WholeLegs) (s : Flight) (z : ℕ) (a : Aircraft) : Type 0 where
-  pub account : Account w s z a
+  pub account : Account s z a
   pub same-speed : a .speed ≡ s .speed
-  pub same-leg : (n : ℕ) → pastIn w (s .zone) n ≡ pastIn w z n
+  pub own-leg : LegKnown w z (s .leg)
+  pub same-flown : isFlyingZone (s .zone) ≡ isFlyingZone z
 
 -- ---- a tick
 joined : (k s t a : ℕ) → min k (min k (s * t) + s * a) ≡ min k (s * (t + a))
@@ -88,99 +128,153 @@ pub known-waiting : (w : WholeLegs) (amount : ℕ) (s : Flight) (z : ℕ) (a : A
 known-waiting w amount s z a e p =
     record {
       account = record {
+        leg = p .account .leg;
         miles = λ u. absurd (false≢true (sym e ∙ passed {b = isFlyingZone z} u));
         waited =
-            subst (λ (n : ℕ). Exactly (a .waited) (min mostIn4096ths (s .before + n))) (past-waiting w z (a .speed * s .ticks) e ∙ sym (past-waiting w z (a .speed * (s .ticks + amount)) e)) (p .account .waited);
+            subst (λ (n : ℕ). Exactly (a .waited) (min mostIn4096ths (s .before + n))) (past-waiting z (s .leg) (a .speed * s .ticks) e ∙ sym (past-waiting z (s .leg) (a .speed * (s .ticks + amount)) e)) (p .account .waited);
       };
       same-speed = p .same-speed;
-      same-leg = p .same-leg;
+      own-leg = p .own-leg;
+      same-flown = p .same-flown;
     }
 
 module _ (w : WholeLegs) (amount : ℕ) (fits : Between 1 longestTick amount) (s : Flight) (z : ℕ) (a : Aircraft) (fit : T (fitsZone (inMiles w) z a)) (p : Known w s z a) where
-  flies : isFlyingZone z ≡ true → Known w (ticking s amount) z (tickedAircraft (legOf (inMiles w) z) amount a)
+  flies : isFlyingZone z ≡ true → Known w (ticking s amount) z (tickedAircraft amount a)
   unfolding tickedAircraft
   flies e =
       let u : T (isFlyingZone z) = pass e in
-      let k = in64ths w z in
+      let k = s .leg in
       let v = a .speed in
-      let m = min (64 * k) (v * s .ticks) in
+      let m = min k (v * s .ticks) in
       let speeds = fits-parts (inMiles w) z a fit .speeds in
-      let leg = sym (miles-are w z (zone-13 z u) u) in
-      let long = leg-fits w z (zone-13 z u) in
+      let range = p .own-leg .range u in
+      let low = range .least in
+      let high = range .most in
+      let long : LegIn4096ths (a .leg) k = record { exact = p .account .leg; some = omega arith; few = omega arith } in
       let flown = p .account .miles u in
-      let before = subst (λ (n : ℕ). Exactly (a .waited) (min mostIn4096ths (s .before + n))) (past-flying w z (v * s .ticks) e) (p .account .waited) in
-      let on : FlownExactly (progressAfter (a .progress) v amount (sixtyFourths k)) (min (64 * k) (m + v * amount)) = one-tick-exact (a .progress) k m long speeds fits flown in
-      let more : Exactly (waitedWith (a .progress) (a .waited) v amount (sixtyFourths k)) (min mostIn4096ths (min mostIn4096ths (s .before + (v * s .ticks - 64 * k)) + (m + v * amount - 64 * k))) =
-      one-tick-waited (a .progress) (a .waited) k m (min mostIn4096ths (s .before + (v * s .ticks - 64 * k))) long speeds fits (omega arith) flown before in
+      let before = subst (λ (n : ℕ). Exactly (a .waited) (min mostIn4096ths (s .before + n))) (past-flying z k (v * s .ticks) e) (p .account .waited) in
+      let on : FlownExactly (progressAfter (a .progress) v amount (a .leg)) (min k (m + v * amount)) = one-tick-exact-in-4096ths (a .progress) (a .leg) k m long speeds fits flown in
+      let more : Exactly (waitedWith (a .progress) (a .waited) v amount (a .leg)) (min mostIn4096ths (min mostIn4096ths (s .before + (v * s .ticks - k)) + (m + v * amount - k))) =
+      one-tick-waited-in-4096ths (a .progress) (a .leg) (a .waited) k m (min mostIn4096ths (s .before + (v * s .ticks - k))) long speeds fits (omega arith) flown before in
       record {
         account = record {
-          miles =
-              λ u.
-              subst (λ (l : Float). FlownExactly (progressAfter (a .progress) v amount l) (min (64 * k) (v * (s .ticks + amount)))) leg
-              (subst (FlownExactly (progressAfter (a .progress) v amount (sixtyFourths k))) (joined (64 * k) v (s .ticks) amount) on);
+          leg = p .account .leg;
+          miles = λ u. subst (FlownExactly (progressAfter (a .progress) v amount (a .leg))) (joined k v (s .ticks) amount) on;
           waited =
-              subst (λ (l : Float). Exactly (waitedWith (a .progress) (a .waited) v amount l) (min mostIn4096ths (s .before + pastIn w z (v * (s .ticks + amount))))) leg
-              (subst (Exactly (waitedWith (a .progress) (a .waited) v amount (sixtyFourths k)))
-              (joined-past mostIn4096ths (s .before) (64 * k) v (s .ticks) amount ∙ ap (λ (n : ℕ). min mostIn4096ths (s .before + n)) (sym (past-flying w z (v * (s .ticks + amount)) e)))
-              more);
+              subst (Exactly (waitedWith (a .progress) (a .waited) v amount (a .leg)))
+              (joined-past mostIn4096ths (s .before) k v (s .ticks) amount ∙ ap (λ (n : ℕ). min mostIn4096ths (s .before + n)) (sym (past-flying z k (v * (s .ticks + amount)) e)))
+              more;
         };
         same-speed = p .same-speed;
-        same-leg = p .same-leg;
+        own-leg = p .own-leg;
+        same-flown = p .same-flown;
       }
 
   -- in its zone after a tick
-  pub known-ticked : Known w (ticking s amount) z (tickedAt (inMiles w) amount z a)
-  known-ticked = either-way (λ (x : Aircraft). Known w (ticking s amount) z x) (isFlyingZone z) (tickedAircraft (legOf (inMiles w) z) amount a) a flies (λ e. known-waiting w amount s z a e p)
+  pub known-ticked : Known w (ticking s amount) z (tickedAt amount z a)
+  known-ticked = either-way (λ (x : Aircraft). Known w (ticking s amount) z x) (isFlyingZone z) (tickedAircraft amount a) a flies (λ e. known-waiting w amount s z a e p)
 
 -- ---- any other accepted request: a leg begins at 0 miles
-begun : (w : WholeLegs) (z : ℕ) (a : Aircraft) → a .progress ≡ progressInto z → T (isFlyingZone z) → FlownExactly (a .progress) (min (64 * in64ths w z) (a .speed * 0))
-begun w z a h u =
+begun : (k z : ℕ) (a : Aircraft) → a .progress ≡ progressInto z → T (isFlyingZone z) → FlownExactly (a .progress) (min k (a .speed * 0))
+begun k z a h u =
     let p : a .progress ≡ Flying (whole 0) = h ∙ progress-by z (passed {b = isFlyingZone z} u) in
-    let n : 0 ≡ min (64 * in64ths w z) (a .speed * 0) = let m = mul-zero (a .speed) in omega arith in
-    subst (λ (q : Progress). FlownExactly q (min (64 * in64ths w z) (a .speed * 0))) (sym p) (subst (FlownExactly (Flying (whole 0))) n zero-exact)
+    let n : 0 ≡ min k (a .speed * 0) = let m = mul-zero (a .speed) in omega arith in
+    subst (λ (q : Progress). FlownExactly q (min k (a .speed * 0))) (sym p) (subst (FlownExactly (Flying (whole 0))) n zero-exact)
 
 -- nothing more is past the end yet
-none-yet : (w : WholeLegs) (z v n : ℕ) → n ≡ n + pastIn w z (v * 0)
-none-yet w z v n = let h : pastIn w z (v * 0) ≡ 0 = ap (pastIn w z) (mul-zero v) ∙ past-none w z in omega arith
+none-yet : (z k v n : ℕ) → n ≡ n + pastIn z k (v * 0)
+none-yet z k v n = let h : pastIn z k (v * 0) ≡ 0 = ap (pastIn z k) (mul-zero v) ∙ past-none z k in omega arith
 
--- one that has come into another zone with the request: its leg before is added up
-pub known-onward : (w : WholeLegs) (s : Flight) (zone : ℕ) (e g : Placed) → Known w s (e .zone) (e .aircraft) → Onward e g → zone ≡ g .zone → Known w (onward w s zone) (g .zone) (g .aircraft)
+-- one that has come into another zone with the request: what its leg before gave is added up
+module _ (w : WholeLegs) (s : Flight) (e g : Placed) (p : Known w s (e .zone) (e .aircraft)) (speed : g .aircraft .speed ≡ e .aircraft .speed) (waited : g .aircraft .waited ≡ e .aircraft .waited) (begins : g .aircraft .progress ≡ progressInto (g .zone)) where
+  -- what it has flown past the ends, by the field and by its flight
+  so-far : s .before + pastIn (e .zone) (s .leg) (e .aircraft .speed * s .ticks) ≡ pastSoFar s
+  so-far =
+      ap (λ (b : Bool). s .before + cond b (e .aircraft .speed * s .ticks - s .leg) 0) (sym (p .same-flown))
+      ∙ ap (λ (v : ℕ). s .before + pastIn (s .zone) (s .leg) (v * s .ticks)) (p .same-speed)
+
+  known-into : (t : Flight) → t .speed ≡ s .speed → t .zone ≡ g .zone → t .ticks ≡ 0 → t .before ≡ pastSoFar s → Exactly (g .aircraft .leg) (t .leg) → LegKnown w (g .zone) (t .leg) → Known w t (g .zone) (g .aircraft)
+  known-into t same zone ticks before exact own =
+      let v = g .aircraft .speed in
+      let sum : s .before + pastIn (e .zone) (s .leg) (e .aircraft .speed * s .ticks) ≡ t .before + pastIn (g .zone) (t .leg) (v * 0) = so-far ∙ sym before ∙ none-yet (g .zone) (t .leg) v (t .before) in
+      record {
+        account = record {
+          leg = exact;
+          miles = λ u. subst (λ (n : ℕ). FlownExactly (g .aircraft .progress) (min (t .leg) (v * n))) (sym ticks) (begun (t .leg) (g .zone) (g .aircraft) begins u);
+          waited =
+              subst (λ (n : ℕ). Exactly (g .aircraft .waited) (min mostIn4096ths (t .before + pastIn (g .zone) (t .leg) (v * n)))) (sym ticks)
+              (subst (λ (x : Float). Exactly x (min mostIn4096ths (t .before + pastIn (g .zone) (t .leg) (v * 0)))) (sym waited) (subst (λ (n : ℕ). Exactly (e .aircraft .waited) (min mostIn4096ths n)) sum (p .account .waited)));
+        };
+        same-speed = speed ∙ p .same-speed ∙ sym same;
+        own-leg = own;
+        same-flown = ap isFlyingZone zone;
+      }
+
+pub known-onward : (w : WholeLegs) (s : Flight) (zone : ℕ) (e g : Placed) → Known w s (e .zone) (e .aircraft) → Onward (inMiles w) e g → zone ≡ g .zone → Known w (onward w s zone) (g .zone) (g .aircraft)
 known-onward w s zone e g p on h =
+    known-into w s e g p (on .same-speed) (on .same-waited) (on .begins) (onward w s zone) refl h refl refl
+    (subst (λ (y : ℕ). Exactly (g .aircraft .leg) (in4096ths w y)) (sym h) (subst (λ (x : Float). Exactly x (in4096ths w (g .zone))) (sym (on .leg-is)) (zone-leg-exact w (g .zone))))
+    (subst (λ (y : ℕ). LegKnown w (g .zone) (in4096ths w y)) (sym h) (zone-leg-known w (g .zone)))
+
+-- one that has missed its approach: the missed leg and what was left of final
+left-of : (j k x : ℕ) → j + (k - min k x) ≡ j + (k - x)
+left-of j k x = omega arith
+
+pub known-turned : (w : WholeLegs) (s : Flight) (zone : ℕ) (e g : Placed) → Known w s (e .zone) (e .aircraft) → Turned (inMiles w) e g → zone ≡ g .zone → Known w (afterMiss w s zone) (g .zone) (g .aircraft)
+unfolding isFlyingZone
+known-turned w s zone e g p on h =
+    let j = 64 * w .missed-leg in
+    let k = s .leg in
     let v = e .aircraft .speed in
-    let past : pastIn w (e .zone) (v * s .ticks) ≡ pastIn w (s .zone) (s .speed * s .ticks) = sym (p .same-leg (v * s .ticks)) ∙ ap (λ (n : ℕ). pastIn w (s .zone) (n * s .ticks)) (p .same-speed) in
-    let t = onward w s zone in
-    let sum : s .before + pastIn w (e .zone) (v * s .ticks) ≡ t .before + pastIn w (g .zone) (g .aircraft .speed * 0) = ap (λ (n : ℕ). s .before + n) past ∙ none-yet w (g .zone) (g .aircraft .speed) (t .before) in
-    record {
-      account = record {
-        miles = begun w (g .zone) (g .aircraft) (on .begins);
-        waited = subst (λ (x : Float). Exactly x (min mostIn4096ths (t .before + pastIn w (g .zone) (g .aircraft .speed * 0)))) (sym (on .same-waited)) (subst (λ (n : ℕ). Exactly (e .aircraft .waited) (min mostIn4096ths n)) sum (p .account .waited));
-      };
-      same-speed = on .same-speed ∙ p .same-speed;
-      same-leg = λ n. ap (λ (z : ℕ). pastIn w z n) h;
-    }
+    let m = min k (v * s .ticks) in
+    let n = k - s .speed * s .ticks in
+    let missed-low = w .missed-fits .least in
+    let missed-high = w .missed-fits .most in
+    let final-high = w .final-fits .most in
+    let all : k ≡ 64 * w .final-leg = p .own-leg .all-of-final (on .from-final) in
+    let flown : FlownExactly (e .aircraft .progress) m = p .account .miles (subst (λ (z : ℕ). T (isFlyingZone z)) (sym (on .from-final)) tt) in
+    let ahead : Exactly (missedLeg (sixtyFourths (w .missed-leg)) (e .aircraft .progress) (e .aircraft .leg)) (j + (k - m)) =
+    missed-leg-exact (sixtyFourths (w .missed-leg)) (e .aircraft .leg) (e .aircraft .progress) j k m (sixty-fourths-in-4096ths (w .missed-leg) (w .missed-fits) .exact) (p .account .leg) flown (omega arith) (omega arith) in
+    let same : j + (k - m) ≡ j + n = left-of j k (v * s .ticks) ∙ ap (λ (x : ℕ). j + (k - x * s .ticks)) (p .same-speed) in
+    known-into w s e g p (on .turned-speed) (on .turned-waited) (on .begins-anew) (afterMiss w s zone) refl h refl refl
+    (subst (Exactly (g .aircraft .leg)) same (subst (λ (x : Float). Exactly x (j + (k - m))) (sym (on .leg-ahead)) ahead))
+    (record {
+      range = λ u. record { least = omega arith; most = omega arith };
+      none = λ z. absurd (false≢true (sym z ∙ passed {b = isFlyingZone (g .zone)} (missed-flown (g .zone) (on .to-missed))));
+      all-of-final = λ z. absurd (false≢true (ap (λ (y : ℕ). eqb y (missed right) || eqb y (missed left)) (sym z) ∙ on .to-missed));
+    })
 
 -- one that has gone along from a zone that is not flown in to another
-pub known-along : (w : WholeLegs) (s : Flight) (e g : Placed) → Known w s (e .zone) (e .aircraft) → Onward e g → isFlyingZone (e .zone) ≡ false → isFlyingZone (g .zone) ≡ false → Known w s (g .zone) (g .aircraft)
+pub known-along : (w : WholeLegs) (s : Flight) (e g : Placed) → Known w s (e .zone) (e .aircraft) → Onward (inMiles w) e g → isFlyingZone (e .zone) ≡ false → isFlyingZone (g .zone) ≡ false → Known w s (g .zone) (g .aircraft)
+unfolding ofInt
 known-along w s e g p on i j =
-    let same : pastIn w (e .zone) (e .aircraft .speed * s .ticks) ≡ pastIn w (g .zone) (g .aircraft .speed * s .ticks) = past-waiting w (e .zone) (e .aircraft .speed * s .ticks) i ∙ sym (past-waiting w (g .zone) (g .aircraft .speed * s .ticks) j) in
+    let same : pastIn (e .zone) (s .leg) (e .aircraft .speed * s .ticks) ≡ pastIn (g .zone) (s .leg) (g .aircraft .speed * s .ticks) = past-waiting (e .zone) (s .leg) (e .aircraft .speed * s .ticks) i ∙ sym (past-waiting (g .zone) (s .leg) (g .aircraft .speed * s .ticks) j) in
+    let none : s .leg ≡ 0 = p .own-leg .none i in
     record {
       account = record {
+        leg = subst (λ (x : Float). Exactly x (s .leg)) (sym (on .leg-is ∙ leg-not-flown (inMiles w) (g .zone) j)) (subst (Exactly (whole 0)) (sym none) (refl, refl));
         miles = λ u. absurd (false≢true (sym j ∙ passed {b = isFlyingZone (g .zone)} u));
-        waited = subst (λ (x : Float). Exactly x (min mostIn4096ths (s .before + pastIn w (g .zone) (g .aircraft .speed * s .ticks)))) (sym (on .same-waited)) (subst (λ (n : ℕ). Exactly (e .aircraft .waited) (min mostIn4096ths (s .before + n))) same (p .account .waited));
+        waited = subst (λ (x : Float). Exactly x (min mostIn4096ths (s .before + pastIn (g .zone) (s .leg) (g .aircraft .speed * s .ticks)))) (sym (on .same-waited)) (subst (λ (n : ℕ). Exactly (e .aircraft .waited) (min mostIn4096ths (s .before + n))) same (p .account .waited));
       };
       same-speed = on .same-speed ∙ p .same-speed;
-      same-leg = λ n. p .same-leg n ∙ past-waiting w (e .zone) n i ∙ sym (past-waiting w (g .zone) n j);
+      own-leg = record { range = λ u. absurd (false≢true (sym j ∙ passed {b = isFlyingZone (g .zone)} u)); none = λ z. none; all-of-final = λ z. absurd (final-flown z) };
+      same-flown = p .same-flown ∙ i ∙ sym j;
     }
+  where
+    final-flown : g .zone ≡ finalApproach → ⊥
+    final-flown z = false≢true (sym j ∙ passed {b = isFlyingZone (g .zone)} (flown-final (g .zone) z))
 
 -- one that has entered
-pub known-entry : (w : WholeLegs) (speed zone z : ℕ) (a : Aircraft) → a .speed ≡ speed → a .waited ≡ whole 0 → isFlyingZone z ≡ false → zone ≡ z → Known w (entry speed zone) z a
+pub known-entry : (w : WholeLegs) (speed zone z : ℕ) (a : Aircraft) → a .speed ≡ speed → a .waited ≡ whole 0 → a .leg ≡ whole 0 → isFlyingZone z ≡ false → zone ≡ z → Known w (entry speed zone) z a
 unfolding ofInt
-known-entry w speed zone z a v x j h =
+known-entry w speed zone z a v x l j h =
     record {
       account = record {
+        leg = subst (λ (y : Float). Exactly y 0) (sym l) (refl, refl);
         miles = λ u. absurd (false≢true (sym j ∙ passed {b = isFlyingZone z} u));
-        waited = subst (λ (y : Float). Exactly y (min mostIn4096ths (0 + pastIn w z (a .speed * 0)))) (sym x) (subst (λ (n : ℕ). Exactly (whole 0) (min mostIn4096ths n)) (none-yet w z (a .speed) 0) (refl, refl));
+        waited = subst (λ (y : Float). Exactly y (min mostIn4096ths (0 + pastIn z 0 (a .speed * 0)))) (sym x) (subst (λ (n : ℕ). Exactly (whole 0) (min mostIn4096ths n)) (none-yet z 0 (a .speed) 0) (refl, refl));
       };
       same-speed = v;
-      same-leg = λ n. ap (λ (y : ℕ). pastIn w y n) h;
+      own-leg = record { range = λ u. absurd (false≢true (sym j ∙ passed {b = isFlyingZone z} u)); none = λ e. refl; all-of-final = λ e. absurd (false≢true (sym j ∙ passed {b = isFlyingZone z} (flown-final z e))) };
+      same-flown = ap isFlyingZone h;
     }

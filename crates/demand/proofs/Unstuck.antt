@@ -18,7 +18,7 @@ use Rattle.field.specs.declared.Aircraft.{Aircraft}
 use Rattle.field.specs.declared.Legs.{Legs}
 use Rattle.field.specs.declared.Field.{Field}
 use Rattle.questions.specs.declared.Place.{Place}
-use Rattle.field.specs.Boxes.{sideOf, opposite, at2000, inZone, isFlyingZone, flownOutIn, zonesFrom}
+use Rattle.field.specs.Boxes.{sideOf, opposite, at2000, inZone, isFlyingZone, legFlownOut, zonesFrom}
 use Rattle.questions.specs.Counts.{howMany, isEmpty}
 use Rattle.questions.specs.Find.{placeOf, aircraftAt, isFirst, leaderZone}
 use Rattle.field.specs.Lists.{every}
@@ -111,19 +111,19 @@ module _ (f : Side) (e : Placed) (b : List Placed) (legs : Legs) (o : Orderly f 
   legs-are = refl
 
   -- its leg is flown out, where it flies
-  flown-in : (y : ℕ) → T (isFlyingZone y) → T (every (λ y. every (flownOutIn (G .legs) y) (inZone G y)) (zonesFrom 7 6)) → T (every (flownOutIn (G .legs) y) (inZone G y))
+  flown-in : (y : ℕ) → T (isFlyingZone y) → T (every (λ y. every legFlownOut (inZone G y)) (zonesFrom 7 6)) → T (every legFlownOut (inZone G y))
   unfolding isFlyingZone
   flown-in y u t =
-      every-from (λ y. every (flownOutIn (G .legs) y) (inZone G y)) 7 6 t y (leb→le 7 y (and-l (leb 7 y) (leb y 12) u)) (let h = leb→le y 12 (and-r (leb 7 y) (leb y 12) u) in omega arith)
+      every-from (λ y. every legFlownOut (inZone G y)) 7 6 t y (leb→le 7 y (and-l (leb 7 y) (leb y 12) u)) (let h = leb→le y 12 (and-r (leb 7 y) (leb y 12) u) in omega arith)
 
-  flown-out : (k : ℕ) → T (isFlyingZone z) → flownOutIn (G .legs) (zoneBefore G (move k m)) (aircraftAt G (zoneBefore G (move k m)) 1) ≡ true
+  flown-out : (k : ℕ) → T (isFlyingZone z) → legFlownOut (aircraftAt G (zoneBefore G (move k m)) 1) ≡ true
   unfolding allFlownOut
   flown-out k u =
       let t = flown-in z u flown in
-      let q = subst (λ (l : List Aircraft). T (every (flownOutIn (G .legs) z) l)) (in-line f (e ∷ b) [] legs z z-in ∙ inside-at [] e b) t in
-      ap (λ (y : ℕ). flownOutIn (G .legs) y (aircraftAt G y 1)) (before-is k)
-      ∙ ap (flownOutIn (G .legs) z) (head-there f [] e b [] legs (o .different) z-in refl)
-      ∙ passed (and-l (flownOutIn (G .legs) z (e .aircraft)) (every (flownOutIn (G .legs) z) (inside z b)) q)
+      let q = subst (λ (l : List Aircraft). T (every legFlownOut l)) (in-line f (e ∷ b) [] legs z z-in ∙ inside-at [] e b) t in
+      ap (λ (y : ℕ). legFlownOut (aircraftAt G y 1)) (before-is k)
+      ∙ ap legFlownOut (head-there f [] e b [] legs (o .different) z-in refl)
+      ∙ passed (and-l (legFlownOut (e .aircraft)) (every legFlownOut (inside z b)) q)
 
   free-empty : (w : ℕ) → T (within 1 12 w) → T (free (z ∷ zonesIn b) w) → isEmpty G w ≡ true
   free-empty w t u = ap (λ (c : ℕ). eqb c 0) (how-many f (e ∷ b) [] legs w t) ∙ passed u
@@ -156,7 +156,7 @@ module _ (f : Side) (e : Placed) (b : List Placed) (legs : Legs) (o : Orderly f 
       )) in
       let base-of : (y w : ℕ) → z ≡ y → T (within 1 12 w) → T (leb (count (y ∷ zonesIn b) w) 1) → leb (howMany G w) 1 ≡ true =
       λ y w q t u. ap (λ (c : ℕ). leb c 1) (how-many f (e ∷ b) [] legs w t) ∙ passed (subst (λ (v : ℕ). T (leb (count (v ∷ zonesIn b) w) 1)) (sym q) u) in
-      let flies : (k y : ℕ) → z ≡ y → T (isFlyingZone y) → flownOutIn (G .legs) (zoneBefore G (move k m)) (aircraftAt G (zoneBefore G (move k m)) 1) ≡ true = λ k y q u. flown-out k (subst (λ (v : ℕ). T (isFlyingZone v)) (sym q) u) in
+      let flies : (k y : ℕ) → z ≡ y → T (isFlyingZone y) → legFlownOut (aircraftAt G (zoneBefore G (move k m)) 1) ≡ true = λ k y q u. flown-out k (subst (λ (v : ℕ). T (isFlyingZone v)) (sym q) u) in
       let merges : (y : ℕ) → z ≡ y → T (startsFrom 5 y) → T (isFlyingZone y) → MovesOn G =
       λ y q s u.
       by-kind 5 (omega arith) (omega arith) tt (subst (λ (v : ℕ). T (startsFrom 5 v)) (sym q) s) (checks-at G (move 5 m) {k = 5} refl)

@@ -9,7 +9,7 @@ use Rattle.request.specs.Input.{within}
 use Rattle.request.specs.declared.Request.{Request}
 use Rattle.field.specs.declared.Legs.{Legs}
 use Rattle.field.specs.declared.Field.{Field}
-use Rattle.field.specs.Boxes.{emptyField, inZone, flownOutIn, zonesFrom}
+use Rattle.field.specs.Boxes.{emptyField, inZone, legFlownOut, zonesFrom}
 use Rattle.questions.specs.Counts.{howMany, presentOn, inOperation, inArea, perFix}
 use Rattle.field.specs.Lists.{every}
 use Rattle.rules.specs.declared.Answer.{Answer}
@@ -20,9 +20,9 @@ use Rattle.rules.specs.Play.{fieldAfter, played, accepted, addsMoves, letIn, ta
 abbrev pub neverAnswers : ℕ → List (Request × Answer) → Bool
 neverAnswers number ps = every (λ p. not (eqb (p .1 .number) number)) ps
 
--- "All have flown their leg out when, for everyone in zones 7 to 12, miles equal the leg's length"
+-- "All have flown their leg out when, for everyone in zones 7 to 12, miles equal the leg's length", the aircraft's own leg (02, 2.7)
 unfoldable pub allFlownOut : Field → Bool
-allFlownOut f = every (λ z. every (flownOutIn (f .legs) z) (inZone f z)) (zonesFrom 7 6)
+allFlownOut f = every (λ z. every legFlownOut (inZone f z)) (zonesFrom 7 6)
 
 -- kinds 3 to 8 and 11
 abbrev pub movesOn : ℕ → Bool

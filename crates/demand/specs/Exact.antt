@@ -1,6 +1,6 @@
 -- Exactness, of demand 2 (document 01, "The requests"): "From an empty field whose legs are whole 64ths, the miles times 4096 are exactly
 -- the smaller of 64 times the leg in 64ths and the speed times the tick amounts added up since the leg began." The miles waited of document
--- 02, 2.2, are exact too.
+-- 02, 2.2, are exact too, and so is the leg of an aircraft's own: "Miles stay exact, with the leg counted in 4096ths." (02, 2.7)
 use mathlib.Core.Bool.{cond, _&&_, _||_}
 use mathlib.Core.List.{List, [], _∷_}
 use Prim.Native.Nat.{ℕ, _+_, _-_, _*_, min}
@@ -37,44 +37,58 @@ in64ths w z =
     (cond (eqb z (base right) || eqb z (base left)) (w .base-leg)
     (cond (eqb z intermediate) (w .intermediate-leg) (w .final-leg)))
 
--- what the miles flown exceed the leg of zone z by, all in 4096ths; 0 where no leg is flown
-abbrev pub pastIn : WholeLegs → ℕ → ℕ → ℕ
-pastIn w z flown = cond (isFlyingZone z) (flown - 64 * in64ths w z) 0
+-- the same in 4096ths; 0 where no leg is flown
+abbrev pub in4096ths : WholeLegs → ℕ → ℕ
+in4096ths w z = cond (isFlyingZone z) (64 * in64ths w z) 0
+
+-- what the miles flown in zone z exceed the leg by, all in 4096ths; 0 where no leg is flown
+abbrev pub pastIn : ℕ → ℕ → ℕ → ℕ
+pastIn z leg flown = cond (isFlyingZone z) (flown - leg) 0
 
 -- the most miles waited, in 4096ths (02, 2.2)
 abbrev pub mostIn4096ths : ℕ
 mostIn4096ths = 4096 * mostWaited
 
--- what the requests and answers tell of an aircraft: its speed, the zone that it is in, the tick amounts since its leg there began, and
--- what it flew past the ends of its legs before that, in 4096ths
+-- what the requests and answers tell of an aircraft: its speed, the zone that it is in, its own leg there in 4096ths (02, 2.7), the tick amounts since
+-- the leg began, and what it flew past the ends of its legs before that, in 4096ths
 pub record Flight : Type 0 where
   pub speed : ℕ
   pub zone : ℕ
+  pub leg : ℕ
   pub ticks : ℕ
   pub before : ℕ
 
 -- of a number that has not entered
 abbrev pub noFlight : Flight
-noFlight = record { speed = 0; zone = 0; ticks = 0; before = 0 }
+noFlight = record { speed = 0; zone = 0; leg = 0; ticks = 0; before = 0 }
 
 -- an accepted tick adds its amount
 abbrev pub ticking : Flight → ℕ → Flight
-ticking s amount = record { speed = s .speed; zone = s .zone; ticks = s .ticks + amount; before = s .before }
+ticking s amount = record { speed = s .speed; zone = s .zone; leg = s .leg; ticks = s .ticks + amount; before = s .before }
 
 -- an entry: the miles waited are added up "from entry to leaving" (02, 2.2)
 abbrev pub entry : ℕ → ℕ → Flight
-entry speed zone = record { speed = speed; zone = zone; ticks = 0; before = 0 }
+entry speed zone = record { speed = speed; zone = zone; leg = 0; ticks = 0; before = 0 }
+
+-- what it has flown past the ends of its legs, this one included
+abbrev pub pastSoFar : Flight → ℕ
+pastSoFar s = s .before + pastIn (s .zone) (s .leg) (s .speed * s .ticks)
 
 -- another leg, or none, in another zone
 abbrev pub onward : WholeLegs → Flight → ℕ → Flight
-onward w s zone = record { speed = s .speed; zone = zone; ticks = 0; before = s .before + pastIn w (s .zone) (s .speed * s .ticks) }
+onward w s zone = record { speed = s .speed; zone = zone; leg = in4096ths w zone; ticks = 0; before = pastSoFar s }
+
+-- a miss: 64 times the missed leg, and what was left of final (02, 2.7)
+abbrev pub afterMiss : WholeLegs → Flight → ℕ → Flight
+afterMiss w s zone = record { speed = s .speed; zone = zone; leg = 64 * w .missed-leg + (s .leg - s .speed * s .ticks); ticks = 0; before = pastSoFar s }
 
 -- the flight of a number after a request and its answer: with an accepted request for the aircraft a leg of its begins or ends
 abbrev pub flightWith : WholeLegs → ℕ → Flight → Request × Answer → Flight
 flightWith w number s p =
     cond (isAccepted isTick p) (ticking s (p .0 .amount))
     (cond (eqb (p .1 .number) 0 && eqb (p .0 .number) number)
-    (cond (isEntry (p .0 .kind)) (entry (p .0 .amount) (p .1 .zone)) (onward w s (p .1 .zone)))
+    (cond (isEntry (p .0 .kind)) (entry (p .0 .amount) (p .1 .zone))
+    (cond (eqb (p .0 .kind) 10) (afterMiss w s (p .1 .zone)) (onward w s (p .1 .zone))))
     s)
 
 -- and after a list of requests
@@ -88,15 +102,17 @@ EachAircraft P [] = Unit {0}
 EachAircraft P (a ∷ rest) = P a × EachAircraft P rest
 
 -- what is exact of an aircraft in zone z with this flight
-pub record Account (w : WholeLegs) (s : Flight) (z : ℕ) (a : Aircraft) : Type 0 where
-  -- in zones 7 to 12 the miles times 4096 are the smaller of 64 times the leg and the speed times the tick amounts since the leg began
-  pub miles : T (isFlyingZone z) → FlownExactly (a .progress) (min (64 * in64ths w z) (a .speed * s .ticks))
+pub record Account (s : Flight) (z : ℕ) (a : Aircraft) : Type 0 where
+  -- in whichever zone, its own leg times 4096 is that of its flight (02, 2.7)
+  pub leg : Exactly (a .leg) (s .leg)
+  -- in zones 7 to 12 the miles times 4096 are the smaller of that and the speed times the tick amounts since the leg began
+  pub miles : T (isFlyingZone z) → FlownExactly (a .progress) (min (s .leg) (a .speed * s .ticks))
   -- in whichever zone, the miles waited times 4096 are the smaller of 4096 times 4096 and what the aircraft flew past the ends of its legs,
   -- this one included (02, 2.2)
-  pub waited : Exactly (a .waited) (min mostIn4096ths (s .before + pastIn w z (a .speed * s .ticks)))
+  pub waited : Exactly (a .waited) (min mostIn4096ths (s .before + pastIn z (s .leg) (a .speed * s .ticks)))
 
 -- after the list that is so of everyone on the field
 abbrev pub Exact : WholeLegs → List Request → Type 0
 Exact w rs =
     (zone : ℕ) → T (within 1 13 zone)
-    → EachAircraft (λ a. Account w (flightAfter w (a .number) noFlight (played (emptyField (inMiles w)) rs)) zone a) (inZone (fieldAfter (emptyField (inMiles w)) rs) zone)
+    → EachAircraft (λ a. Account (flightAfter w (a .number) noFlight (played (emptyField (inMiles w)) rs)) zone a) (inZone (fieldAfter (emptyField (inMiles w)) rs) zone)

@@ -18,7 +18,7 @@ use Rattle.field.specs.Edits.{withoutHead, withTail, withZone}
 use Rattle.questions.specs.Counts.{total, haveFix, howMany, howManyWithFix, inOperation, inArea, perFix, countedFor, approachHolds, potentialOf}
 use Rattle.questions.specs.Find.{aircraftAt}
 use Rattle.rules.specs.Kinds.{headGone, tailPut, moved}
-use Rattle.field.proofs.Arrival.{fix-arrived}
+use Rattle.field.proofs.Arrival.{into-arrived}
 use Rattle.field.proofs.Tests.{if-true}
 use Rattle.field.proofs.Shapes.{one-of-two}
 use Rattle.field.proofs.Lists.{area-different}
@@ -50,7 +50,7 @@ module _ (f : Field) (k : Shaped f) (side : ℕ) (b : Between 1 2 side) (x : Air
 
   -- as it is at 2000
   abbrev pub lower : Aircraft
-  lower = arrived w x
+  lower = arrived (f .legs) w x
 
   abbrev q₂ : Zone
   q₂ = withTail (zoneOf f₁ w) lower
@@ -61,7 +61,7 @@ module _ (f : Field) (k : Shaped f) (side : ℕ) (b : Between 1 2 side) (x : Air
 
   pub moved-down : moved f (at3000 side) w ≡ down
   unfolding moved tailPut headGone
-  moved-down = ap (λ (a : Aircraft). withZone f₁ w (withTail (zoneOf f₁ w) (arrived w a))) (head-is f side x here)
+  moved-down = ap (λ (a : Aircraft). withZone f₁ w (withTail (zoneOf f₁ w) (arrived (f .legs) w a))) (head-is f side x here)
 
   from-zone : Between 1 13 side
   from-zone = record { least = b .least; most = omega arith }
@@ -138,7 +138,7 @@ module _ (f : Field) (k : Shaped f) (side : ℕ) (b : Between 1 2 side) (x : Air
       (one-of-two (λ (s : ℕ). isIn 4 (area s) ≡ isIn 2 (area s)) 1 s (h .least) (let m = h .most in omega arith) refl refl)
 
   fix-same : (s : ℕ) → haveFix s (lower ∷ []) ≡ haveFix s (x ∷ [])
-  fix-same s = ap (λ (n : ℕ). cond (eqb n s) 1 0 + 0) (fix-arrived w x)
+  fix-same s = ap (λ (n : ℕ). cond (eqb n s) 1 0 + 0) (into-arrived (f .legs) w x .fix)
 
   -- As many are in the operation area, ..
   pub operation-down : inOperation down ≡ inOperation f

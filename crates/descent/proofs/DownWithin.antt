@@ -23,7 +23,7 @@ use Rattle.questions.specs.Find.{placeOf, aircraftAt, fixOf, isFirst, numbersIn
 use Rattle.numbers.specs.Numbers.{numbersDiffer, sequenceExact}
 use Rattle.bounds.specs.Bounds.{boundA, boundB, lateralRule, boundC, boundD, finalFirst, zoneKept, sequenceKept, boundE, alternate, boundF, fitsZone, legalLegs, boundG, withinBounds}
 use Rattle.order.specs.Model.{count}
-use Rattle.field.proofs.Arrival.{number-arrived, fix-arrived}
+use Rattle.field.proofs.Arrival.{into-arrived}
 use Rattle.field.proofs.Lists.{every-listed, zone-listed}
 use Rattle.field.proofs.Tests.{pass, decided, or-left, same}
 use Rattle.questions.proofs.FindLaws.{numbers, found-there, absent-nowhere, nobody-nowhere, own-place}
@@ -176,7 +176,7 @@ module _ (f : Field) (k : Shaped f) (t : T (withinBounds f)) (side : ℕ) (b : B
   often : (n : ℕ) (zs : List ℕ) → T (allDifferent zs) → isIn w zs ≡ isIn side zs → count (numbersIn g zs) n ≡ count (numbersIn f zs) n
   often n zs d both =
       numbers-total g n zs
-      ∙ sum-down f k side b x here below (λ y l. count (numbers l) n) zs d both refl refl (ap (λ (m : ℕ). count (m ∷ []) n) (number-arrived w x))
+      ∙ sum-down f k side b x here below (λ y l. count (numbers l) n) zs d both refl refl (ap (λ (m : ℕ). count (m ∷ []) n) (into-arrived (f .legs) w x .number))
       ∙ sym (numbers-total f n zs)
 
   often-everywhere : (n : ℕ) → count (numbersIn g everywhere) n ≡ count (numbersIn f everywhere) n
@@ -253,8 +253,8 @@ module _ (f : Field) (k : Shaped f) (t : T (withinBounds f)) (side : ℕ) (b : B
       let one : place ≡ 1 = let m = ap length here in omega arith in
       let named : x .number ≡ n = ap (λ (a : Aircraft). a .number) (sym (ap (aircraftAt f side) one ∙ head-is f side x here)) ∙ e in
       let found = head-is g w (lower f k side b x here below) (one-below f k side b x here below) in
-      fix-at g different w 1 n (record { least = omega arith; most = let m = b .most in omega arith }) (omega arith) (let m = ap length (one-below f k side b x here below) in omega arith) (ap (λ (a : Aircraft). a .number) found ∙ number-arrived w x ∙ named)
-      ∙ ap (λ (a : Aircraft). a .fix) found ∙ fix-arrived w x ∙ ap (λ (a : Aircraft). a .fix) (sym (ap (aircraftAt f side) one ∙ head-is f side x here)))
+      fix-at g different w 1 n (record { least = omega arith; most = let m = b .most in omega arith }) (omega arith) (let m = ap length (one-below f k side b x here below) in omega arith) (ap (λ (a : Aircraft). a .number) found ∙ into-arrived (f .legs) w x .number ∙ named)
+      ∙ ap (λ (a : Aircraft). a .fix) found ∙ into-arrived (f .legs) w x .fix ∙ ap (λ (a : Aircraft). a .fix) (sym (ap (aircraftAt f side) one ∙ head-is f side x here)))
       (λ place r l h e. absurd (let m = ap length below in omega arith))
       (λ z o place r l h e.
       fix-at g different z place n r l (let m = many-other z o in omega arith) (ap (λ (a : Aircraft). a .number) (at-other z place o) ∙ e) ∙ ap (λ (a : Aircraft). a .fix) (at-other z place o))

@@ -6,6 +6,7 @@ use field::boxes::entering;
 use field::boxes::opposite;
 use field::boxes::order_length;
 use field::boxes::side_of;
+use field::boxes::turned_away;
 use field::boxes::with_fix;
 use field::boxes::zone_of;
 use field::edits::appended;
@@ -53,7 +54,8 @@ fn tail_put(f: Field, zone: usize, a: Aircraft) -> Field
 fn moved(f: Field, from: usize, to: usize) -> Field
     ensures { λ r. ⌜ r ≡ moved f from to ⌝ }
 {
-    let a = arrived(to, aircraft_at(f, from, 1));
+    let legs = f.legs;
+    let a = arrived(legs, to, aircraft_at(f, from, 1));
     if !in_range(Range(1, 13), from) {
         return tail_put(head_gone(f, from), to, a);
     }
@@ -165,14 +167,15 @@ fn fix_after_miss(f: Field, a: Aircraft) -> u8
     if order_length(s) == 1 { a.fix } else { f.next }
 }
 
-// Kind 10: the field with the head of final in the missed zone of its old fix, last in the sequence.
+// Kind 10: the field with the head of final in the missed zone of its old fix, what was left of final ahead too, last in the sequence.
 fn missed_approach(f: Field, r: Request) -> Field
     ensures { λ g. ⌜ g ≡ missedApproach f r ⌝ }
 {
     let a = aircraft_at(f, FINAL, 1);
     let zone = MISSED + a.fix as usize;
     let fix = fix_after_miss(f, a);
-    let b = with_fix(arrived(zone, a), fix);
+    let legs = f.legs;
+    let b = with_fix(turned_away(legs, zone, a), fix);
     let g = tail_put(head_gone(f, FINAL), zone, b);
     let s = f.sequence;
     with_sequence(g, appended(removed(s, r.number), r.number), opposite(fix))

@@ -1,38 +1,53 @@
--- Laws of an aircraft that arrives in a zone. Assumes nothing.
-use mathlib.Core.Path.{_≡_, refl, ap}
-use mathlib.Core.Bool.{Bool, cond}
-use Prim.Native.Nat.{ℕ}
-use Rattle.leg.specs.Progress.{whole}
+-- Laws of an aircraft that comes into a zone from another, by a move or by a miss. Assumes nothing.
+use mathlib.Core.Path.{_≡_, refl, sym, ap, _∙_}
+use mathlib.Core.Bool.{Bool, false, cond, true≢false}
+use Prim.Native.Nat.{ℕ, _≤_}
+use native.Mathlib.Omega.{arith}
+use borrow.Author.Tests.{ne-eqb, le-leb}
+use lib.Dec.{eqb}
+use lib.Ieee.{Float}
+use Rattle.leg.specs.Progress.{whole, missedLeg}
 use Rattle.leg.specs.declared.Progress.the-variants.{Waiting, Flying}
 use Rattle.field.specs.declared.Aircraft.{Aircraft}
-use Rattle.field.specs.Boxes.{isFlyingZone, progressInto, withProgress, arrived}
+use Rattle.field.specs.declared.Legs.{Legs}
+use Rattle.field.specs.Boxes.{isFlyingZone, legOf, progressInto, onLeg, arrived, turnedAway}
 
 -- The progress with which a zone is entered, by whether the zone is flown in.
 pub progress-by : (z : ℕ) {b : Bool} → isFlyingZone z ≡ b → progressInto z ≡ cond b (Flying (whole 0)) Waiting
 unfolding progressInto
 progress-by z e = ap (λ (b : Bool). cond b (Flying (whole 0)) Waiting) e
 
--- An aircraft that arrives keeps its number, ..
-pub number-arrived : (z : ℕ) (a : Aircraft) → arrived z a .number ≡ a .number
-unfolding arrived withProgress
-number-arrived z a = refl
+-- Outside zones 7 to 12 the leg is 0.
+pub leg-elsewhere : (legs : Legs) (z : ℕ) → (7 ≤ z → z ≤ 12 → ⊥) → legOf legs z ≡ whole 0
+unfolding legOf
+leg-elsewhere legs z out =
+    let other : (k : ℕ) → 7 ≤ k → k ≤ 12 → eqb z k ≡ false = λ k low high. ne-eqb z k (λ e. out (omega arith) (omega arith)) in
+    simp (
+      other 7 (omega arith) (omega arith),
+      other 8 (omega arith) (omega arith),
+      other 9 (omega arith) (omega arith),
+      other 10 (omega arith) (omega arith),
+      other 11 (omega arith) (omega arith),
+      other 12 (omega arith) (omega arith),
+    )
 
--- .. its fix ..
-pub fix-arrived : (z : ℕ) (a : Aircraft) → arrived z a .fix ≡ a .fix
-unfolding arrived withProgress
-fix-arrived z a = refl
+pub leg-not-flown : (legs : Legs) (z : ℕ) → isFlyingZone z ≡ false → legOf legs z ≡ whole 0
+unfolding isFlyingZone
+leg-not-flown legs z e = leg-elsewhere legs z (λ low high. true≢false (sym (simp (le-leb 7 z low, le-leb z 12 high)) ∙ e))
 
--- .. its speed ..
-pub speed-arrived : (z : ℕ) (a : Aircraft) → arrived z a .speed ≡ a .speed
-unfolding arrived withProgress
-speed-arrived z a = refl
+-- It keeps its number, fix, speed and miles waited, and its progress is the zone's.
+pub record Into (z : ℕ) (leg : Float) (a after : Aircraft) : Type 0 where
+  pub number : after .number ≡ a .number
+  pub fix : after .fix ≡ a .fix
+  pub speed : after .speed ≡ a .speed
+  pub waited : after .waited ≡ a .waited
+  pub progress : after .progress ≡ progressInto z
+  pub leg-is : after .leg ≡ leg
 
--- .. and its miles waited, ..
-pub waited-arrived : (z : ℕ) (a : Aircraft) → arrived z a .waited ≡ a .waited
-unfolding arrived withProgress
-waited-arrived z a = refl
+pub into-arrived : (legs : Legs) (z : ℕ) (a : Aircraft) → Into z (legOf legs z) a (arrived legs z a)
+unfolding arrived onLeg
+into-arrived legs z a = record { number = refl; fix = refl; speed = refl; waited = refl; progress = refl; leg-is = refl }
 
--- .. and its progress is the zone's.
-pub progress-arrived : (z : ℕ) (a : Aircraft) → arrived z a .progress ≡ progressInto z
-unfolding arrived withProgress
-progress-arrived z a = refl
+pub into-turned-away : (legs : Legs) (z : ℕ) (a : Aircraft) → Into z (missedLeg (legs .missed) (a .progress) (a .leg)) a (turnedAway legs z a)
+unfolding turnedAway onLeg
+into-turned-away legs z a = record { number = refl; fix = refl; speed = refl; waited = refl; progress = refl; leg-is = refl }

@@ -5,7 +5,7 @@ use Prim.Native.Nat.{ℕ, zero, suc, _+_, _%_}
 use lib.Dec.{eqb, leb}
 use lib.ListN.{length, getD, take, replicate}
 use lib.Ieee.{Float}
-use Rattle.leg.specs.Progress.{whole, sixtyFourths, flownOut}
+use Rattle.leg.specs.Progress.{whole, sixtyFourths, flownOut, missedLeg}
 use Rattle.leg.specs.declared.Progress.{Progress}
 use Rattle.leg.specs.declared.Progress.the-variants.{Waiting, Flying}
 use Rattle.field.specs.declared.Aircraft.{Aircraft}
@@ -89,7 +89,7 @@ isFlyingZone z = leb 7 z && leb z 12
 
 -- "Places past a length are all zero and waiting.": a place as the empty field has it
 abbrev pub nobody : Aircraft
-nobody = record { number = 0; fix = 0; speed = 0; progress = Waiting; waited = whole 0 }
+nobody = record { number = 0; fix = 0; speed = 0; progress = Waiting; waited = whole 0; leg = whole 0 }
 
 -- a zone at length 0
 abbrev pub emptyZone : Zone
@@ -119,28 +119,6 @@ orderOf s = take (s .length) (s .numbers)
 unfoldable pub orderLength : Sequence → ℕ
 orderLength s = length (orderOf s)
 
--- ---- aircraft
-
--- "Entering a flying zone sets miles to 0", and elsewhere an aircraft waits: the progress with which zone z is entered
-unfoldable pub progressInto : ℕ → Progress
-progressInto z = cond (isFlyingZone z) (Flying (whole 0)) Waiting
-
--- an aircraft as it enters: waiting, in a holding or a lateral zone, with no miles waited: they are added up "from entry to leaving" (02, 2.2)
-unfoldable pub entering : ℕ → ℕ → ℕ → Aircraft
-entering number fix speed = record { number = number; fix = fix; speed = speed; progress = Waiting; waited = whole 0 }
-
--- an aircraft with another progress; all else stays, the miles waited too (02, 2.2)
-unfoldable pub withProgress : Aircraft → Progress → Aircraft
-withProgress a p = record { number = a .number; fix = a .fix; speed = a .speed; progress = p; waited = a .waited }
-
--- an aircraft as it comes into zone z from another zone
-unfoldable pub arrived : ℕ → Aircraft → Aircraft
-arrived z a = withProgress a (progressInto z)
-
--- an aircraft with another fix; all else stays, the miles waited too (02, 2.2)
-unfoldable pub withFix : Aircraft → ℕ → Aircraft
-withFix a fix = record { number = a .number; fix = fix; speed = a .speed; progress = a .progress; waited = a .waited }
-
 -- ---- legs
 
 -- "leg lengths (missed, base, intermediate, final; both sides alike) are held as f64 miles": four legs of so many 64ths of a mile
@@ -162,9 +140,37 @@ legOf legs z =
     (cond (eqb z finalApproach) (legs .«final_approach»)
     (whole 0))))
 
--- "the leg flown out: miles equal to the leg's length", of an aircraft in zone z
-unfoldable pub flownOutIn : Legs → ℕ → Aircraft → Bool
-flownOutIn legs z a = flownOut (a .progress) (legOf legs z)
+-- ---- aircraft
+
+-- "Entering a flying zone sets miles to 0", and elsewhere an aircraft waits: the progress with which zone z is entered
+unfoldable pub progressInto : ℕ → Progress
+progressInto z = cond (isFlyingZone z) (Flying (whole 0)) Waiting
+
+-- an aircraft as it enters: waiting, in a holding or a lateral zone, with no miles waited: they are added up "from entry to leaving" (02, 2.2); its own
+-- leg is "0 while waiting" (02, 2.7)
+unfoldable pub entering : ℕ → ℕ → ℕ → Aircraft
+entering number fix speed = record { number = number; fix = fix; speed = speed; progress = Waiting; waited = whole 0; leg = whole 0 }
+
+-- an aircraft with another progress and another leg of its own (02, 2.7); all else stays, the miles waited too (02, 2.2)
+unfoldable pub onLeg : Aircraft → Progress → Float → Aircraft
+onLeg a p leg = record { number = a .number; fix = a .fix; speed = a .speed; progress = p; waited = a .waited; leg = leg }
+
+-- an aircraft as it comes into zone z from another zone: its own leg is "the field's leg in zones 9 to 12" and "0 while waiting" (02, 2.7)
+unfoldable pub arrived : Legs → ℕ → Aircraft → Aircraft
+arrived legs z a = onLeg a (progressInto z) (legOf legs z)
+
+-- an aircraft of final as it comes into zone z by a miss: "the leg ahead is the missed leg plus what was left of final" (02, 2.7), by the miles and the own
+-- leg that it had there
+unfoldable pub turnedAway : Legs → ℕ → Aircraft → Aircraft
+turnedAway legs z a = onLeg a (progressInto z) (missedLeg (legs .missed) (a .progress) (a .leg))
+
+-- an aircraft with another fix; all else stays, the miles waited (02, 2.2) and its own leg (02, 2.7) too
+unfoldable pub withFix : Aircraft → ℕ → Aircraft
+withFix a fix = record { number = a .number; fix = fix; speed = a .speed; progress = a .progress; waited = a .waited; leg = a .leg }
+
+-- "the leg flown out: miles equal to the leg's length", of its own leg (02, 2.7)
+unfoldable pub legFlownOut : Aircraft → Bool
+legFlownOut a = flownOut (a .progress) (a .leg)
 
 -- ---- the empty field
 

@@ -9,8 +9,10 @@ use crate::zones::FIRST_FLOWN;
 use crate::zones::INTERMEDIATE;
 use crate::zones::RUNWAY;
 use leg::Progress;
+use leg::flown_out;
+use leg::missed_leg;
 ghost use mathlib.Core.Path.{_≡_};
-ghost use Rattle.field.specs.Boxes.{isSide, opposite, sideOf, isFlyingZone, nobody, emptyZone, zoneOf, queueLength, orderLength, progressInto, entering, withProgress, arrived, withFix, legOf, flownOutIn, emptyField};
+ghost use Rattle.field.specs.Boxes.{isSide, opposite, sideOf, isFlyingZone, nobody, emptyZone, zoneOf, queueLength, orderLength, legOf, progressInto, entering, onLeg, arrived, turnedAway, withFix, legFlownOut, emptyField};
 
 // Whether a number is a side.
 pub fn is_side(side: u8) -> bool
@@ -60,6 +62,7 @@ pub fn nobody() -> Aircraft
         speed: 0,
         progress: Progress::Waiting,
         waited: 0.0,
+        leg: 0.0,
     }
 }
 
@@ -103,6 +106,20 @@ pub fn order_length(s: Sequence) -> usize
     if s.length < 4 { s.length } else { 4 }
 }
 
+// The leg that belongs to a zone; 0 where no leg is flown.
+pub fn leg_of(legs: Legs, zone: usize) -> f64
+    ensures { λ r. ⌜ r ≡ legOf legs zone ⌝ }
+{
+    // The zones of a side are a constant and the side, which is no pattern.
+    match zone {
+        7 | 8 => legs.missed,
+        9 | 10 => legs.base,
+        INTERMEDIATE => legs.intermediate,
+        FINAL => legs.final_approach,
+        _ => 0.0,
+    }
+}
+
 // The progress with which a zone is entered.
 pub fn progress_into(zone: usize) -> Progress
     ensures { λ r. ⌜ r ≡ progressInto zone ⌝ }
@@ -124,12 +141,13 @@ pub fn entering(number: u16, fix: u8, speed: u16) -> Aircraft
         speed: speed,
         progress: Progress::Waiting,
         waited: 0.0,
+        leg: 0.0,
     }
 }
 
-// An aircraft with another progress, and all else as it was.
-pub fn with_progress(a: Aircraft, p: Progress) -> Aircraft
-    ensures { λ r. ⌜ r ≡ withProgress a p ⌝ }
+// An aircraft with another progress and leg, and all else as it was.
+pub fn on_leg(a: Aircraft, p: Progress, leg: f64) -> Aircraft
+    ensures { λ r. ⌜ r ≡ onLeg a p leg ⌝ }
 {
     Aircraft {
         number: a.number,
@@ -137,14 +155,23 @@ pub fn with_progress(a: Aircraft, p: Progress) -> Aircraft
         speed: a.speed,
         progress: p,
         waited: a.waited,
+        leg: leg,
     }
 }
 
 // An aircraft as it comes into a zone from another zone.
-pub fn arrived(zone: usize, a: Aircraft) -> Aircraft
-    ensures { λ r. ⌜ r ≡ arrived zone a ⌝ }
+pub fn arrived(legs: Legs, zone: usize, a: Aircraft) -> Aircraft
+    ensures { λ r. ⌜ r ≡ arrived legs zone a ⌝ }
 {
-    with_progress(a, progress_into(zone))
+    on_leg(a, progress_into(zone), leg_of(legs, zone))
+}
+
+// An aircraft of final as it comes into a zone by a miss.
+pub fn turned_away(legs: Legs, zone: usize, a: Aircraft) -> Aircraft
+    ensures { λ r. ⌜ r ≡ turnedAway legs zone a ⌝ }
+{
+    let p = a.progress;
+    on_leg(a, progress_into(zone), missed_leg(legs.missed, p, a.leg))
 }
 
 // An aircraft with another fix, and all else as it was.
@@ -158,29 +185,16 @@ pub fn with_fix(a: Aircraft, fix: u8) -> Aircraft
         speed: a.speed,
         progress: p,
         waited: a.waited,
+        leg: a.leg,
     }
 }
 
-// The leg that belongs to a zone; 0 where no leg is flown.
-pub fn leg_of(legs: Legs, zone: usize) -> f64
-    ensures { λ r. ⌜ r ≡ legOf legs zone ⌝ }
-{
-    // The zones of a side are a constant and the side, which is no pattern.
-    match zone {
-        7 | 8 => legs.missed,
-        9 | 10 => legs.base,
-        INTERMEDIATE => legs.intermediate,
-        FINAL => legs.final_approach,
-        _ => 0.0,
-    }
-}
-
-// Whether an aircraft in a zone has flown the zone's leg out.
-pub fn flown_out_in(legs: Legs, zone: usize, a: Aircraft) -> bool
-    ensures { λ r. ⌜ r ≡ flownOutIn legs zone a ⌝ }
+// Whether an aircraft has flown its own leg out.
+pub fn leg_flown_out(a: Aircraft) -> bool
+    ensures { λ r. ⌜ r ≡ legFlownOut a ⌝ }
 {
     let p = a.progress;
-    leg::flown_out(p, leg_of(legs, zone))
+    flown_out(p, a.leg)
 }
 
 // The field with nobody on it, the next fix right, and these legs.

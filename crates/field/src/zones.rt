@@ -14,9 +14,11 @@ pub const FINAL: usize = 12;
 
 pub const RUNWAY: usize = 13;
 
-// The last zone of those that hold one aircraft, the first that is flown in, and the first of the approach.
+// The last zone of those that hold one aircraft, the first that is flown in, the last of the missed ones, and the first of the approach.
 pub const LAST_LATERAL: usize = 6;
 
 pub const FIRST_FLOWN: usize = 7;
+
+pub const LAST_MISSED: usize = 8;
 
 pub const FIRST_BASE: usize = 9;

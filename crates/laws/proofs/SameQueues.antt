@@ -149,23 +149,23 @@ same-tail q p a b e s = subst (λ (x : Aircraft). SameZone (withTail q a) (withT
         record { one = kept-tail q a (s .one); other = kept-tail p a (s .other); count = u .count-is ∙ s .count ∙ sym (v .count-is); queue = u .queue-is ∙ s .queue ∙ sym (v .queue-is) }
 
 -- a tick
-kept-tick : (legs : Legs) (amount z : ℕ) (q : Zone) → KeptZone q → KeptZone (tickedIn legs amount z q)
-kept-tick legs amount z q k =
+kept-tick : (amount z : ℕ) (q : Zone) → KeptZone q → KeptZone (tickedIn amount z q)
+kept-tick amount z q k =
     record {
       shaped = record {
-        places = ap length (places-ticked legs amount z q) ∙ length-map (q .aircraft) (tickedAt legs amount z) ∙ k .shaped .places;
-        fits = let h = length-kept legs amount z q in let g = k .shaped .fits in omega arith;
+        places = ap length (places-ticked amount z q) ∙ length-map (q .aircraft) (tickedAt amount z) ∙ k .shaped .places;
+        fits = let h = length-kept amount z q in let g = k .shaped .fits in omega arith;
       };
-      kept = subst T (sym (zone-kept-ticked legs amount z q)) (k .kept);
+      kept = subst T (sym (zone-kept-ticked amount z q)) (k .kept);
     }
 
-pub same-tick : (legs : Legs) (amount z : ℕ) (q p : Zone) → SameZone q p → SameZone (tickedIn legs amount z q) (tickedIn legs amount z p)
-same-tick legs amount z q p s =
+pub same-tick : (amount z : ℕ) (q p : Zone) → SameZone q p → SameZone (tickedIn amount z q) (tickedIn amount z p)
+same-tick amount z q p s =
     record {
-      one = kept-tick legs amount z q (s .one);
-      other = kept-tick legs amount z p (s .other);
-      count = length-kept legs amount z q ∙ s .count ∙ sym (length-kept legs amount z p);
-      queue = queue-of-ticked legs amount z q ∙ ap (map (tickedAt legs amount z)) (s .queue) ∙ sym (queue-of-ticked legs amount z p);
+      one = kept-tick amount z q (s .one);
+      other = kept-tick amount z p (s .other);
+      count = length-kept amount z q ∙ s .count ∙ sym (length-kept amount z p);
+      queue = queue-of-ticked amount z q ∙ ap (map (tickedAt amount z)) (s .queue) ∙ sym (queue-of-ticked amount z p);
     }
 
 -- ---- fields with the same queues
@@ -218,12 +218,12 @@ pub same-ticked : (f g : Field) (amount : ℕ) → Same f g → Same (ticked f a
 unfolding ticked
 same-ticked f g amount s =
     record {
-      zones = length-ticked (f .legs) amount 1 (f .zones) ∙ s .zones;
-      zones-too = length-ticked (g .legs) amount 1 (g .zones) ∙ s .zones-too;
+      zones = length-ticked amount 1 (f .zones) ∙ s .zones;
+      zones-too = length-ticked amount 1 (g .zones) ∙ s .zones-too;
       zone =
           λ z.
           subst (λ (x : Zone). SameZone x (zoneOf (ticked g amount) z)) (sym (zone-ticked f amount z))
-          (subst (SameZone (tickedIn (f .legs) amount z (zoneOf f z))) (ap (λ (l : Legs). tickedIn l amount z (zoneOf g z)) (s .legs) ∙ sym (zone-ticked g amount z)) (same-tick (f .legs) amount z (zoneOf f z) (zoneOf g z) (s .zone z)));
+          (subst (SameZone (tickedIn amount z (zoneOf f z))) (sym (zone-ticked g amount z)) (same-tick amount z (zoneOf f z) (zoneOf g z) (s .zone z)));
       sequence = s .sequence;
       next = s .next;
       legs = s .legs;

@@ -8,21 +8,21 @@ use Prim.Native.Nat.{ℕ, zero, suc}
 use native.Mathlib.Numerals.{add-one}
 use native.Mathlib.Omega.{arith}
 use borrow.Author.Tests.{ltb-true, ltb-false}
-use lib.Dec.{T, eqb, leb, ltb}
+use lib.Dec.{T, eqb, leb, ltb, lit<}
 use lib.Ieee.{Float, eq}
 use lib.Ieee.Fits.{and-i, and-l, and-r}
 use lib.ListN.{length, getD, take, drop, List·getD-eq-default}
-use Rattle.limits.specs.Limits.{longestTick}
+use Rattle.limits.specs.Limits.{longestTick, longestOwnLegMiles}
 use Rattle.leg.specs.Progress.{whole, progressAfter, waitedWith}
 use Rattle.leg.specs.Ticks.{Between, flying}
 use Rattle.leg.specs.declared.Progress.{Progress}
 use Rattle.leg.specs.declared.Progress.the-variants.{Waiting, Flying}
-use Rattle.leg.proofs.Theorems.{within-kept, waited-kept, flying-kept}
+use Rattle.leg.proofs.Theorems.{within-kept-up-to, waited-kept-up-to, flying-kept}
 use Rattle.field.specs.declared.Aircraft.{Aircraft}
 use Rattle.field.specs.declared.Zone.{Zone}
 use Rattle.field.specs.declared.Legs.{Legs}
 use Rattle.field.specs.declared.Field.{Field}
-use Rattle.field.specs.Boxes.{isSide, everywhere, isFlyingZone, emptyZone, zoneOf, queueOf, inZone, legOf}
+use Rattle.field.specs.Boxes.{isSide, everywhere, isFlyingZone, emptyZone, zoneOf, queueOf, inZone}
 use Rattle.field.specs.Lists.{every}
 use Rattle.bounds.specs.Bounds.{isWaiting, isNobody, zoneKept, sequenceKept, boundE, fitsZone, legalLegs, boundG, withinBounds}
 use Rattle.tick.specs.Tick.{tickedAircraft, tickedZone, tickedFrom, ticked}
@@ -31,7 +31,7 @@ use Rattle.questions.proofs.Listed.{numberOf}
 use Rattle.tick.proofs.Tick.{tickedIn, length-ticked, getD-ticked}
 use Rattle.laws.proofs.Alike.{fixOfOne, Alike, a-alike, b-alike, c-alike, d-alike, differ-alike, exact-alike, first-alike, f-alike}
 use Rattle.laws.proofs.BoundLaws.{within-each, each-within}
-use Rattle.laws.proofs.Fits.{fits-parts, fits-of, leg-legal}
+use Rattle.laws.proofs.Fits.{fits-parts, fits-of, own-legal}
 
 -- ---- lists
 
@@ -78,96 +78,96 @@ never : (b : Bool) → (b && false) ≡ false
 never true = refl
 never false = refl
 
-abbrev pub tickedAt : Legs → ℕ → ℕ → Aircraft → Aircraft
-tickedAt legs amount z a = cond (isFlyingZone z) (tickedAircraft (legOf legs z) amount a) a
+abbrev pub tickedAt : ℕ → ℕ → Aircraft → Aircraft
+tickedAt amount z a = cond (isFlyingZone z) (tickedAircraft amount a) a
 
-module _ (legs : Legs) (amount z : ℕ) where
+module _ (amount z : ℕ) where
   -- What a tick keeps of every aircraft that flies it keeps of each in the zone: ..
-  tick-keeps {ℓ} : {B : Type ℓ} (part : Aircraft → B) → ((leg : Float) (a : Aircraft) → part (tickedAircraft leg amount a) ≡ part a) → (a : Aircraft) → part (tickedAt legs amount z a) ≡ part a
-  tick-keeps part h a = either-way (λ x. part x ≡ part a) (isFlyingZone z) (tickedAircraft (legOf legs z) amount a) a (λ e. h (legOf legs z) a) (λ e. refl)
+  tick-keeps {ℓ} : {B : Type ℓ} (part : Aircraft → B) → ((a : Aircraft) → part (tickedAircraft amount a) ≡ part a) → (a : Aircraft) → part (tickedAt amount z a) ≡ part a
+  tick-keeps part h a = either-way (λ x. part x ≡ part a) (isFlyingZone z) (tickedAircraft amount a) a (λ e. h a) (λ e. refl)
 
   -- .. its number, ..
-  pub number-kept : (a : Aircraft) → tickedAt legs amount z a .number ≡ a .number
+  pub number-kept : (a : Aircraft) → tickedAt amount z a .number ≡ a .number
   unfolding tickedAircraft
-  number-kept = tick-keeps numberOf (λ leg a. refl)
+  number-kept = tick-keeps numberOf (λ a. refl)
 
   -- .. its fix, ..
-  pub fix-kept : (a : Aircraft) → tickedAt legs amount z a .fix ≡ a .fix
+  pub fix-kept : (a : Aircraft) → tickedAt amount z a .fix ≡ a .fix
   unfolding tickedAircraft
-  fix-kept = tick-keeps fixOfOne (λ leg a. refl)
+  fix-kept = tick-keeps fixOfOne (λ a. refl)
 
   -- .. and whether it is nobody.
-  pub nobody-kept : (a : Aircraft) → isNobody (tickedAt legs amount z a) ≡ isNobody a
+  pub nobody-kept : (a : Aircraft) → isNobody (tickedAt amount z a) ≡ isNobody a
   unfolding isNobody tickedAircraft
-  nobody-kept = tick-keeps isNobody (λ leg a. go a (a .progress) leg)
+  nobody-kept = tick-keeps isNobody (λ a. go a (a .progress) (a .leg))
     where
       -- where it waits nothing changes, and where it flies it is somebody before and after
       go : (a : Aircraft) (p : Progress) (leg : Float)
-          → (zeros a && eq (waitedWith p (a .waited) (a .speed) amount leg) (whole 0) && isWaiting (progressAfter p (a .speed) amount leg)) ≡ (zeros a && eq (a .waited) (whole 0) && isWaiting p)
+          → (zeros a && eq (waitedWith p (a .waited) (a .speed) amount leg) (whole 0) && eq (a .leg) (whole 0) && isWaiting (progressAfter p (a .speed) amount leg)) ≡ (zeros a && eq (a .waited) (whole 0) && eq (a .leg) (whole 0) && isWaiting p)
       go a Waiting leg = refl
-      go a (Flying miles) leg = never (zeros a && eq (waitedWith (Flying miles) (a .waited) (a .speed) amount leg) (whole 0)) ∙ sym (never (zeros a && eq (a .waited) (whole 0)))
+      go a (Flying miles) leg = never (zeros a && eq (waitedWith (Flying miles) (a .waited) (a .speed) amount leg) (whole 0) && eq (a .leg) (whole 0)) ∙ sym (never (zeros a && eq (a .waited) (whole 0) && eq (a .leg) (whole 0)))
 
   -- ---- a zone after a tick
-  empty-ticked : tickedIn legs amount z emptyZone ≡ emptyZone
+  empty-ticked : tickedIn amount z emptyZone ≡ emptyZone
   unfolding tickedZone tickedAircraft
-  empty-ticked = either-way (λ q. q ≡ emptyZone) (isFlyingZone z) (tickedZone (legOf legs z) amount emptyZone) emptyZone (λ e. refl) (λ e. refl)
+  empty-ticked = either-way (λ q. q ≡ emptyZone) (isFlyingZone z) (tickedZone amount emptyZone) emptyZone (λ e. refl) (λ e. refl)
 
   -- its places, one by one
-  pub places-ticked : (q : Zone) → tickedIn legs amount z q .aircraft ≡ map (tickedAt legs amount z) (q .aircraft)
+  pub places-ticked : (q : Zone) → tickedIn amount z q .aircraft ≡ map (tickedAt amount z) (q .aircraft)
   unfolding tickedZone
   places-ticked q = go (isFlyingZone z)
     where
-      go : (b : Bool) → cond b (tickedZone (legOf legs z) amount q) q .aircraft ≡ map (λ a. cond b (tickedAircraft (legOf legs z) amount a) a) (q .aircraft)
+      go : (b : Bool) → cond b (tickedZone amount q) q .aircraft ≡ map (λ a. cond b (tickedAircraft amount a) a) (q .aircraft)
       go true = refl
       go false = sym (map-id (q .aircraft))
 
-  pub length-kept : (q : Zone) → tickedIn legs amount z q .length ≡ q .length
+  pub length-kept : (q : Zone) → tickedIn amount z q .length ≡ q .length
   unfolding tickedZone
-  length-kept q = either-way (λ r. r .length ≡ q .length) (isFlyingZone z) (tickedZone (legOf legs z) amount q) q (λ e. refl) (λ e. refl)
+  length-kept q = either-way (λ r. r .length ≡ q .length) (isFlyingZone z) (tickedZone amount q) q (λ e. refl) (λ e. refl)
 
   -- Its queue is that of before, each after a tick.
-  pub queue-of-ticked : (q : Zone) → queueOf (tickedIn legs amount z q) ≡ map (tickedAt legs amount z) (queueOf q)
+  pub queue-of-ticked : (q : Zone) → queueOf (tickedIn amount z q) ≡ map (tickedAt amount z) (queueOf q)
   unfolding queueOf
-  queue-of-ticked q = rw (length-kept q, places-ticked q) (take-map (tickedAt legs amount z) (q .length) (q .aircraft))
+  queue-of-ticked q = rw (length-kept q, places-ticked q) (take-map (tickedAt amount z) (q .length) (q .aircraft))
 
   -- Its length fits and its places past it are as said, exactly where they were.
-  pub zone-kept-ticked : (q : Zone) → zoneKept (tickedIn legs amount z q) ≡ zoneKept q
+  pub zone-kept-ticked : (q : Zone) → zoneKept (tickedIn amount z q) ≡ zoneKept q
   unfolding zoneKept
   zone-kept-ticked q =
       rw (length-kept q, places-ticked q)
       (ap (λ (b : Bool). leb (q .length) 4 && b)
-      (ap (every isNobody) (drop-map (tickedAt legs amount z) (q .length) (q .aircraft)) ∙ every-kept isNobody (tickedAt legs amount z) nobody-kept (drop (q .length) (q .aircraft))))
+      (ap (every isNobody) (drop-map (tickedAt amount z) (q .length) (q .aircraft)) ∙ every-kept isNobody (tickedAt amount z) nobody-kept (drop (q .length) (q .aircraft))))
 
 -- ---- the field after a tick
 module _ (f : Field) (amount : ℕ) where
   -- Zone z after a tick; ..
-  pub zone-ticked : (z : ℕ) → zoneOf (ticked f amount) z ≡ tickedIn (f .legs) amount z (zoneOf f z)
+  pub zone-ticked : (z : ℕ) → zoneOf (ticked f amount) z ≡ tickedIn amount z (zoneOf f z)
   unfolding zoneOf ticked
-  zone-ticked zero = sym (empty-ticked (f .legs) amount 0)
+  zone-ticked zero = sym (empty-ticked amount 0)
   zone-ticked (suc i) = go (decided (ltb i (length (f .zones))))
     where
-      go : (ltb i (length (f .zones)) ≡ true) ⊎ (ltb i (length (f .zones)) ≡ false) → zoneOf (ticked f amount) (suc i) ≡ tickedIn (f .legs) amount (suc i) (zoneOf f (suc i))
+      go : (ltb i (length (f .zones)) ≡ true) ⊎ (ltb i (length (f .zones)) ≡ false) → zoneOf (ticked f amount) (suc i) ≡ tickedIn amount (suc i) (zoneOf f (suc i))
       go (inl e) =
-          getD-ticked (f .legs) amount 1 (f .zones) i emptyZone (ltb-true i (length (f .zones)) e)
-          ∙ ap (λ (z : ℕ). tickedIn (f .legs) amount z (getD (f .zones) i emptyZone)) (add-one i)
+          getD-ticked amount 1 (f .zones) i emptyZone (ltb-true i (length (f .zones)) e)
+          ∙ ap (λ (z : ℕ). tickedIn amount z (getD (f .zones) i emptyZone)) (add-one i)
       go (inr e) =
           let past = ltb-false i (length (f .zones)) e in
-          let long = length-ticked (f .legs) amount 1 (f .zones) in
-          List·getD-eq-default (tickedFrom (f .legs) amount 1 (f .zones)) emptyZone (omega arith)
-          ∙ sym (ap (tickedIn (f .legs) amount (suc i)) (List·getD-eq-default (f .zones) emptyZone past) ∙ empty-ticked (f .legs) amount (suc i))
+          let long = length-ticked amount 1 (f .zones) in
+          List·getD-eq-default (tickedFrom amount 1 (f .zones)) emptyZone (omega arith)
+          ∙ sym (ap (tickedIn amount (suc i)) (List·getD-eq-default (f .zones) emptyZone past) ∙ empty-ticked amount (suc i))
 
   -- .. and its queue, each after a tick.
-  pub queue-ticked : (z : ℕ) → inZone (ticked f amount) z ≡ map (tickedAt (f .legs) amount z) (inZone f z)
+  pub queue-ticked : (z : ℕ) → inZone (ticked f amount) z ≡ map (tickedAt amount z) (inZone f z)
   unfolding inZone
-  queue-ticked z = ap queueOf (zone-ticked z) ∙ queue-of-ticked (f .legs) amount z (zoneOf f z)
+  queue-ticked z = ap queueOf (zone-ticked z) ∙ queue-of-ticked amount z (zoneOf f z)
 
   -- A tick changes no number, no fix, neither the sequence nor the next fix, ..
   pub alike-ticked : Alike (ticked f amount) f
   unfolding ticked
   alike-ticked =
       record {
-        numbers = λ z. ap (map numberOf) (queue-ticked z) ∙ map-kept numberOf (tickedAt (f .legs) amount z) (number-kept (f .legs) amount z) (inZone f z);
-        fixes = λ z. ap (map fixOfOne) (queue-ticked z) ∙ map-kept fixOfOne (tickedAt (f .legs) amount z) (fix-kept (f .legs) amount z) (inZone f z);
+        numbers = λ z. ap (map numberOf) (queue-ticked z) ∙ map-kept numberOf (tickedAt amount z) (number-kept amount z) (inZone f z);
+        fixes = λ z. ap (map fixOfOne) (queue-ticked z) ∙ map-kept fixOfOne (tickedAt amount z) (fix-kept amount z) (inZone f z);
         sequence = refl;
         next = refl;
       }
@@ -175,7 +175,7 @@ module _ (f : Field) (amount : ℕ) where
   zones-kept-ticked : every (λ z. zoneKept (zoneOf (ticked f amount) z)) everywhere ≡ every (λ z. zoneKept (zoneOf f z)) everywhere
   zones-kept-ticked =
       ap (λ (p : ℕ → Bool). every p everywhere)
-      (fun-ext (λ z. ap zoneKept (zone-ticked z) ∙ zone-kept-ticked (f .legs) amount z (zoneOf f z)))
+      (fun-ext (λ z. ap zoneKept (zone-ticked z) ∙ zone-kept-ticked amount z (zoneOf f z)))
 
   -- .. nor bound e, ..
   pub e-ticked : boundE (ticked f amount) ≡ boundE f
@@ -189,23 +189,22 @@ module _ (f : Field) (amount : ℕ) where
       cc (a, b, c, d, e)
 
 -- Who fits its zone fits it after a tick.
-pub fits-ticked : (legs : Legs) (amount z : ℕ) → T (legalLegs legs) → Between 1 longestTick amount → (a : Aircraft) → T (fitsZone legs z a) → T (fitsZone legs z (tickedAt legs amount z a))
+pub fits-ticked : (legs : Legs) (amount z : ℕ) → T (legalLegs legs) → Between 1 longestTick amount → (a : Aircraft) → T (fitsZone legs z a) → T (fitsZone legs z (tickedAt amount z a))
 unfolding tickedAircraft
-fits-ticked legs amount z l r a h = either-way (λ x. T (fitsZone legs z x)) (isFlyingZone z) (tickedAircraft leg amount a) a flies (λ e. h)
+fits-ticked legs amount z l r a h = either-way (λ x. T (fitsZone legs z x)) (isFlyingZone z) (tickedAircraft amount a) a flies (λ e. h)
   where
-    leg : Float
-    leg = legOf legs z
-
-    flies : isFlyingZone z ≡ true → T (fitsZone legs z (tickedAircraft leg amount a))
+    flies : isFlyingZone z ≡ true → T (fitsZone legs z (tickedAircraft amount a))
     flies e =
         let p = fits-parts legs z a h in
-        fits-of legs z (tickedAircraft leg amount a)
+        let legal = own-legal legs l z (pass e) (a .leg) (p .own) in
+        fits-of legs z (tickedAircraft amount a)
         (record {
           side = p .side;
           speeds = p .speeds;
-          waited = waited-kept (a .progress) leg (a .waited) (leg-legal legs l z (pass e)) (p .speeds) r (p .along e) (p .waited);
-          flies = λ u. subst (λ (b : Bool). T (not b)) (sym (waiting-kept (a .progress) (a .speed) amount leg)) (p .flies u);
-          along = λ u. within-kept (a .progress) leg (leg-legal legs l z (pass u)) (p .speeds) r (p .along u);
+          waited = waited-kept-up-to longestOwnLegMiles (lit< tt) (a .progress) (a .leg) (a .waited) legal (p .speeds) r (p .along e) (p .waited);
+          own = p .own;
+          flies = λ u. subst (λ (b : Bool). T (not b)) (sym (waiting-kept (a .progress) (a .speed) amount (a .leg))) (p .flies u);
+          along = λ u. within-kept-up-to longestOwnLegMiles (lit< tt) (a .progress) (a .leg) legal (p .speeds) r (p .along u);
           waits = λ u. absurd (true≢false (sym e ∙ u));
         })
 
@@ -231,7 +230,7 @@ g-ticked f amount r t =
     fit-ticked : T (legalLegs (f .legs)) → (z : ℕ) → T (fitIn f z) → T (fitIn (ticked f amount) z)
     fit-ticked legal z u =
         subst (λ (l : List Aircraft). T (every (fitsZone (f .legs) z) l)) (sym (queue-ticked f amount z))
-        (every-then (fitsZone (f .legs) z) (fitsZone (f .legs) z) (tickedAt (f .legs) amount z) (fits-ticked (f .legs) amount z legal r) (inZone f z) u)
+        (every-then (fitsZone (f .legs) z) (fitsZone (f .legs) z) (tickedAt amount z) (fits-ticked (f .legs) amount z legal r) (inZone f z) u)
 
 -- Advancing every flying aircraft by a tick of 1 to `longestTick` keeps the bounds.
 pub within-ticked : (f : Field) (amount : ℕ) → Between 1 longestTick amount → T (withinBounds f) → T (withinBounds (ticked f amount))

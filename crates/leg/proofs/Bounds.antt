@@ -21,13 +21,13 @@ use Rattle.leg.proofs.Grid.{whole-value, sixtyFourths-value, parts, par
 
 -- ---- a leg from 1/64 of a mile to a bound is finite and above zero
 module _ (most : ℕ) (few : most < 2 ^ 41) (leg : Float) (l : T (legUpTo most leg)) where
-  at-least : T (le (sixtyFourths 1) leg)
+  pub at-least : T (le (sixtyFourths 1) leg)
   at-least = and-l (le (sixtyFourths 1) leg) (le leg (whole most)) l
 
   pub at-most : T (le leg (whole most))
   at-most = and-r (le (sixtyFourths 1) leg) (le leg (whole most)) l
 
-  least-value : HasValue (sixtyFourths 1) false 1 64
+  pub least-value : HasValue (sixtyFourths 1) false 1 64
   least-value = sixtyFourths-value 1 (lit< tt)
 
   most-value : HasValue (whole most) false most 1
@@ -48,7 +48,7 @@ module _ (most : ℕ) (few : most < 2 ^ 41) (leg : Float) (l : T (legUpTo most l
   leg-positive = between (sixtyFourths 1) leg (whole most) least-positive most-positive at-least at-most
 
   -- what the leg is as a fraction, at most the bound
-  leg-small : num leg * 1 ≤ most * den leg
+  pub leg-small : num leg * 1 ≤ most * den leg
   leg-small = values-of-le leg (whole most) (num leg) (den leg) most 1 leg-positive most-positive (own-value leg leg-positive) most-value at-most
 
 pub zero-under : (leg : Float) → T (positive leg) → T (le (whole 0) leg)
@@ -92,17 +92,17 @@ flying-within miles leg {speed} {amount} p s a w =
     and-i (le (whole 0) (advanced miles speed amount leg)) (le (advanced miles speed amount leg) leg) (kept .0) (kept .1)
 
 -- ---- the end of the leg is not left
-eq-worth : (miles leg : Float) → T (positive leg) → T (eq miles leg) → Worth miles (num leg) (den leg)
+pub eq-value : (miles leg : Float) → T (positive leg) → T (eq miles leg) → HasValue miles false (num leg) (den leg)
 unfolding eq
-eq-worth nan leg p h = absurd h
-eq-worth (inf s) nan p h = absurd h
-eq-worth (inf s) (inf t) p h = absurd p
-eq-worth (inf s) (fin t n d) p h = absurd h
-eq-worth (fin s m e) nan p h = absurd h
-eq-worth (fin s m e) (inf t) p h = absurd h
-eq-worth (fin s m e) (fin true n d) p h = absurd p
-eq-worth (fin false m e) (fin false n d) p h = eqb→eq (m * up e * down d) (n * up d * down e) (and-l (eqb (m * up e * down d) (n * up d * down e)) true h)
-eq-worth (fin true m e) (fin false n d) p h =
+eq-value nan leg p h = absurd h
+eq-value (inf s) nan p h = absurd h
+eq-value (inf s) (inf t) p h = absurd p
+eq-value (inf s) (fin t n d) p h = absurd h
+eq-value (fin s m e) nan p h = absurd h
+eq-value (fin s m e) (inf t) p h = absurd h
+eq-value (fin s m e) (fin true n d) p h = absurd p
+eq-value (fin false m e) (fin false n d) p h = (refl, eqb→eq (m * up e * down d) (n * up d * down e) (and-l (eqb (m * up e * down d) (n * up d * down e)) true h))
+eq-value (fin true m e) (fin false n d) p h =
     let a = m * up e * down d in
     let b = n * up d * down e in
     absurd (lt-irrefl 0 (subst (λ (z : ℕ). 0 < z) (sym (eqb→eq a b (and-l (eqb a b) (eqb a 0) h)) ∙ eqb→eq a 0 (and-r (eqb a b) (eqb a 0) h)) (mul-pos (mul-pos (ltb→lt 0 n p) (up-pos d)) (down-pos e))))
@@ -140,5 +140,5 @@ end-kept most few miles leg {speed} {amount} l s a h =
     let small : g < 2 ^ 53 = past-small most b c few (leg-small most few leg l) in
     let low : T (le leg (parts g)) = le-of-values leg (parts g) b c g 4096 C (lit< tt) (own-value leg p) (parts-value g small) (past-low b c C) in
     let high : T (le (parts g) (round binary64 false sum (c * 4096))) = round-mono binary64 g 4096 sum (c * 4096) (lit< tt) (mul-pos C (lit< tt)) (past-high b c (speed * amount) (step-pos s a)) in
-    advanced-is s a miles leg b c C (eq-worth miles leg p h)
+    advanced-is s a miles leg b c C (value→worth miles b c (eq-value miles leg p h))
     ∙ upTo-no leg (round binary64 false sum (c * 4096)) (lt-false (round binary64 false sum (c * 4096)) leg p (le-up leg (parts g) (round binary64 false sum (c * 4096)) p low high))

@@ -39,7 +39,7 @@ pub whole-value : (n : ℕ) → n ≤ 2 ^ 53 → HasValue (whole n) false n 1
 unfolding ofInt
 whole-value n h = round-whole binary64 false n h
 
-sixtyFourths-is : (n : ℕ) → n < 2 ^ 53 → sixtyFourths n ≡ round binary64 false n 64
+pub sixtyFourths-is : (n : ℕ) → n < 2 ^ 53 → sixtyFourths n ≡ round binary64 false n 64
 sixtyFourths-is n h =
     div-at binary64 (whole n) (whole 64) n 1 64 1 (lit< tt) (lit< tt) (lit< tt) (whole-value n (le-of-lt h)) (whole-value 64 (lit≤ tt))
     ∙ ap (λ (z : ℕ). round binary64 false z 64) (mul-one n)

@@ -23,10 +23,10 @@ use Rattle.leg.proofs.Grid.{whole-value, parts, parts-value, upTo-grid,
 use Rattle.leg.proofs.Bounds.{miles-worth, clamped, zero-least}
 
 -- ---- numbers without a minus sign, an infinity included
-abbrev Above : Float → Type 0
+abbrev pub Above : Float → Type 0
 Above x = (x ≡ inf false) ⊎ ((n : ℕ) × (d : ℕ) × (0 < d) × HasValue x false n d)
 
-rounded : (a c : ℕ) → 0 < c → Above (round binary64 false a c)
+pub rounded : (a c : ℕ) → 0 < c → Above (round binary64 false a c)
 unfolding le ofInt
 rounded a c C = go (round binary64 false a c) refl
   where

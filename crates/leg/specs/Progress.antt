@@ -4,7 +4,7 @@ use Prim.Native.Nat.{ℕ}
 use mathlib.Core.Bool.{Bool, true, false, cond, _&&_}
 use lib.IntN.{pos}
 use lib.Ieee.{Float, binary64, add, sub, mul, div, ofInt, lt, le, eq}
-use Rattle.limits.specs.Limits.{longestLegMiles, mostWaited}
+use Rattle.limits.specs.Limits.{longestLegMiles, longestOwnLegMiles, mostWaited}
 use Rattle.leg.specs.declared.Progress.{Progress}
 use Rattle.leg.specs.declared.Advanced.{Advanced}
 use Rattle.leg.specs.declared.Progress.the-variants.{Waiting, Flying}
@@ -68,6 +68,15 @@ abbrev pub flownOut : Progress → Float → Bool
 flownOut Waiting leg = false
 flownOut (Flying miles) leg = eq miles leg
 
+-- "what was left" of a leg: its length less the miles flown, "the difference rounded once" (02, 2.7); all of it for one that waits, with no miles flown
+abbrev pub remaining : Progress → Float → Float
+remaining Waiting leg = leg
+remaining (Flying miles) leg = sub binary64 leg miles
+
+-- "the missed leg plus what was left of final", "the sum rounded once" (02, 2.7): the leg ahead on a miss, with this progress on this leg of final
+unfoldable pub missedLeg : Float → Progress → Float → Float
+missedLeg missed p last = add binary64 missed (remaining p last)
+
 -- "miles compare between 0 and the leg"
 abbrev pub withinLeg : Progress → Float → Bool
 withinLeg Waiting leg = true
@@ -80,3 +89,7 @@ legUpTo most leg = le (sixtyFourths 1) leg && le leg (whole most)
 -- "legs compare between 1/64 and 64 miles"
 abbrev pub legalLeg : Float → Bool
 legalLeg leg = legUpTo longestLegMiles leg
+
+-- "1/64 to 128 miles in zones 7 and 8", of an aircraft's own leg (02, 2.7)
+abbrev pub legalMissedLeg : Float → Bool
+legalMissedLeg leg = legUpTo longestOwnLegMiles leg

@@ -1,9 +1,10 @@
 // An aircraft's progress along one leg, in miles as an `f64`. A tick of `amount` 64ths of a minute at
 // `speed` 64ths of a mile a minute adds (speed / 64) * (amount / 64) miles, and stops at the leg's length.
 // Every function is total: on every `u16`, and on every `f64`, NaN and the infinities included.
+use limits::LONGEST_OWN_LEG;
 use limits::MOST_WAITED;
 ghost use mathlib.Core.Path.{_≡_};
-ghost use Rattle.leg.specs.Progress.{upTo, beyond, advancing, waitedAfter, waitedWithin, flownOut, withinLeg, legalLeg, sixtyFourths};
+ghost use Rattle.leg.specs.Progress.{upTo, beyond, advancing, waitedAfter, waitedWithin, flownOut, remaining, missedLeg, withinLeg, legalLeg, legalMissedLeg, sixtyFourths};
 
 // Document 01's progress: waiting, or flying with the miles flown on this leg.
 pub enum Progress {
@@ -71,6 +72,23 @@ pub fn flown_out(p: Progress, leg: f64) -> bool
     }
 }
 
+// What is left of the leg, the difference rounded once; all of it for one that waits.
+pub fn remaining(p: Progress, leg: f64) -> f64
+    ensures { λ r. ⌜ r ≡ remaining p leg ⌝ }
+{
+    match p {
+        Progress::Waiting => leg,
+        Progress::Flying(miles) => leg - miles,
+    }
+}
+
+// The leg ahead on a miss: the missed leg and what is left of the last one, the sum rounded once.
+pub fn missed_leg(missed: f64, p: Progress, last: f64) -> f64
+    ensures { λ r. ⌜ r ≡ missedLeg missed p last ⌝ }
+{
+    missed + remaining(p, last)
+}
+
 // Whether the miles flown, if any, lie from 0 to the leg's length.
 pub fn within(p: Progress, leg: f64) -> bool
     ensures { λ r. ⌜ r ≡ withinLeg p leg ⌝ }
@@ -86,6 +104,17 @@ pub fn legal(leg: f64) -> bool
     ensures { λ r. ⌜ r ≡ legalLeg leg ⌝ }
 {
     if 0.015625 <= leg { leg <= 64.0 } else { false }
+}
+
+// Whether the leg ahead after a miss is from 1/64 of a mile to the longest.
+pub fn legal_missed(leg: f64) -> bool
+    ensures { λ r. ⌜ r ≡ legalMissedLeg leg ⌝ }
+{
+    if 0.015625 <= leg {
+        leg <= LONGEST_OWN_LEG
+    } else {
+        false
+    }
 }
 
 // A leg of k 64ths of a mile.

@@ -1,6 +1,7 @@
 // Writes a line for each of some combinations of leg, speed, miles at the start and four tick amounts:
 // the leg, the speed, the start and the miles waited before, then each amount with the miles after that tick, those past the leg's end and the
-// miles waited, then 1 where the leg is flown out, else 0.
+// miles waited, then 1 where the leg is flown out, else 0. Then a line for each of some misses: the missed leg, the leg of final, the miles
+// flown of it, and the leg ahead.
 // Miles are the 16 hexadecimal digits of the `f64`'s bit pattern, other numbers decimal. Where the start is not within the leg there is no line.
 use leg::Progress;
 use libc::STDOUT_FILENO;
@@ -124,9 +125,36 @@ fn combination(i: usize) {
     }
 }
 
-// Writes the lines of all combinations.
-fn main() {
+// Writes the line of miss i: the miles flown change first, then the leg of final, then the missed leg.
+fn miss(i: usize) {
+    let missed = length_of(i / 78);
+    let last = length_of(i / 6 % 13);
+    let p = Progress::Flying(start_of(i % 6, last));
+    if leg::within(p, last) {
+        print_miles(missed);
+        print_next(last);
+        print_next(start_of(i % 6, last));
+        print_next(leg::missed_leg(missed, p, last));
+        io::write_all(STDOUT_FILENO, b"\n");
+    }
+}
+
+// Writes the lines of all combinations of ticks.
+fn combinations() {
     for i in 0..936 {
         combination(i);
     }
+}
+
+// Writes the lines of all misses.
+fn misses() {
+    for i in 0..1014 {
+        miss(i);
+    }
+}
+
+// Writes all lines.
+fn main() {
+    combinations();
+    misses();
 }

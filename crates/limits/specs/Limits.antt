@@ -17,6 +17,10 @@ longestLeg = 4096
 abbrev pub longestLegMiles : ℕ
 longestLegMiles = 64
 
+-- bound g's "1/64 to 128 miles in zones 7 and 8" (02, 2.7): the longest leg of an aircraft's own, in miles, the missed leg and the whole of final
+abbrev pub longestOwnLegMiles : ℕ
+longestOwnLegMiles = 128
+
 -- "n a multiple of 6 up to 24,576", of "6 bytes each" ("The practice file"): the most requests of a practice file
 abbrev pub mostRequests : ℕ
 mostRequests = 4096
@@ -29,10 +33,10 @@ mostMoves = 29
 abbrev pub mostWaited : ℕ
 mostWaited = 4096
 
--- the most ticks of `longestTick` after which every leg is flown out: the longest leg at the lowest speed (02, 2.6)
+-- the most ticks of `longestTick` after which every leg is flown out: the longest of an aircraft's own at the lowest speed (02, 2.6 and 2.7)
 abbrev pub mostTicks : ℕ
-mostTicks = 4096
+mostTicks = 8192
 
--- the presses by which the button empties every field that requests reach: as many moves as there can be, each after as many ticks (02, 2.6)
+-- the presses by which the button empties every field that requests reach: as many moves as there can be, each after as many ticks (02, 2.6 and 2.7)
 abbrev pub mostPresses : ℕ
 mostPresses = mostMoves * (mostTicks + 1)

@@ -9,6 +9,9 @@ pub const FASTEST: u16 = 512;
 // The longest leg of a practice file, in 64ths of a mile.
 pub const LONGEST_LEG: u16 = 4096;
 
+// The longest leg of an aircraft's own, in miles.
+pub const LONGEST_OWN_LEG: f64 = 128.0;
+
 // The most miles past the ends of legs that are added up of an aircraft.
 pub const MOST_WAITED: f64 = 4096.0;
 
@@ -16,7 +19,7 @@ pub const MOST_WAITED: f64 = 4096.0;
 pub const MOST_MOVES: usize = 29;
 
 // The most ticks of the longest kind after which every leg is flown out.
-pub const MOST_TICKS: usize = 4096;
+pub const MOST_TICKS: usize = 8192;
 
 // The presses by which the button empties every field that requests reach.
 pub const MOST_PRESSES: usize = MOST_MOVES * (MOST_TICKS + 1);

@@ -18,8 +18,9 @@ use Rattle.order.proofs.Facts.{okay-length, okay-zones, moves}
 use Rattle.rules.specs.Kinds.{moved}
 use Rattle.rules.specs.Step.{effectOf}
 use Rattle.rules.specs.Play.{addsMoves}
+use Rattle.field.proofs.Lists.{or-false-left}
 use Rattle.field.proofs.Tests.{failed}
-use Rattle.field.proofs.Arrival.{number-arrived, fix-arrived}
+use Rattle.field.proofs.Arrival.{into-arrived}
 use Rattle.laws.proofs.Fits.{arrived-fits}
 use Rattle.line.proofs.Lists.{map-append}
 use Rattle.line.proofs.Line.{Placed, zonesIn, inside, fieldOf}
@@ -49,13 +50,13 @@ pub record After (f : Side) (line : List Placed) (runway : List Aircraft) (legs 
   pub orderly : Orderly first-after line-after runway-after legs
   pub balance : length line-after + length runway-after + one (leaves (r .kind)) ≡ length line + length runway + one (isEntry (r .kind))
   pub lighter : addsMoves (r .kind) ≡ false → weightOf line-after runway-after + one (within 3 11 (r .kind)) ≤ weightOf line runway
-  pub carried : (r .kind ≡ 12 → ⊥) → Carried r line runway line-after runway-after
-  pub ticked-on : r .kind ≡ 12 → line-after ≡ map (tickPlaced legs (r .amount)) line
+  pub carried : (r .kind ≡ 12 → ⊥) → Carried legs r line runway line-after runway-after
+  pub ticked-on : r .kind ≡ 12 → line-after ≡ map (tickPlaced (r .amount)) line
   pub runway-on : r .kind ≡ 12 → runway-after ≡ runway
 
--- a kind that moves an aircraft from zone to zone: no entry, no taxi, no exit
+-- a kind that moves an aircraft from zone to zone: no entry, no taxi, no exit, no miss
 abbrev pub staysOn : ℕ → Bool
-staysOn kind = not (leaves kind) && not (isEntry kind)
+staysOn kind = not (leaves kind) && not (addsMoves kind)
 
 pub one-le : (b : Bool) → one b ≤ 1
 one-le true = omega arith
@@ -98,11 +99,11 @@ module _ (f : Side) (a : List Placed) (e : Placed) (b : List Placed) (runway : L
           room = room-for;
         }
 
-    pub moved-is : moved (fieldOf f (a ++ e ∷ b) runway legs) (e .zone) w ≡ fieldOf f (a ++ into w e ∷ b) runway legs
+    pub moved-is : moved (fieldOf f (a ++ e ∷ b) runway legs) (e .zone) w ≡ fieldOf f (a ++ into legs w e ∷ b) runway legs
     moved-is = moved-line f a e b runway legs w may-move (o .different)
 
-    pub moved-orderly : Orderly f (a ++ into w e ∷ b) runway legs
-    moved-orderly = changed f a e (into w e) b runway legs o (okay-joined f a (into w e) b after) (number-arrived w (e .aircraft)) (fix-arrived w (e .aircraft)) (arrived-fits legs (o .legal) (e .zone) w (e .aircraft) fit-here)
+    pub moved-orderly : Orderly f (a ++ into legs w e ∷ b) runway legs
+    moved-orderly = changed f a e (into legs w e) b runway legs o (okay-joined f a (into legs w e) b after) (into-arrived legs w (e .aircraft) .number) (into-arrived legs w (e .aircraft) .fix) (arrived-fits legs (o .legal) (e .zone) w (e .aircraft) fit-here)
 
   -- a move of the model's, as a request's effect
   pub line-move : (k : Kind) (r : Request) → T (free (zonesIn a) (e .zone)) → T (needs k (zonesIn a) (e .zone) (zonesIn b))
@@ -113,25 +114,25 @@ module _ (f : Side) (a : List Placed) (e : Placed) (b : List Placed) (runway : L
       let m = moves k f (zonesIn a) (e .zone) (zonesIn b) (okay-split f a e b (o .okay-line)) heads n in
       record {
         first-after = f;
-        line-after = a ++ into w e ∷ b;
+        line-after = a ++ into legs w e ∷ b;
         runway-after = runway;
         effect = eff ∙ moved-is w heads (m .none-behind) (m .other) (m .inside) (m .okay-after);
         orderly = moved-orderly w heads (m .none-behind) (m .other) (m .inside) (m .okay-after);
-        balance = stay-balance r s (same-length a (into w e) e b);
+        balance = stay-balance r s (same-length a (into legs w e) e b);
         lighter =
             λ h.
             let p = ap weight (zones-split a e b) in
-            let q = ap weight (zones-split a (into w e) b) in
+            let q = ap weight (zones-split a (into legs w e) b) in
             let l = m .lighter in
             let u = one-le (within 3 11 (r .kind)) in
             omega arith;
-        carried = λ h. carried-one r a e (into w e) b runway (o .different) named (failed (and-r (not (leaves (r .kind))) (not (isEntry (r .kind))) s)) (onward-into w e);
+        carried = λ h. carried-one legs r a e (into legs w e) b runway (o .different) named (failed (and-r (not (leaves (r .kind))) (not (addsMoves (r .kind))) s)) (onward-into legs w e);
         ticked-on = λ h. absurd (tick h);
         runway-on = λ h. absurd (tick h);
       }
     where
       stay-balance : (r : Request) → T (staysOn (r .kind)) → {m n : ℕ} → m ≡ n → m + length runway + one (leaves (r .kind)) ≡ n + length runway + one (isEntry (r .kind))
       stay-balance r s e =
-          let p = not-one (leaves (r .kind)) (and-l (not (leaves (r .kind))) (not (isEntry (r .kind))) s) in
-          let q = not-one (isEntry (r .kind)) (and-r (not (leaves (r .kind))) (not (isEntry (r .kind))) s) in
+          let p = not-one (leaves (r .kind)) (and-l (not (leaves (r .kind))) (not (addsMoves (r .kind))) s) in
+          let q = ap one (or-false-left (isEntry (r .kind)) (eqb (r .kind) 10) (failed (and-r (not (leaves (r .kind))) (not (addsMoves (r .kind))) s))) in
           omega arith

@@ -14,15 +14,16 @@ use Rattle.leg.specs.Ticks.{Between}
 use Rattle.field.specs.declared.Aircraft.{Aircraft}
 use Rattle.field.specs.declared.Legs.{Legs}
 use Rattle.field.specs.declared.Field.{Field}
-use Rattle.field.specs.Boxes.{isFlyingZone, missed, entering, arrived, withFix}
+use Rattle.field.specs.Boxes.{isFlyingZone, missed, entering, arrived, turnedAway, withFix}
 use Rattle.field.specs.Lists.{isIn, every}
-use Rattle.order.specs.Model.{Side, opp, num, okay, firstFix, weight, one}
+use Rattle.bounds.specs.Bounds.{fitsZone}
+use Rattle.order.specs.Model.{Side, right, left, opp, num, okay, firstFix, weight, one}
 use Rattle.order.proofs.Facts.{okay-length, first-leaves, misses, exit-lighter, landing-lighter}
 use Rattle.rules.specs.Step.{effectOf}
 use Rattle.rules.specs.Kinds.{entered}
 use Rattle.rules.specs.Play.{addsMoves}
-use Rattle.field.proofs.Arrival.{number-arrived}
-use Rattle.laws.proofs.Fits.{arrived-fits, refixed-fits, entering-fits}
+use Rattle.field.proofs.Arrival.{into-arrived, into-turned-away}
+use Rattle.laws.proofs.Fits.{arrived-fits, turned-away-fits, refixed-fits, entering-fits}
 use Rattle.field.proofs.Tests.{passed, failed, fail}
 use Rattle.field.proofs.Lists.{absent-left, absent-right}
 use Rattle.line.proofs.Line.{Placed, zonesIn, numbersOf, fieldOf}
@@ -33,9 +34,14 @@ use Rattle.moves.proofs.Leaves.{taxied, first-exits, first-lands}
 use Rattle.moves.proofs.Enters.{entryFix, entrant, enters, misser, misses-approach}
 use Rattle.moves.proofs.Ticking.{tickPlaced, ticks, zones-same}
 use Rattle.moves.proofs.Kept.{side-fits, first-gone, landed-on, runway-left, come, ticked-orderly}
-use Rattle.moves.proofs.Carried.{Each, each-append, onRunway, Onward, onward-into, Entered, Came, went, came-in, stay-all, stay-runway, apart-in}
+use Rattle.moves.proofs.Carried.{Each, each-append, onRunway, onward-into, Turned, Entered, Came, went, turned, came-in, stay-all, stay-runway, apart-in}
 use Rattle.moves.proofs.After.{After, leaves, one-le, zone-in, room-for, fit-here}
 use Rattle.rules.proofs.Checks.{effect-at}
+
+-- ---- the missed zone of a side
+missed-zone : (f : Side) → (eqb (missed (num f)) 7 || eqb (missed (num f)) 8) ≡ true
+missed-zone right = refl
+missed-zone left = refl
 
 -- ---- the first of the line leaves the sequence
 module _ (f : Side) (e : Placed) (b : List Placed) (runway : List Aircraft) (legs : Legs) (o : Orderly f (e ∷ b) runway legs) (r : Request) (named : r .number ≡ e .aircraft .number) where
@@ -52,11 +58,11 @@ module _ (f : Side) (e : Placed) (b : List Placed) (runway : List Aircraft) (leg
   behind-absent : isIn (r .number) (numbersOf b ++ numbers runway) ≡ false
   behind-absent = ap (λ (m : ℕ). isIn m (numbersOf b ++ numbers runway)) named ∙ apart-in [] e b runway (o .different) .behind
 
-  behind-all : (Q : Placed → Type 0) → Each Q (e ∷ b) → Each (Came r Q) b
-  behind-all Q p = stay-all r Q b (absent-left (r .number) (numbersOf b) (numbers runway) behind-absent) (p .1)
+  behind-all : (Q : Placed → Type 0) → Each Q (e ∷ b) → Each (Came legs r Q) b
+  behind-all Q p = stay-all legs r Q b (absent-left (r .number) (numbersOf b) (numbers runway) behind-absent) (p .1)
 
-  runway-all : (Q : Placed → Type 0) → Each Q (map onRunway runway) → Each (Came r Q) (map onRunway runway)
-  runway-all Q = stay-runway r Q runway (absent-right (r .number) (numbersOf b) (numbers runway) behind-absent)
+  runway-all : (Q : Placed → Type 0) → Each Q (map onRunway runway) → Each (Came legs r Q) (map onRunway runway)
+  runway-all Q = stay-runway legs r Q runway (absent-right (r .number) (numbersOf b) (numbers runway) behind-absent)
 
   -- kind 9
   pub after-9 : r .kind ≡ 9 → e .zone ≡ 11 → After f (e ∷ b) runway legs r
@@ -83,7 +89,7 @@ module _ (f : Side) (e : Placed) (b : List Placed) (runway : List Aircraft) (leg
       let g = misser f e b runway legs r z room fix named (o .different) in
       let al = apart-in [] e b runway (o .different) in
       let gone = first-gone f e b runway legs o rest-okay in
-      let same = number-arrived w (e .aircraft) in
+      let same = into-turned-away legs w (e .aircraft) .number in
       record {
         first-after = firstFix f (opp f) (zonesIn b);
         line-after = b ++ (g ∷ []);
@@ -93,13 +99,13 @@ module _ (f : Side) (e : Placed) (b : List Placed) (runway : List Aircraft) (leg
             come f (opp f) b g runway legs gone (misses f (zonesIn b) (subst (λ (v : ℕ). T (okay f (v ∷ zonesIn b))) z (o .okay-line))) refl
             (subst (λ (n : ℕ). T (nonzero n)) (sym same) (and-l (nonzero (e .aircraft .number)) (every nonzero (numbersOf b ++ numbers runway)) (o .nonzeros)))
             (ap (λ (n : ℕ). isIn n (numbersOf b ++ numbers runway)) same ∙ al .behind)
-            (refixed-fits legs w (num (entryFix f (opp f) (zonesIn b))) (arrived w (e .aircraft)) (side-fits (entryFix f (opp f) (zonesIn b))) (arrived-fits legs (o .legal) (e .zone) w (e .aircraft) (fit-here f [] e b runway legs o)));
+            (refixed-fits legs w (num (entryFix f (opp f) (zonesIn b))) (turnedAway legs w (e .aircraft)) (side-fits (entryFix f (opp f) (zonesIn b))) (turned-away-fits legs (o .legal) w (e .aircraft) (missed-zone f) (subst (λ (v : ℕ). T (fitsZone legs v (e .aircraft))) z (fit-here f [] e b runway legs o))));
         balance = let p = length-append b (g ∷ []) in subst (λ (k : ℕ). length (b ++ (g ∷ [])) + length runway + one (leaves k) ≡ suc (length b) + length runway + one (isEntry k)) (sym h) (omega arith);
         lighter = λ u. absurd (true≢false (ap addsMoves (sym h) ∙ u));
         carried =
-            let on = onward-into w e in
-            let to : Onward e g = record { same-number = on .same-number; same-speed = on .same-speed; same-waited = on .same-waited; begins = on .begins } in
-            λ u. record { carry = λ Q p q. (each-append (Came r Q) b (g ∷ []) (behind-all Q p) (went e (p .0) to (sym named) (ap isEntry h), tt), runway-all Q q) };
+            let i = into-turned-away legs w (e .aircraft) in
+            let to : Turned legs e g = record { turned-number = i .number; turned-speed = i .speed; turned-waited = i .waited; begins-anew = i .progress; from-final = z; to-missed = missed-zone f; leg-ahead = i .leg-is } in
+            λ u. record { carry = λ Q p q. (each-append (Came legs r Q) b (g ∷ []) (behind-all Q p) (turned e (p .0) to (sym named) h, tt), runway-all Q q) };
         ticked-on = λ u. absurd (let n : 12 ≡ 10 = sym u ∙ h in omega arith);
         runway-on = λ u. absurd (let n : 12 ≡ 10 = sym u ∙ h in omega arith);
       }
@@ -107,8 +113,8 @@ module _ (f : Side) (e : Placed) (b : List Placed) (runway : List Aircraft) (leg
 -- kind 7
 pub after-7 : (f : Side) (e : Placed) (b : List Placed) (legs : Legs) (o : Orderly f (e ∷ b) [] legs) (r : Request) → r .number ≡ e .aircraft .number → r .kind ≡ 7 → e .zone ≡ 12 → After f (e ∷ b) [] legs r
 after-7 f e b legs o r named h z =
-    let x = arrived 13 (e .aircraft) in
-    let same = number-arrived 13 (e .aircraft) in
+    let x = arrived legs 13 (e .aircraft) in
+    let same = into-arrived legs 13 (e .aircraft) .number in
     let n = e .aircraft .number in
     let al = apart-in [] e b [] (o .different) in
     record {
@@ -122,7 +128,7 @@ after-7 f e b legs o r named h z =
           (arrived-fits legs (o .legal) (e .zone) 13 (e .aircraft) (fit-here f [] e b [] legs o));
       balance = subst (λ (k : ℕ). length b + 1 + one (leaves k) ≡ suc (length b) + 0 + one (isEntry k)) (sym h) (omega arith);
       lighter = λ u. let w = landing-lighter f (e .zone) (zonesIn b) z (o .okay-line) in let y = one-le (within 3 11 (r .kind)) in omega arith;
-      carried = λ u. record { carry = λ Q p q. (behind-all f e b [] legs o r named Q p, (went e (p .0) (onward-into 13 e) (sym named) (ap isEntry h), tt)) };
+      carried = λ u. record { carry = λ Q p q. (behind-all f e b [] legs o r named Q p, (went e (p .0) (onward-into legs 13 e) (sym named) (ap addsMoves h), tt)) };
       ticked-on = λ u. absurd (let n : 12 ≡ 7 = sym u ∙ h in omega arith);
       runway-on = λ u. absurd (let n : 12 ≡ 7 = sym u ∙ h in omega arith);
     }
@@ -138,7 +144,7 @@ after-8 f line x legs o r named h =
       orderly = runway-left f line (x ∷ []) legs o;
       balance = subst (λ (k : ℕ). length line + 0 + one (leaves k) ≡ length line + 1 + one (isEntry k)) (sym h) (omega arith);
       lighter = λ u. let y = one-le (within 3 11 (r .kind)) in omega arith;
-      carried = λ u. record { carry = λ Q p q. (stay-all r Q line (ap (λ (m : ℕ). isIn m (numbersOf line)) named ∙ not-in-line) p, tt) };
+      carried = λ u. record { carry = λ Q p q. (stay-all legs r Q line (ap (λ (m : ℕ). isIn m (numbersOf line)) named ∙ not-in-line) p, tt) };
       ticked-on = λ u. absurd (let n : 12 ≡ 8 = sym u ∙ h in omega arith);
       runway-on = λ u. absurd (let n : 12 ≡ 8 = sym u ∙ h in omega arith);
     }
@@ -168,12 +174,12 @@ after-entry s f line runway legs o r w t u side kind eff k n d fast tick stays =
           omega arith;
       lighter = λ v. absurd (true≢false (sym (adds kind) ∙ v));
       carried =
-          let new : Entered r e = record { an-entry = passed {b = isEntry (r .kind)} kind; new-number = refl; new-speed = refl; none-waited = refl; not-flown = failed {b = isFlyingZone w} u } in
+          let new : Entered r e = record { an-entry = passed {b = isEntry (r .kind)} kind; new-number = refl; new-speed = refl; none-waited = refl; no-leg = refl; not-flown = failed {b = isFlyingZone w} u } in
           λ v.
           record {
             carry =
                 λ Q p q.
-                (each-append (Came r Q) line (e ∷ []) (stay-all r Q line (absent-left (r .number) (numbersOf line) (numbers runway) d) p) (came-in new, tt), stay-runway r Q runway (absent-right (r .number) (numbersOf line) (numbers runway) d) q);
+                (each-append (Came legs r Q) line (e ∷ []) (stay-all legs r Q line (absent-left (r .number) (numbersOf line) (numbers runway) d) p) (came-in new, tt), stay-runway legs r Q runway (absent-right (r .number) (numbersOf line) (numbers runway) d) q);
           };
       ticked-on = λ v. absurd (tick v);
       runway-on = λ v. absurd (tick v);
@@ -188,18 +194,18 @@ after-12 f line runway legs o r h amount =
     let four = let p = okay-length f (zonesIn line) (o .okay-line) in let q = length-zones line in let g : length line ≤ 4 = omega arith in g in
     record {
       first-after = f;
-      line-after = map (tickPlaced legs (r .amount)) line;
+      line-after = map (tickPlaced (r .amount)) line;
       runway-after = runway;
-      effect = effect-at (fieldOf f line runway legs) r h ∙ ticks legs (r .amount) f line runway four;
+      effect = effect-at (fieldOf f line runway legs) r h ∙ ticks (r .amount) f line runway legs four;
       orderly = ticked-orderly f line runway legs (r .amount) amount o;
       balance =
           let p = length-zones line in
-          let q = length-zones (map (tickPlaced legs (r .amount)) line) in
-          let v = ap length (zones-same legs (r .amount) line) in
-          subst (λ (k : ℕ). length (map (tickPlaced legs (r .amount)) line) + length runway + one (leaves k) ≡ length line + length runway + one (isEntry k)) (sym h) (omega arith);
+          let q = length-zones (map (tickPlaced (r .amount)) line) in
+          let v = ap length (zones-same (r .amount) line) in
+          subst (λ (k : ℕ). length (map (tickPlaced (r .amount)) line) + length runway + one (leaves k) ≡ length line + length runway + one (isEntry k)) (sym h) (omega arith);
       lighter =
           λ u.
-          let p = ap weight (zones-same legs (r .amount) line) in
+          let p = ap weight (zones-same (r .amount) line) in
           let q : one (within 3 11 (r .kind)) ≡ 0 = ap (λ (k : ℕ). one (within 3 11 k)) h in
           omega arith;
       carried = λ u. absurd (u h);

@@ -1,20 +1,22 @@
 -- Where each one on the field after an accepted request comes from, and what it keeps: those with another number than the request's stay where they are, or go along with a hold or an entry; the one with its
--- number has come into another zone or onto the runway, or has just entered. Assumes nothing.
+-- number has come into another zone or onto the runway, has missed its approach, or has just entered. Assumes nothing.
 use mathlib.Core.Path.{_≡_, refl, sym, ap, _∙_, subst}
 use mathlib.Core.Logic.{_⊎_, inl, inr}
-use mathlib.Core.Bool.{true, false, true≢false}
+use mathlib.Core.Bool.{true, false, _||_, true≢false}
 use mathlib.Core.List.{List, [], _∷_, _++_, map}
 use Prim.Native.Nat.{ℕ}
 use lib.Dec.{T, eqb}
 use borrow.Author.Tests.{eq-eqb}
-use Rattle.leg.specs.Progress.{whole}
+use Rattle.leg.specs.Progress.{whole, missedLeg}
 use Rattle.request.specs.Input.{isEntry}
 use Rattle.request.specs.declared.Request.{Request}
 use Rattle.field.specs.declared.Aircraft.{Aircraft}
-use Rattle.field.specs.Boxes.{isFlyingZone, progressInto}
+use Rattle.field.specs.declared.Legs.{Legs}
+use Rattle.field.specs.Boxes.{right, left, missed, finalApproach, isFlyingZone, legOf, progressInto}
 use Rattle.field.specs.Lists.{isIn, allDifferent}
+use Rattle.rules.specs.Play.{addsMoves}
 use Rattle.field.proofs.Lists.{or-false-left, or-false-right, absent-left, absent-right, Alone, alone}
-use Rattle.field.proofs.Arrival.{number-arrived, speed-arrived, waited-arrived, progress-arrived}
+use Rattle.field.proofs.Arrival.{into-arrived}
 use Rattle.line.proofs.Line.{Placed, numbersOf}
 use Rattle.line.proofs.Located.{numbers-split}
 use Rattle.questions.proofs.FindLaws.{numbers}
@@ -44,14 +46,27 @@ abbrev pub onRunway : Aircraft → Placed
 onRunway a = record { aircraft = a; zone = 13 }
 
 -- e has come into another zone, as g
-pub record Onward (e g : Placed) : Type 0 where
+pub record Onward (legs : Legs) (e g : Placed) : Type 0 where
   pub same-number : g .aircraft .number ≡ e .aircraft .number
   pub same-speed : g .aircraft .speed ≡ e .aircraft .speed
   pub same-waited : g .aircraft .waited ≡ e .aircraft .waited
   pub begins : g .aircraft .progress ≡ progressInto (g .zone)
+  pub leg-is : g .aircraft .leg ≡ legOf legs (g .zone)
 
-pub onward-into : (w : ℕ) (e : Placed) → Onward e (into w e)
-onward-into w e = record { same-number = number-arrived w (e .aircraft); same-speed = speed-arrived w (e .aircraft); same-waited = waited-arrived w (e .aircraft); begins = progress-arrived w (e .aircraft) }
+pub onward-into : (legs : Legs) (w : ℕ) (e : Placed) → Onward legs e (into legs w e)
+onward-into legs w e =
+    let i = into-arrived legs w (e .aircraft) in
+    record { same-number = i .number; same-speed = i .speed; same-waited = i .waited; begins = i .progress; leg-is = i .leg-is }
+
+-- e has missed its approach on final, and is g in a missed zone
+pub record Turned (legs : Legs) (e g : Placed) : Type 0 where
+  pub turned-number : g .aircraft .number ≡ e .aircraft .number
+  pub turned-speed : g .aircraft .speed ≡ e .aircraft .speed
+  pub turned-waited : g .aircraft .waited ≡ e .aircraft .waited
+  pub begins-anew : g .aircraft .progress ≡ progressInto (g .zone)
+  pub from-final : e .zone ≡ finalApproach
+  pub to-missed : (eqb (g .zone) (missed right) || eqb (g .zone) (missed left)) ≡ true
+  pub leg-ahead : g .aircraft .leg ≡ missedLeg (legs .missed) (e .aircraft .progress) (e .aircraft .leg)
 
 -- g has just entered by the request
 pub record Entered (r : Request) (g : Placed) : Type 0 where
@@ -59,28 +74,30 @@ pub record Entered (r : Request) (g : Placed) : Type 0 where
   pub new-number : g .aircraft .number ≡ r .number
   pub new-speed : g .aircraft .speed ≡ r .amount
   pub none-waited : g .aircraft .waited ≡ whole 0
+  pub no-leg : g .aircraft .leg ≡ whole 0
   pub not-flown : isFlyingZone (g .zone) ≡ false
 
 -- where g comes from, where Q held of each one before
-pub data Came (r : Request) (Q : Placed → Type 0) (g : Placed) : Type 0 where
-  stayed : (g .aircraft .number ≡ r .number → ⊥) → Q g → Came r Q g
-  went : (e : Placed) → Q e → Onward e g → e .aircraft .number ≡ r .number → isEntry (r .kind) ≡ false → Came r Q g
-  followed : (e : Placed) → Q e → Onward e g → (e .aircraft .number ≡ r .number → ⊥) → isFlyingZone (e .zone) ≡ false → isFlyingZone (g .zone) ≡ false → Came r Q g
-  came-in : Entered r g → Came r Q g
+pub data Came (legs : Legs) (r : Request) (Q : Placed → Type 0) (g : Placed) : Type 0 where
+  stayed : (g .aircraft .number ≡ r .number → ⊥) → Q g → Came legs r Q g
+  went : (e : Placed) → Q e → Onward legs e g → e .aircraft .number ≡ r .number → addsMoves (r .kind) ≡ false → Came legs r Q g
+  turned : (e : Placed) → Q e → Turned legs e g → e .aircraft .number ≡ r .number → r .kind ≡ 10 → Came legs r Q g
+  followed : (e : Placed) → Q e → Onward legs e g → (e .aircraft .number ≡ r .number → ⊥) → isFlyingZone (e .zone) ≡ false → isFlyingZone (g .zone) ≡ false → Came legs r Q g
+  came-in : Entered r g → Came legs r Q g
 
-pub record Carried (r : Request) (line : List Placed) (runway : List Aircraft) (line-after : List Placed) (runway-after : List Aircraft) : Type 1 where
-  pub carry : (Q : Placed → Type 0) → Each Q line → Each Q (map onRunway runway) → Each (Came r Q) line-after × Each (Came r Q) (map onRunway runway-after)
+pub record Carried (legs : Legs) (r : Request) (line : List Placed) (runway : List Aircraft) (line-after : List Placed) (runway-after : List Aircraft) : Type 1 where
+  pub carry : (Q : Placed → Type 0) → Each Q line → Each Q (map onRunway runway) → Each (Came legs r Q) line-after × Each (Came legs r Q) (map onRunway runway-after)
 
 -- ---- those who stay
-module _ (r : Request) (Q : Placed → Type 0) where
-  pub stay-all : (line : List Placed) → isIn (r .number) (numbersOf line) ≡ false → Each Q line → Each (Came r Q) line
+module _ (legs : Legs) (r : Request) (Q : Placed → Type 0) where
+  pub stay-all : (line : List Placed) → isIn (r .number) (numbersOf line) ≡ false → Each Q line → Each (Came legs r Q) line
   stay-all [] h p = tt
   stay-all (e ∷ line) h p =
       let n = r .number in
       let other = or-false-left (eqb (e .aircraft .number) n) (isIn n (numbersOf line)) h in
       (stayed (λ q. true≢false (sym (eq-eqb (e .aircraft .number) n q) ∙ other)) (p .0), stay-all line (or-false-right (eqb (e .aircraft .number) n) (isIn n (numbersOf line)) h) (p .1))
 
-  pub stay-runway : (runway : List Aircraft) → isIn (r .number) (numbers runway) ≡ false → Each Q (map onRunway runway) → Each (Came r Q) (map onRunway runway)
+  pub stay-runway : (runway : List Aircraft) → isIn (r .number) (numbers runway) ≡ false → Each Q (map onRunway runway) → Each (Came legs r Q) (map onRunway runway)
   stay-runway runway h p = stay-all (map onRunway runway) (ap (isIn (r .number)) (same-numbers runway) ∙ h) p
     where
       same-numbers : (runway : List Aircraft) → numbersOf (map onRunway runway) ≡ numbers runway
@@ -92,24 +109,24 @@ pub apart-in : (a : List Placed) (e : Placed) (b : List Placed) (runway : List A
 apart-in a e b runway d = alone (numbersOf a) (e .aircraft .number) (numbersOf b ++ numbers runway) (subst (λ (l : List ℕ). T (allDifferent l)) (numbers-split a e b (numbers runway)) d)
 
 -- one of the line has come into another zone
-pub carried-one : (r : Request) (a : List Placed) (e g : Placed) (b : List Placed) (runway : List Aircraft) → T (allDifferent (numbersOf (a ++ e ∷ b) ++ numbers runway)) → r .number ≡ e .aircraft .number
-    → isEntry (r .kind) ≡ false → Onward e g → Carried r (a ++ e ∷ b) runway (a ++ g ∷ b) runway
-carried-one r a e g b runway d named k on =
+pub carried-one : (legs : Legs) (r : Request) (a : List Placed) (e g : Placed) (b : List Placed) (runway : List Aircraft) → T (allDifferent (numbersOf (a ++ e ∷ b) ++ numbers runway)) → r .number ≡ e .aircraft .number
+    → addsMoves (r .kind) ≡ false → Onward legs e g → Carried legs r (a ++ e ∷ b) runway (a ++ g ∷ b) runway
+carried-one legs r a e g b runway d named k on =
     let al = apart-in a e b runway d in
     record {
       carry =
           λ Q p q.
           let rest = each-right Q a (e ∷ b) p in (
-            each-append (Came r Q) a (g ∷ b) (stay-all r Q a (ap (λ (m : ℕ). isIn m (numbersOf a)) named ∙ al .ahead) (each-left Q a (e ∷ b) p))
-                (went e (rest .0) on (sym named) k, stay-all r Q b (ap (λ (m : ℕ). isIn m (numbersOf b)) named ∙ absent-left (e .aircraft .number) (numbersOf b) (numbers runway) (al .behind)) (rest .1)),
-            stay-runway r Q runway (ap (λ (m : ℕ). isIn m (numbers runway)) named ∙ absent-right (e .aircraft .number) (numbersOf b) (numbers runway) (al .behind)) q,
+            each-append (Came legs r Q) a (g ∷ b) (stay-all legs r Q a (ap (λ (m : ℕ). isIn m (numbersOf a)) named ∙ al .ahead) (each-left Q a (e ∷ b) p))
+                (went e (rest .0) on (sym named) k, stay-all legs r Q b (ap (λ (m : ℕ). isIn m (numbersOf b)) named ∙ absent-left (e .aircraft .number) (numbersOf b) (numbers runway) (al .behind)) (rest .1)),
+            stay-runway legs r Q runway (ap (λ (m : ℕ). isIn m (numbers runway)) named ∙ absent-right (e .aircraft .number) (numbersOf b) (numbers runway) (al .behind)) q,
           );
     }
 
 -- one with another number than the request's has gone along before that
-pub followed-first : (r : Request) (a : List Placed) (x y : Placed) (b : List Placed) (runway : List Aircraft) (after : List Placed) (left : List Aircraft) → (x .aircraft .number ≡ r .number → ⊥) → Onward x y
-    → isFlyingZone (x .zone) ≡ false → isFlyingZone (y .zone) ≡ false → Carried r (a ++ y ∷ b) runway after left → Carried r (a ++ x ∷ b) runway after left
-followed-first r a x y b runway after left other on from to c =
+pub followed-first : (legs : Legs) (r : Request) (a : List Placed) (x y : Placed) (b : List Placed) (runway : List Aircraft) (after : List Placed) (left : List Aircraft) → (x .aircraft .number ≡ r .number → ⊥) → Onward legs x y
+    → isFlyingZone (x .zone) ≡ false → isFlyingZone (y .zone) ≡ false → Carried legs r (a ++ y ∷ b) runway after left → Carried legs r (a ++ x ∷ b) runway after left
+followed-first legs r a x y b runway after left other on from to c =
     record {
       carry =
           λ Q p q.
@@ -121,24 +138,26 @@ followed-first r a x y b runway after left other on from to c =
   where
     -- Q holds of it, or held before it went along
     First : (Placed → Type 0) → Placed → Type 0
-    First Q g = Q g ⊎ ((e : Placed) × Q e × Onward e g × (e .aircraft .number ≡ r .number → ⊥) × (isFlyingZone (e .zone) ≡ false) × (isFlyingZone (g .zone) ≡ false))
+    First Q g = Q g ⊎ ((e : Placed) × Q e × Onward legs e g × (e .aircraft .number ≡ r .number → ⊥) × (isFlyingZone (e .zone) ≡ false) × (isFlyingZone (g .zone) ≡ false))
 
     firsts : (Q : Placed → Type 0) (l : List Placed) → Each Q l → Each (First Q) l
     firsts Q [] p = tt
     firsts Q (e ∷ l) p = (inl (p .0), firsts Q l (p .1))
 
-    back : (Q : Placed → Type 0) (g : Placed) → Came r (First Q) g → Came r Q g
+    back : (Q : Placed → Type 0) (g : Placed) → Came legs r (First Q) g → Came legs r Q g
     back Q g (stayed n (inl p)) = stayed n p
     back Q g (stayed n (inr v)) = followed (v .0) (v .1) (v .2) (v .3) (v .4) (v .5)
     back Q g (went e (inl p) on n k) = went e p on n k
     back Q g (went e (inr v) on n k) = absurd (v .3 (sym (v .2 .same-number) ∙ n))
+    back Q g (turned e (inl p) on n k) = turned e p on n k
+    back Q g (turned e (inr v) on n k) = absurd (v .3 (sym (v .2 .same-number) ∙ n))
     back Q g (followed e (inl p) on n i j) = followed e p on n i j
     back Q g (followed e (inr v) on n i j) = followed (v .0) (v .1) (joined (v .2) on) (v .3) (v .4) j
       where
-        joined : {x y z : Placed} → Onward x y → Onward y z → Onward x z
-        joined s t = record { same-number = t .same-number ∙ s .same-number; same-speed = t .same-speed ∙ s .same-speed; same-waited = t .same-waited ∙ s .same-waited; begins = t .begins }
+        joined : {x y z : Placed} → Onward legs x y → Onward legs y z → Onward legs x z
+        joined s t = record { same-number = t .same-number ∙ s .same-number; same-speed = t .same-speed ∙ s .same-speed; same-waited = t .same-waited ∙ s .same-waited; begins = t .begins; leg-is = t .leg-is }
     back Q g (came-in n) = came-in n
 
-    backs : (Q : Placed → Type 0) (l : List Placed) → Each (Came r (First Q)) l → Each (Came r Q) l
+    backs : (Q : Placed → Type 0) (l : List Placed) → Each (Came legs r (First Q)) l → Each (Came legs r Q) l
     backs Q [] p = tt
     backs Q (g ∷ l) p = (back Q g (p .0), backs Q l (p .1))

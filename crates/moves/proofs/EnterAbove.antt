@@ -48,7 +48,7 @@ module _ (f : Side) (a : List Placed) (g : Placed) (b : List Placed) (runway : L
 
   -- the line with g at 2000
   abbrev pub lowered : List Placed
-  lowered = a ++ into w g ∷ b
+  lowered = a ++ into legs w g ∷ b
 
   pub lowered-is : descended (fieldOf f (a ++ g ∷ b) runway legs) y ≡ fieldOf f lowered runway legs
   lowered-is = moved-is f a g b runway legs o w heads (down .none-behind) (down .other) (down .inside) (down .okay-after)
@@ -66,9 +66,9 @@ module _ (f : Side) (a : List Placed) (g : Placed) (b : List Placed) (runway : L
         runway-after = x .runway-after;
         effect = eff ∙ x .effect;
         orderly = x .orderly;
-        balance = let p = x .balance in let q = same-length a (into w g) g b in omega arith;
+        balance = let p = x .balance in let q = same-length a (into legs w g) g b in omega arith;
         lighter = λ u. absurd (true≢false (ap addsMoves (sym k) ∙ u));
-        carried = λ u. followed-first r a g (into w g) b runway (x .line-after) (x .runway-after) other (onward-into w g) from to (x .carried u);
+        carried = λ u. followed-first legs r a g (into legs w g) b runway (x .line-after) (x .runway-after) other (onward-into legs w g) from to (x .carried u);
         ticked-on = λ u. absurd (let n : 12 ≡ 1 = sym u ∙ k in omega arith);
         runway-on = λ u. absurd (let n : 12 ≡ 1 = sym u ∙ k in omega arith);
       }

@@ -16,11 +16,12 @@ use Rattle.field.specs.Boxes.{isFlyingZone, sideOf, at3000, at2000}
 use Rattle.field.specs.Lists.{isIn}
 use Rattle.order.specs.Model.{Side, count, free, okay, weight, one}
 use Rattle.order.proofs.Facts.{BothMoved, hold-both}
+use Rattle.rules.specs.Play.{addsMoves}
 use Rattle.rules.specs.Kinds.{moved}
 use Rattle.rules.specs.Step.{effectOf}
 use Rattle.field.proofs.Tests.{pass, failed, zones-imply}
 use Rattle.field.proofs.Lists.{or-false-left, absent-right}
-use Rattle.field.proofs.Arrival.{number-arrived}
+use Rattle.field.proofs.Arrival.{into-arrived}
 use Rattle.line.proofs.Lists.{map-append}
 use Rattle.line.proofs.Line.{Placed, zonesIn, numbersOf, fieldOf}
 use Rattle.line.proofs.Counted.{lower}
@@ -99,24 +100,24 @@ module _ (f : Side) (a : List Placed) (g : Placed) (b : List Placed) (e : Placed
   within-okay : T (okay f (zonesIn a ++ w ∷ zonesIn (b ++ e ∷ c)))
   within-okay = subst (λ (l : List ℕ). T (okay f (zonesIn a ++ w ∷ l))) (sym zones-here) (both .okay-within)
 
-  moved-down : moved F y w ≡ fieldOf f (a ++ into w g ∷ (b ++ e ∷ c)) runway legs
+  moved-down : moved F y w ≡ fieldOf f (a ++ into legs w g ∷ (b ++ e ∷ c)) runway legs
   moved-down = ap (λ (v : ℕ). moved F v w) (sym above) ∙ moved-is f a g (b ++ e ∷ c) runway legs o w g-heads g-behind g-other (both .inside-w) within-okay
 
-  down-orderly : Orderly f (a ++ into w g ∷ (b ++ e ∷ c)) runway legs
+  down-orderly : Orderly f (a ++ into legs w g ∷ (b ++ e ∷ c)) runway legs
   down-orderly = moved-orderly f a g (b ++ e ∷ c) runway legs o w g-heads g-behind g-other (both .inside-w) within-okay
 
   -- the line as seen from e
   abbrev a₂ : List Placed
-  a₂ = a ++ into w g ∷ b
+  a₂ = a ++ into legs w g ∷ b
 
-  regroup : (h : Placed) → a ++ into w g ∷ (b ++ h ∷ c) ≡ a₂ ++ h ∷ c
-  regroup h = sym (append-assoc a (into w g ∷ b) (h ∷ c))
+  regroup : (h : Placed) → a ++ into legs w g ∷ (b ++ h ∷ c) ≡ a₂ ++ h ∷ c
+  regroup h = sym (append-assoc a (into legs w g ∷ b) (h ∷ c))
 
   orderly₂ : Orderly f (a₂ ++ e ∷ c) runway legs
   orderly₂ = subst (λ (l : List Placed). Orderly f l runway legs) (regroup e) down-orderly
 
   zones₂ : zonesIn a₂ ≡ zonesIn a ++ w ∷ zonesIn b
-  zones₂ = zones-split a (into w g) b
+  zones₂ = zones-split a (into legs w g) b
 
   zones-after : zonesIn a₂ ++ y ∷ zonesIn c ≡ zonesIn a ++ w ∷ (zonesIn b ++ y ∷ zonesIn c)
   zones-after = ap (λ (l : List ℕ). l ++ y ∷ zonesIn c) zones₂ ∙ append-assoc (zonesIn a) (w ∷ zonesIn b) (y ∷ zonesIn c)
@@ -127,45 +128,45 @@ module _ (f : Side) (a : List Placed) (g : Placed) (b : List Placed) (e : Placed
   after-okay : T (okay f (zonesIn a₂ ++ y ∷ zonesIn c))
   after-okay = subst (λ (l : List ℕ). T (okay f l)) (sym zones-after) (both .okay-after)
 
-  moved-up : moved (moved F y w) z y ≡ fieldOf f (a₂ ++ into y e ∷ c) runway legs
+  moved-up : moved (moved F y w) z y ≡ fieldOf f (a₂ ++ into legs y e ∷ c) runway legs
   moved-up =
       ap (λ (h : Field). moved h z y) (moved-down ∙ ap (λ (l : List Placed). fieldOf f l runway legs) (regroup e))
       ∙ moved-is f a₂ e c runway legs orderly₂ y e-heads (both .none-behind) (both .apart .1) (both .inside-y) after-okay
 
-  up-orderly : Orderly f (a₂ ++ into y e ∷ c) runway legs
+  up-orderly : Orderly f (a₂ ++ into legs y e ∷ c) runway legs
   up-orderly = moved-orderly f a₂ e c runway legs orderly₂ y e-heads (both .none-behind) (both .apart .1) (both .inside-y) after-okay
 
   -- the one in the missed zone goes to 3000, after the one there has gone to 2000
-  carried-both : r .kind ≡ 11 → Carried r (a ++ g ∷ (b ++ e ∷ c)) runway (a₂ ++ into y e ∷ c) runway
+  carried-both : r .kind ≡ 11 → Carried legs r (a ++ g ∷ (b ++ e ∷ c)) runway (a₂ ++ into legs y e ∷ c) runway
   carried-both h =
       let in-zone = lower z (zone-in f a₂ e c runway legs orderly₂) in
-      let second = carried-one r a₂ e (into y e) c runway (orderly₂ .different) named (ap isEntry h) (onward-into y e) in
-      followed-first r a g (into w g) (b ++ e ∷ c) runway (a₂ ++ into y e ∷ c) runway other (onward-into w g) (ap isFlyingZone above ∙ waits-above z in-zone missed-zone) (waits z in-zone missed-zone)
-      (subst (λ (l : List Placed). Carried r l runway (a₂ ++ into y e ∷ c) runway) (sym (regroup e)) second)
+      let second = carried-one legs r a₂ e (into legs y e) c runway (orderly₂ .different) named (ap addsMoves h) (onward-into legs y e) in
+      followed-first legs r a g (into legs w g) (b ++ e ∷ c) runway (a₂ ++ into legs y e ∷ c) runway other (onward-into legs w g) (ap isFlyingZone above ∙ waits-above z in-zone missed-zone) (waits z in-zone missed-zone)
+      (subst (λ (l : List Placed). Carried legs r l runway (a₂ ++ into legs y e ∷ c) runway) (sym (regroup e)) second)
     where
       other : g .aircraft .number ≡ r .number → ⊥
       other q =
           let al = apart-in a₂ e c runway (orderly₂ .different) .ahead in
-          let here = or-false-left (eqb (into w g .aircraft .number) (e .aircraft .number)) (isIn (e .aircraft .number) (numbersOf b))
-          (absent-right (e .aircraft .number) (numbersOf a) (numbersOf (into w g ∷ b)) (ap (isIn (e .aircraft .number)) (sym (map-append (λ (p : Placed). p .aircraft .number) a (into w g ∷ b))) ∙ al)) in
-          true≢false (sym (eq-eqb (into w g .aircraft .number) (e .aircraft .number) (number-arrived w (g .aircraft) ∙ q ∙ named)) ∙ here)
+          let here = or-false-left (eqb (into legs w g .aircraft .number) (e .aircraft .number)) (isIn (e .aircraft .number) (numbersOf b))
+          (absent-right (e .aircraft .number) (numbersOf a) (numbersOf (into legs w g ∷ b)) (ap (isIn (e .aircraft .number)) (sym (map-append (λ (p : Placed). p .aircraft .number) a (into legs w g ∷ b))) ∙ al)) in
+          true≢false (sym (eq-eqb (into legs w g .aircraft .number) (e .aircraft .number) (into-arrived legs w (g .aircraft) .number ∙ q ∙ named)) ∙ here)
 
   pub after-both : r .kind ≡ 11 → effectOf F r ≡ moved (moved F y w) z y → After f (a ++ g ∷ (b ++ e ∷ c)) runway legs r
   after-both h eff =
       record {
         first-after = f;
-        line-after = a₂ ++ into y e ∷ c;
+        line-after = a₂ ++ into legs y e ∷ c;
         runway-after = runway;
         effect = eff ∙ moved-up;
         orderly = up-orderly;
         balance =
-            let p = same-length a₂ (into y e) e c in
+            let p = same-length a₂ (into legs y e) e c in
             let q = ap (λ (l : List Placed). length l) (regroup e) in
-            let m = same-length a (into w g) g (b ++ e ∷ c) in
+            let m = same-length a (into legs w g) g (b ++ e ∷ c) in
             kind-balance (r .kind) h (p ∙ sym q ∙ m);
         lighter =
             λ u.
-            let p = ap weight (zones-split a₂ (into y e) c ∙ zones-after) in
+            let p = ap weight (zones-split a₂ (into legs y e) c ∙ zones-after) in
             let q = ap weight zones-before in
             let l = both .lighter in
             let x = one-le (within 3 11 (r .kind)) in

@@ -133,18 +133,18 @@ come s f line e runway legs o k h z d fit =
 
 -- ---- a tick
 
-alternates-ticked : (legs : Legs) (amount : ℕ) (f : Side) (line : List Placed) → Alternates f line → Alternates f (map (tickPlaced legs amount) line)
-alternates-ticked legs amount f [] al = tt
-alternates-ticked legs amount f (e ∷ line) al = (fix-kept legs amount (e .zone) (e .aircraft) ∙ al .0, alternates-ticked legs amount (opp f) line (al .1))
+alternates-ticked : (amount : ℕ) (f : Side) (line : List Placed) → Alternates f line → Alternates f (map (tickPlaced amount) line)
+alternates-ticked amount f [] al = tt
+alternates-ticked amount f (e ∷ line) al = (fix-kept amount (e .zone) (e .aircraft) ∙ al .0, alternates-ticked amount (opp f) line (al .1))
 
-pub ticked-orderly : (f : Side) (line : List Placed) (runway : List Aircraft) (legs : Legs) (amount : ℕ) → Between 1 longestTick amount → Orderly f line runway legs → Orderly f (map (tickPlaced legs amount) line) runway legs
+pub ticked-orderly : (f : Side) (line : List Placed) (runway : List Aircraft) (legs : Legs) (amount : ℕ) → Between 1 longestTick amount → Orderly f line runway legs → Orderly f (map (tickPlaced amount) line) runway legs
 ticked-orderly f line runway legs amount r o =
     record {
-      okay-line = subst (λ (l : List ℕ). T (okay f l)) (sym (zones-same legs amount line)) (o .okay-line);
-      alternates = alternates-ticked legs amount f line (o .alternates);
-      nonzeros = subst (λ (l : List ℕ). T (every nonzero (l ++ numbers runway))) (sym (numbers-same legs amount line)) (o .nonzeros);
-      different = subst (λ (l : List ℕ). T (allDifferent (l ++ numbers runway))) (sym (numbers-same legs amount line)) (o .different);
-      fit-line = every-then (placedFits legs) (placedFits legs) (tickPlaced legs amount) (λ e. fits-ticked legs amount (e .zone) (o .legal) r (e .aircraft)) line (o .fit-line);
+      okay-line = subst (λ (l : List ℕ). T (okay f l)) (sym (zones-same amount line)) (o .okay-line);
+      alternates = alternates-ticked amount f line (o .alternates);
+      nonzeros = subst (λ (l : List ℕ). T (every nonzero (l ++ numbers runway))) (sym (numbers-same amount line)) (o .nonzeros);
+      different = subst (λ (l : List ℕ). T (allDifferent (l ++ numbers runway))) (sym (numbers-same amount line)) (o .different);
+      fit-line = every-then (placedFits legs) (placedFits legs) (tickPlaced amount) (λ e. fits-ticked legs amount (e .zone) (o .legal) r (e .aircraft)) line (o .fit-line);
       fit-runway = o .fit-runway;
       one-landed = o .one-landed;
       legal = o .legal;

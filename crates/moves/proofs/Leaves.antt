@@ -80,7 +80,7 @@ module _ (f : Side) (e : Placed) (b : List Placed) (legs : Legs) (h : e .zone �
   F₇ = fieldOf f (e ∷ b) [] legs
 
   abbrev x : Aircraft
-  x = arrived 13 (e .aircraft)
+  x = arrived legs 13 (e .aircraft)
 
   t : T (within 1 12 (e .zone))
   t = subst (λ (z : ℕ). T (within 1 12 z)) (sym h) tt
@@ -93,7 +93,7 @@ module _ (f : Side) (e : Placed) (b : List Placed) (legs : Legs) (h : e .zone �
       let G = zonesOf (e ∷ b) [] in
       let H = zonesOf b (x ∷ []) in
       let P = withoutHead (zoneOf F₇ 12) in
-      ap (λ (y : Aircraft). withZone (withZone F₇ 12 P) 13 (withTail (zoneOf (withZone F₇ 12 P) 13) (arrived 13 y)))
+      ap (λ (y : Aircraft). withZone (withZone F₇ 12 P) 13 (withTail (zoneOf (withZone F₇ 12 P) 13) (arrived legs 13 y)))
       (ap (λ (w : ℕ). aircraftAt F₇ w 1) (sym h) ∙ head-there f [] e b [] legs d t refl)
       ∙ ap (λ (q : Zone). withZone (withZone F₇ 12 P) 13 (withTail q x)) (zone-other G H S N legs 12 13 P tt tt refl)
       ∙ two-zones G H S N legs 12 13 P (withTail (G 13) x) tt tt

@@ -22,7 +22,7 @@ use Rattle.field.specs.Edits.{withoutHead, withTail, withZone}
 use Rattle.order.specs.Model.{Side, opp, num, nextFix}
 use Rattle.rules.specs.Kinds.{headGone, tailPut, moved}
 use Rattle.field.proofs.Tests.{if-true, if-false, decided}
-use Rattle.field.proofs.Arrival.{number-arrived}
+use Rattle.field.proofs.Arrival.{into-arrived}
 use Rattle.line.proofs.Lists.{map-append}
 use Rattle.line.proofs.Line.{zoneFor, tail-for, head-for, sequenceFor, fieldBy, zone-by, with-by, by-zones, Placed, zonesIn, numbersOf, inside, zonesOf, fieldOf}
 use Rattle.line.proofs.Counted.{lower, not-13, zone-of-line}
@@ -83,8 +83,8 @@ same-numbers a e g b h =
 -- ---- from one zone of the operation area to another
 
 -- the one that has come into zone w
-abbrev pub into : ℕ → Placed → Placed
-into w e = record { aircraft = arrived w (e .aircraft); zone = w }
+abbrev pub into : Legs → ℕ → Placed → Placed
+into legs w e = record { aircraft = arrived legs w (e .aircraft); zone = w }
 
 -- what is asked of a move of e to zone w, with those ahead and behind: e heads its zone, and nobody behind it is in zone w
 pub record MayMove (a : List Placed) (e : Placed) (b : List Placed) (w : ℕ) : Type 0 where
@@ -100,7 +100,7 @@ module _ (f : Side) (a : List Placed) (e : Placed) (b : List Placed) (runway : L
   F = fieldOf f (a ++ e ∷ b) runway legs
 
   abbrev x : Aircraft
-  x = arrived w (e .aircraft)
+  x = arrived legs w (e .aircraft)
 
   abbrev z : ℕ
   z = e .zone
@@ -115,7 +115,7 @@ module _ (f : Side) (a : List Placed) (e : Placed) (b : List Placed) (runway : L
   G = zonesOf (a ++ e ∷ b) runway
 
   abbrev H : ℕ → Zone
-  H = zonesOf (a ++ into w e ∷ b) runway
+  H = zonesOf (a ++ into legs w e ∷ b) runway
 
   room-behind : length (inside z b) < 4
   room-behind = let p = inside-le z b in let q = length-split a e b in let r = m .room in omega arith
@@ -128,7 +128,7 @@ module _ (f : Side) (a : List Placed) (e : Placed) (b : List Placed) (runway : L
   left-zone =
       ap withoutHead (zone-of-line f (a ++ e ∷ b) runway legs z (m .from-zone) ∙ ap zoneFor (inside-at a e b ∙ ap (λ (l : List Aircraft). l ++ e .aircraft ∷ inside z b) (m .heads)))
       ∙ head-for (e .aircraft) (inside z b) room-behind
-      ∙ sym (if-false (zoneFor runway) (zoneFor (inside z (a ++ into w e ∷ b))) (not-13 z (m .from-zone)) ∙ ap zoneFor (inside-other z a (into w e) b (m .other-zone) ∙ ap (λ (l : List Aircraft). l ++ inside z b) (m .heads)))
+      ∙ sym (if-false (zoneFor runway) (zoneFor (inside z (a ++ into legs w e ∷ b))) (not-13 z (m .from-zone)) ∙ ap zoneFor (inside-other z a (into legs w e) b (m .other-zone) ∙ ap (λ (l : List Aircraft). l ++ inside z b) (m .heads)))
 
   flipped : eqb z w ≡ false
   flipped = Rattle.field.proofs.Tests.flip-eqb w z (m .other-zone)
@@ -141,27 +141,27 @@ module _ (f : Side) (a : List Placed) (e : Placed) (b : List Placed) (runway : L
   entered-zone =
       ap (λ (q : Zone). withTail q x) (if-false (zoneFor runway) (zoneFor (inside w (a ++ e ∷ b))) (not-13 w (m .to-zone)) ∙ ap zoneFor before-zone)
       ∙ tail-for (inside w a) x room-ahead
-      ∙ sym (if-false (zoneFor runway) (zoneFor (inside w (a ++ into w e ∷ b))) (not-13 w (m .to-zone)) ∙ ap zoneFor (inside-at a (into w e) b ∙ ap (λ (l : List Aircraft). inside w a ++ x ∷ l) (m .none-behind)))
+      ∙ sym (if-false (zoneFor runway) (zoneFor (inside w (a ++ into legs w e ∷ b))) (not-13 w (m .to-zone)) ∙ ap zoneFor (inside-at a (into legs w e) b ∙ ap (λ (l : List Aircraft). inside w a ++ x ∷ l) (m .none-behind)))
 
   -- any other zone
   kept-zone : (y : ℕ) → T (within 1 13 y) → eqb y z ≡ false → eqb y w ≡ false → G y ≡ H y
   kept-zone y t p q =
       ap (λ (l : List Aircraft). cond (eqb y 13) (zoneFor runway) (zoneFor l))
-      (inside-other y a e b (Rattle.field.proofs.Tests.flip-eqb y z p) ∙ sym (inside-other y a (into w e) b (Rattle.field.proofs.Tests.flip-eqb y w q)))
+      (inside-other y a e b (Rattle.field.proofs.Tests.flip-eqb y z p) ∙ sym (inside-other y a (into legs w e) b (Rattle.field.proofs.Tests.flip-eqb y w q)))
 
   head-is : aircraftAt F z 1 ≡ e .aircraft
   head-is = head-there f a e b runway legs d (m .from-zone) (m .heads)
 
-  after-is : fieldBy H S N legs ≡ fieldOf f (a ++ into w e ∷ b) runway legs
+  after-is : fieldBy H S N legs ≡ fieldOf f (a ++ into legs w e ∷ b) runway legs
   unfolding fieldOf
   after-is =
-      ap (λ (ns : List ℕ). fieldBy H (sequenceFor ns) N legs) (same-numbers a e (into w e) b (sym (number-arrived w (e .aircraft))))
-      ∙ ap (λ (s : Side). fieldBy H (sequenceFor (numbersOf (a ++ into w e ∷ b))) (num s) legs) (next-same f (a ++ e ∷ b) (a ++ into w e ∷ b) (same-length a e (into w e) b))
+      ap (λ (ns : List ℕ). fieldBy H (sequenceFor ns) N legs) (same-numbers a e (into legs w e) b (sym (into-arrived legs w (e .aircraft) .number)))
+      ∙ ap (λ (s : Side). fieldBy H (sequenceFor (numbersOf (a ++ into legs w e ∷ b))) (num s) legs) (next-same f (a ++ e ∷ b) (a ++ into legs w e ∷ b) (same-length a e (into legs w e) b))
 
-  pub moved-line : moved F z w ≡ fieldOf f (a ++ into w e ∷ b) runway legs
+  pub moved-line : moved F z w ≡ fieldOf f (a ++ into legs w e ∷ b) runway legs
   unfolding moved headGone tailPut fieldOf
   moved-line =
-      ap (λ (y : Aircraft). withZone (withZone F z (withoutHead (zoneOf F z))) w (withTail (zoneOf (withZone F z (withoutHead (zoneOf F z))) w) (arrived w y))) head-is
+      ap (λ (y : Aircraft). withZone (withZone F z (withoutHead (zoneOf F z))) w (withTail (zoneOf (withZone F z (withoutHead (zoneOf F z))) w) (arrived legs w y))) head-is
       ∙ ap (λ (q : Zone). withZone (withZone F z (withoutHead (zoneOf F z))) w (withTail q x)) (zone-other G H S N legs z w (withoutHead (zoneOf F z)) (lower z (m .from-zone)) (lower w (m .to-zone)) (m .other-zone))
       ∙ two-zones G H S N legs z w (withoutHead (zoneOf F z)) (withTail (G w) x) (lower z (m .from-zone)) (lower w (m .to-zone)) left-zone entered-zone kept-zone
       ∙ after-is

@@ -38,7 +38,7 @@ use Rattle.line.proofs.Orderly.{Orderly, Split, first-in}
 use Rattle.moves.proofs.After.{After, zone-in, zones-split, okay-split}
 use Rattle.moves.proofs.Heads.{find-line}
 use Rattle.rules.proofs.Checks.{besides, checks-at, effect-at}
-use Rattle.field.proofs.Arrival.{number-arrived}
+use Rattle.field.proofs.Arrival.{into-arrived}
 use Rattle.moves.proofs.Moves.{into, same-numbers}
 use Rattle.moves.proofs.EnterAbove.{enters-empty, enters-occupied, lowered, lowered-is, lowered-orderly, after-above}
 use Rattle.moves.proofs.AtEnds.{after-entry, after-12}
@@ -132,7 +132,7 @@ module _ (f : Side) (line : List Placed) (runway : List Aircraft) (legs : Legs) 
           let may = subst (λ (z : ℕ). T (within 1 2 z && free (zonesIn a ++ g .zone ∷ zonesIn b) (at2000 z))) (sym (d .at-zone)) (and-i (within 1 2 (num s)) (free (zonesIn a ++ g .zone ∷ zonesIn b) (at2000 (num s))) (v .high) low) in
           let come = subst (λ (z : ℕ). T (mayComeIn f (zonesIn a ++ g .zone ∷ zonesIn b) z)) (sym (d .at-zone)) (subst (λ (l : List ℕ). T (mayComeIn f l (num s))) zones may-come) in
           let l = lowered f a g b runway legs q heads may in
-          let enters = subst (λ (z : ℕ). T (mayEnter f (zonesIn l) z)) (d .at-zone) (subst (λ (ys : List ℕ). T (mayEnter f ys (g .zone))) (sym (zones-split a (into (at2000 (g .zone)) g) b)) (enter-above f (zonesIn a) (g .zone) (zonesIn b) (okay-split f a g b (q .okay-line)) may come)) in
+          let enters = subst (λ (z : ℕ). T (mayEnter f (zonesIn l) z)) (d .at-zone) (subst (λ (ys : List ℕ). T (mayEnter f ys (g .zone))) (sym (zones-split a (into legs (at2000 (g .zone)) g) b)) (enter-above f (zonesIn a) (g .zone) (zonesIn b) (okay-split f a g b (q .okay-line)) may come)) in
           let free-above = empty-there l (and-r (mayComeIn f (zonesIn l) (num s)) (free (zonesIn l) (at3000 (num s))) enters) in
           let F₀ = fieldOf f (a ++ g ∷ b) runway legs in
           subst (λ (m : List Placed). After f m runway legs r) (sym (d .whole))
@@ -140,7 +140,7 @@ module _ (f : Side) (line : List Placed) (runway : List Aircraft) (legs : Legs) 
           (enters-occupied F₀ r k (subst (λ (m : List Placed). isEmpty (fieldOf f m runway legs) (at3000 (r .side)) ≡ false) (d .whole) e)
           ∙ ap (λ (h : Field). entered h r (at3000 (r .side))) (ap (descended F₀) (side ∙ sym (d .at-zone)) ∙ lowered-is f a g b runway legs q heads may)
           ∙ sym (enters-empty (fieldOf f l runway legs) r k free-above))
-          (into-empty l (lowered-orderly f a g b runway legs q heads may) (ap numbersOf (d .whole) ∙ same-numbers a g (into (at2000 (g .zone)) g) b (sym (number-arrived (at2000 (g .zone)) (g .aircraft)))) enters free-above))
+          (into-empty l (lowered-orderly f a g b runway legs q heads may) (ap numbersOf (d .whole) ∙ same-numbers a g (into legs (at2000 (g .zone)) g) b (sym (into-arrived legs (at2000 (g .zone)) (g .aircraft) .number))) enters free-above))
         where
           -- the one at 3000 has another number than the one that enters
           other-than : (d : Split (at3000 (num s)) line) → d .here .aircraft .number ≡ r .number → ⊥

@@ -1,6 +1,6 @@
 // Document 01, "Turned away by the field": what each kind of request needs, in order (rules' specs/Kinds.antt).
 use field::Field;
-use field::boxes::flown_out_in;
+use field::boxes::leg_flown_out;
 use field::boxes::opposite;
 use field::boxes::side_of;
 use field::zones::AT_2000;
@@ -181,13 +181,11 @@ fn approach_number(f: Field, number: u16, zone: u8) -> u16
     with_need(0, 23, base_free(f, side_of(zone as usize)))
 }
 
-// Whether the head of a zone has flown its leg out.
+// Whether the head of a zone has flown its own leg out.
 fn has_flown_out(f: Field, zone: u8) -> bool
     ensures { λ b. ⌜ b ≡ flownOutCheck f zone .1 ⌝ }
 {
-    let legs = f.legs;
-    let z = zone as usize;
-    flown_out_in(legs, z, aircraft_at(f, z, 1))
+    leg_flown_out(aircraft_at(f, zone as usize, 1))
 }
 
 // Kinds 6 and 11: the need of a request from the end of a leg, where it is not met; 0 where it is.

@@ -5,8 +5,8 @@ use field::Field;
 use field::Legs;
 use field::boxes::empty_field;
 use field::boxes::entering;
+use field::boxes::on_leg;
 use field::boxes::opposite;
-use field::boxes::with_progress;
 use field::boxes::zone_of;
 use field::edits::appended;
 use field::edits::with_sequence;
@@ -31,9 +31,9 @@ fn nobody_there() -> Field {
     })
 }
 
-// An aircraft that has flown so many miles of its leg.
+// An aircraft that has flown so many miles of a leg of a mile.
 fn flying(number: u16, fix: u8, miles: f64) -> Aircraft {
-    with_progress(entering(number, fix, 64), Progress::Flying(miles))
+    on_leg(entering(number, fix, 64), Progress::Flying(miles), 1.0)
 }
 
 // The field with an aircraft at the tail of a zone.

@@ -15,7 +15,7 @@ use Rattle.field.specs.declared.Aircraft.{Aircraft}
 use Rattle.field.specs.declared.Legs.{Legs}
 use Rattle.field.specs.declared.Sequence.{Sequence}
 use Rattle.field.specs.declared.Field.{Field}
-use Rattle.field.specs.Boxes.{right, left, opposite, sideOf, at3000, at2000, lateral, missed, base, intermediate, finalApproach, runway, area, approach, operation, everywhere, nobody, zoneOf, inZone, orderOf, entering, arrived, withFix, flownOutIn}
+use Rattle.field.specs.Boxes.{right, left, opposite, sideOf, at3000, at2000, lateral, missed, base, intermediate, finalApproach, runway, area, approach, operation, everywhere, nobody, zoneOf, inZone, orderOf, entering, arrived, turnedAway, withFix, legFlownOut}
 use Rattle.field.specs.Edits.{appended, removed}
 use Rattle.field.specs.Lists.{isIn, every}
 use Rattle.questions.specs.declared.Place.{Place}
@@ -117,7 +117,7 @@ module _ (f g : Field) (s : Same f g) where
   base-same side = ap (λ (h : ℕ → ℕ). leb (h (base (opposite side))) 1) many
 
   flown-same : (z : ℕ) → flownOutCheck f z ≡ flownOutCheck g z
-  flown-same z = ap (λ (l : Legs). (15, flownOutIn l z (aircraftAt f z 1))) (s .legs) ∙ ap (λ (a : Aircraft). (15, flownOutIn (g .legs) z a)) (at-same z 1)
+  flown-same z = ap (λ (a : Aircraft). (15, legFlownOut a)) (at-same z 1)
 
   -- the checks of every request
   needs-same : (r : Request) (at : Place) → needsFor (r .kind) f r at ≡ needsFor (r .kind) g r at
@@ -175,7 +175,7 @@ module _ (f g : Field) (s : Same f g) where
 
 moved-same : (f g : Field) (s : Same f g) (z w : ℕ) → Same (moved f z w) (moved g z w)
 unfolding moved
-moved-same f g s z w = put-same (headGone f z) (headGone g z) (gone-same f g s z) w (ap (arrived w) (at-same f g s z 1))
+moved-same f g s z w = put-same (headGone f z) (headGone g z) (gone-same f g s z) w (ap (λ (l : Legs). arrived l w (aircraftAt f z 1)) (s .legs) ∙ ap (arrived (g .legs) w) (at-same f g s z 1))
 
 entered-same : (f g : Field) (s : Same f g) (r : Request) (z : ℕ) → Same (entered f r z) (entered g r z)
 unfolding entered fixTaken
@@ -216,10 +216,13 @@ module _ (f g : Field) (s : Same f g) (r : Request) where
       let y = aircraftAt g finalApproach 1 in
       let fix : fixAfterMiss f x ≡ fixAfterMiss g y = ap (λ (q : Sequence). cond (eqb (length (orderOf q)) 1) (x .fix) (f .next)) (s .sequence) ∙ ap (λ (n : ℕ). cond (eqb (length (orderOf (g .sequence))) 1) (x .fix) n) (s .next) ∙ ap (λ (b : Aircraft). cond (eqb (length (orderOf (g .sequence))) 1) (b .fix) (g .next)) a in
       let w : missed (x .fix) ≡ missed (y .fix) = ap (λ (b : Aircraft). missed (b .fix)) a in
-      let went : withFix (arrived (missed (x .fix)) x) (fixAfterMiss f x) ≡ withFix (arrived (missed (y .fix)) y) (fixAfterMiss g y) = ap (λ (b : Aircraft). withFix (arrived (missed (b .fix)) b) (fixAfterMiss f x)) a ∙ ap (withFix (arrived (missed (y .fix)) y)) fix in
-      let put : Same (tailPut (headGone f finalApproach) (missed (x .fix)) (withFix (arrived (missed (x .fix)) x) (fixAfterMiss f x))) (tailPut (headGone g finalApproach) (missed (x .fix)) (withFix (arrived (missed (y .fix)) y) (fixAfterMiss g y))) =
+      let away : turnedAway (f .legs) (missed (x .fix)) x ≡ turnedAway (g .legs) (missed (y .fix)) y = ap (λ (l : Legs). turnedAway l (missed (x .fix)) x) (s .legs) ∙ ap (λ (b : Aircraft). turnedAway (g .legs) (missed (b .fix)) b) a in
+      let before = withFix (turnedAway (f .legs) (missed (x .fix)) x) (fixAfterMiss f x) in
+      let after = withFix (turnedAway (g .legs) (missed (y .fix)) y) (fixAfterMiss g y) in
+      let went : before ≡ after = ap (λ (b : Aircraft). withFix b (fixAfterMiss f x)) away ∙ ap (withFix (turnedAway (g .legs) (missed (y .fix)) y)) fix in
+      let put : Same (tailPut (headGone f finalApproach) (missed (x .fix)) before) (tailPut (headGone g finalApproach) (missed (x .fix)) after) =
       put-same (headGone f finalApproach) (headGone g finalApproach) (gone-same f g s finalApproach) (missed (x .fix)) went in
-      same-sequence _ _ (subst (λ (v : ℕ). Same (tailPut (headGone f finalApproach) (missed (x .fix)) (withFix (arrived (missed (x .fix)) x) (fixAfterMiss f x))) (tailPut (headGone g finalApproach) v (withFix (arrived (missed (y .fix)) y) (fixAfterMiss g y)))) w put)
+      same-sequence _ _ (subst (λ (v : ℕ). Same (tailPut (headGone f finalApproach) (missed (x .fix)) before) (tailPut (headGone g finalApproach) v after)) w put)
       (ap (λ (q : Sequence). appended (removed q (r .number)) (r .number)) (s .sequence)) (ap opposite fix)
 
   held-same : (z : ℕ) → Same (held f z) (held g z)

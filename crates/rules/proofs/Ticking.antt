@@ -15,10 +15,9 @@ use Rattle.leg.specs.declared.Progress.{Progress}
 use Rattle.leg.specs.declared.Progress.the-variants.{Waiting, Flying}
 use Rattle.request.specs.declared.Request.{Request}
 use Rattle.field.specs.declared.Aircraft.{Aircraft}
-use Rattle.field.specs.declared.Legs.{Legs}
 use Rattle.field.specs.declared.Zone.{Zone}
 use Rattle.field.specs.declared.Field.{Field}
-use Rattle.field.specs.Boxes.{isFlyingZone, nobody, zoneOf, legOf, everywhere}
+use Rattle.field.specs.Boxes.{isFlyingZone, nobody, zoneOf, everywhere}
 use Rattle.field.specs.Lists.{every}
 use Rattle.field.proofs.Tests.{pass, passed, decided, every-from}
 use Rattle.bounds.specs.Bounds.{isWaiting, isNobody, zoneKept, withinBounds}
@@ -33,14 +32,14 @@ use Rattle.rules.proofs.StepLaws.{number-is, field-accepted}
 use Rattle.rules.proofs.Refusals.{accepted-from-within}
 
 -- who waits is left as it is
-waits-on : (leg : Float) (amount : ℕ) (a : Aircraft) → T (isWaiting (a .progress)) → tickedAircraft leg amount a ≡ a
+waits-on : (amount : ℕ) (a : Aircraft) → T (isWaiting (a .progress)) → tickedAircraft amount a ≡ a
 unfolding tickedAircraft
-waits-on leg amount a t = by (a .progress) t
+waits-on amount a t = by (a .progress) t
   where
     with-progress : Progress → Float → Aircraft
-    with-progress q waited = record { number = a .number; fix = a .fix; speed = a .speed; progress = q; waited = waited }
+    with-progress q waited = record { number = a .number; fix = a .fix; speed = a .speed; progress = q; waited = waited; leg = a .leg }
 
-    by : (p : Progress) → T (isWaiting p) → with-progress (progressAfter p (a .speed) amount leg) (waitedWith p (a .waited) (a .speed) amount leg) ≡ with-progress p (a .waited)
+    by : (p : Progress) → T (isWaiting p) → with-progress (progressAfter p (a .speed) amount (a .leg)) (waitedWith p (a .waited) (a .speed) amount (a .leg)) ≡ with-progress p (a .waited)
     by Waiting t = refl
     by (Flying miles) t = absurd t
 
@@ -50,11 +49,11 @@ unfolding isNobody eq ofInt
 nobody-there = tt
 
 -- so nobody stays nobody
-nobody-ticked : (legs : Legs) (amount z : ℕ) → tickedAt legs amount z nobody ≡ nobody
-nobody-ticked legs amount z = by (isFlyingZone z)
+nobody-ticked : (amount z : ℕ) → tickedAt amount z nobody ≡ nobody
+nobody-ticked amount z = by (isFlyingZone z)
   where
-    by : (b : Bool) → cond b (tickedAircraft (legOf legs z) amount nobody) nobody ≡ nobody
-    by true = waits-on (legOf legs z) amount nobody tt
+    by : (b : Bool) → cond b (tickedAircraft amount nobody) nobody ≡ nobody
+    by true = waits-on amount nobody tt
     by false = refl
 
 -- a place past a length passes what all of them pass
@@ -67,17 +66,17 @@ past-place p (a ∷ l) (suc n) (suc place) z t h = past-place p l n place z t (o
 
 module _ (f : Field) (amount : ℕ) where
   -- a place after the tick
-  place-ticked : (z place : ℕ) → atPlace (ticked f amount) z place ≡ tickedAt (f .legs) amount z (atPlace f z place)
+  place-ticked : (z place : ℕ) → atPlace (ticked f amount) z place ≡ tickedAt amount z (atPlace f z place)
   place-ticked z place =
-      let t = tickedAt (f .legs) amount z in
+      let t = tickedAt amount z in
       let l = zoneOf f z .aircraft in
       ap (λ (q : Zone). getD (q .aircraft) place nobody) (zone-ticked f amount z)
-      ∙ ap (λ (places : List Aircraft). getD places place nobody) (places-ticked (f .legs) amount z (zoneOf f z))
-      ∙ sym (ap (getD (map t l) place) (nobody-ticked (f .legs) amount z))
+      ∙ ap (λ (places : List Aircraft). getD places place nobody) (places-ticked amount z (zoneOf f z))
+      ∙ sym (ap (getD (map t l) place) (nobody-ticked amount z))
       ∙ List·getD-map t l place nobody
 
-  at-ticked : (z : ℕ) (a : Aircraft) {b : Bool} → isFlyingZone z ≡ b → tickedAt (f .legs) amount z a ≡ cond b (tickedAircraft (legOf (f .legs) z) amount a) a
-  at-ticked z a e = ap (λ (b : Bool). cond b (tickedAircraft (legOf (f .legs) z) amount a) a) e
+  at-ticked : (z : ℕ) (a : Aircraft) {b : Bool} → isFlyingZone z ≡ b → tickedAt amount z a ≡ cond b (tickedAircraft amount a) a
+  at-ticked z a e = ap (λ (b : Bool). cond b (tickedAircraft amount a) a) e
 
   module _ (w : T (withinBounds f)) where
     -- past a length everyone waits
@@ -91,16 +90,16 @@ module _ (f : Field) (amount : ℕ) where
         let high = leb→le z 12 (and-r (leb 7 z) (leb z 12) b) in
         let kept = every-from (λ y. zoneKept (zoneOf f y)) 1 13 (within-e f w .zones-kept) z (omega arith) (omega arith) in
         let there = past-place isNobody (q .aircraft) (q .length) place nobody-there (and-r (leb (q .length) 4) (every isNobody (drop (q .length) (q .aircraft))) kept) h in
-        and-r (eqb (a .number) 0 && eqb (a .fix) 0 && eqb (a .speed) 0 && eq (a .waited) (whole 0)) (isWaiting (a .progress)) there
+        and-r (eqb (a .number) 0 && eqb (a .fix) 0 && eqb (a .speed) 0 && eq (a .waited) (whole 0) && eq (a .leg) (whole 0)) (isWaiting (a .progress)) there
 
     others-kept : (z place : ℕ) → isFlying f z place ≡ false → atPlace (ticked f amount) z place ≡ atPlace f z place
     others-kept z place e = place-ticked z place ∙ by (isFlyingZone z) refl
       where
-        by : (b : Bool) → isFlyingZone z ≡ b → tickedAt (f .legs) amount z (atPlace f z place) ≡ atPlace f z place
+        by : (b : Bool) → isFlyingZone z ≡ b → tickedAt amount z (atPlace f z place) ≡ atPlace f z place
         by false g = at-ticked z (atPlace f z place) g
         by true g =
             let past = ltb-false place (zoneOf f z .length) (sym (ap (λ (b : Bool). b && ltb place (zoneOf f z .length)) g) ∙ e) in
-            at-ticked z (atPlace f z place) g ∙ waits-on (legOf (f .legs) z) amount (atPlace f z place) (past-waits z place g past)
+            at-ticked z (atPlace f z place) g ∙ waits-on amount (atPlace f z place) (past-waits z place g past)
 
     own-advances : OwnAdvance f amount (ticked f amount)
     unfolding ticked
@@ -108,7 +107,7 @@ module _ (f : Field) (amount : ℕ) where
         record {
           flying = λ z place t h. place-ticked z place ∙ at-ticked z (atPlace f z place) (passed t);
           others = others-kept;
-          lengths = λ z. ap (λ (q : Zone). q .length) (zone-ticked f amount z) ∙ length-kept (f .legs) amount z (zoneOf f z);
+          lengths = λ z. ap (λ (q : Zone). q .length) (zone-ticked f amount z) ∙ length-kept amount z (zoneOf f z);
           sequence = refl;
           next = refl;
           legs = refl;

@@ -92,10 +92,10 @@ marked =
       answer = says 7 7 1 8 0;
       after = inOrder (8 ∷ 7 ∷ []);
     }
-    -- "Hold with 3000 taken and 2000 free: both move, `along` set."
+    -- "Hold with 3000 taken and 2000 free: both move, `along` set.": 7 misses at the start of final, and has both legs ahead (02, 2.7)
     ∷ record {
       leg = 64;
-      requests = ask 1 1 7 64 ∷ ask 3 0 7 0 ∷ ask 1 1 8 64 ∷ ask 4 0 7 0 ∷ toFinal 7 (ask 10 0 7 0 ∷ ask 12 0 0 64 ∷ ask 11 0 7 0 ∷ []);
+      requests = ask 1 1 7 64 ∷ ask 3 0 7 0 ∷ ask 1 1 8 64 ∷ ask 4 0 7 0 ∷ toFinal 7 (ask 10 0 7 0 ∷ ask 12 0 0 64 ∷ ask 12 0 0 64 ∷ ask 11 0 7 0 ∷ []);
       answer = says 7 1 1 8 8;
       after = λ f. stands 7 1 f && stands 8 3 f;
     }

@@ -1,5 +1,5 @@
 -- The examples of docs/WHY-SAFE.md: requests from the empty field, and two fields within the bounds that no list of requests reaches. And
--- exits, which wait for the leg since (02, 2.3), and entries beside an occupied 3000 (02, 2.5).
+-- exits, which wait for the leg since (02, 2.3), entries beside an occupied 3000 (02, 2.5), and holds after a miss on the way (02, 2.7).
 use mathlib.Core.Path.{_≡_}
 use mathlib.Core.Bool.{false, not, _&&_}
 use mathlib.Core.List.{List, [], _∷_}
@@ -18,7 +18,7 @@ use Rattle.questions.specs.Find.{aircraftAt}
 use Rattle.bounds.specs.Bounds.{withinBounds}
 use Rattle.rules.specs.Kinds.{madeRoom}
 use Rattle.rules.specs.Step.{numberAndZeros, stepOf}
-use Rattle.rules.specs.Cases.{ask, says, allLegs, Case, anyField, inOrder, stands, toBase, toFinal}
+use Rattle.rules.specs.Cases.{ask, says, allLegs, Case, anyField, inOrder, stands, hasFlown, toBase, toFinal}
 use Rattle.rules.specs.Reason.{approachOrder, areaOrder, roomToMiss, lateralEntry, QueueAgrees}
 
 -- ---- three aircraft
@@ -103,6 +103,23 @@ entries =
     ∷ record { leg = 64; requests = oneEach (ask 1 1 9 64 ∷ ask 1 1 10 64 ∷ []); answer = numberAndZeros 16; after = stands 7 3 }
     ∷ []
 
+-- ---- holds after a miss on the way
+
+-- 7 alone misses on final after a tick of the amount there
+abbrev pub missAfter : ℕ → List Request → List Request
+missAfter amount rest = ask 1 1 7 64 ∷ toBase 7 (toFinal 7 (ask 12 0 0 amount ∷ ask 10 0 7 0 ∷ rest))
+
+abbrev pub earlyMisses : List Case
+earlyMisses =
+    -- half a mile of final is left: with the missed leg a mile and a half is ahead, and after a mile a hold is too early
+    record { leg = 64; requests = missAfter 32 (ask 12 0 0 64 ∷ ask 11 0 7 0 ∷ []); answer = numberAndZeros 15; after = hasFlown 7 1 }
+    ∷ record { leg = 64; requests = missAfter 32 (ask 12 0 0 64 ∷ ask 12 0 0 32 ∷ ask 11 0 7 0 ∷ []); answer = says 7 3 1 0 0; after = stands 7 3 }
+    -- three quarters of it are left
+    ∷ record { leg = 64; requests = missAfter 16 (ask 12 0 0 64 ∷ ask 12 0 0 32 ∷ ask 11 0 7 0 ∷ []); answer = numberAndZeros 15; after = anyField }
+    -- at its end nothing is left: the missed leg alone is ahead
+    ∷ record { leg = 64; requests = missAfter 64 (ask 12 0 0 64 ∷ ask 11 0 7 0 ∷ []); answer = says 7 3 1 0 0; after = stands 7 3 }
+    ∷ []
+
 -- ---- 25 is judged on the field after both moves
 
 -- a queue of one
@@ -147,7 +164,7 @@ crowded =
           ∷ emptyZone
           ∷ emptyZone
           ∷ emptyZone
-          ∷ onlyOne (arrived finalApproach (entering 7 right 64))
+          ∷ onlyOne (arrived (allLegs 64) finalApproach (entering 7 right 64))
           ∷ emptyZone
           ∷ [];
       sequence = record { numbers = 7 ∷ 8 ∷ 9 ∷ 0 ∷ []; length = 3 };

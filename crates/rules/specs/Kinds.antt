@@ -8,7 +8,7 @@ use Rattle.request.specs.Input.{within, inRange, isEntry, isTick, ruleOf}
 use Rattle.request.specs.declared.Request.{Request}
 use Rattle.field.specs.declared.Aircraft.{Aircraft}
 use Rattle.field.specs.declared.Field.{Field}
-use Rattle.field.specs.Boxes.{opposite, sideOf, at3000, at2000, lateral, missed, base, intermediate, finalApproach, runway, zoneOf, orderOf, entering, arrived, withFix, flownOutIn}
+use Rattle.field.specs.Boxes.{opposite, sideOf, at3000, at2000, lateral, missed, base, intermediate, finalApproach, runway, zoneOf, orderOf, entering, arrived, turnedAway, withFix, legFlownOut}
 use Rattle.questions.specs.declared.Place.{Place}
 use Rattle.questions.specs.Counts.{howMany, approachHolds, potentialOf, isEmpty}
 use Rattle.questions.specs.Find.{placeOf, aircraftAt, isFirst, leaderZone}
@@ -41,9 +41,9 @@ headChecks kind at = (12, not (eqb (at .zone) 0)) ∷ (13, startsFrom kind (at .
 abbrev pub presenceChecks : ℕ → Place → List (ℕ × Bool)
 presenceChecks kind at = cond (isEntry kind) (absentChecks at) (cond (isTick kind) [] (headChecks kind at))
 
--- "15 leg not flown out", of the head of zone z
+-- "15 leg not flown out", of the head of zone z, by its own leg (02, 2.7)
 abbrev pub flownOutCheck : Field → ℕ → ℕ × Bool
-flownOutCheck f z = (15, flownOutIn (f .legs) z (aircraftAt f z 1))
+flownOutCheck f z = (15, legFlownOut (aircraftAt f z 1))
 
 -- "first in sequence or leader on the approach"
 unfoldable pub mayApproach : Field → ℕ → Bool
@@ -109,7 +109,7 @@ tailPut f z a = withZone f z (withTail (zoneOf f z) a)
 
 -- the head of zone z to the tail of zone w: "Entering a flying zone sets miles to 0"
 unfoldable pub moved : Field → ℕ → ℕ → Field
-moved f z w = tailPut (headGone f z) w (arrived w (aircraftAt f z 1))
+moved f z w = tailPut (headGone f z) w (arrived (f .legs) w (aircraftAt f z 1))
 
 -- kind 3, and what an entry (02, 2.5) and a hold do to the one at 3000: the head of zone z, a holding at 3000, to 2000 of its side
 abbrev pub descended : Field → ℕ → Field
@@ -154,7 +154,7 @@ unfoldable pub exited : Field → Request → Field
 exited f r = outOfSequence (headGone f intermediate) (r .number)
 
 -- kind 10: "It goes to the missed zone of its old fix and to the end of the sequence. If alone in the sequence it keeps its fix, else
--- it takes the next fix. The next fix becomes the opposite of its fix now."
+-- it takes the next fix. The next fix becomes the opposite of its fix now." It has the missed leg ahead, and what was left of final (02, 2.7).
 unfoldable pub fixAfterMiss : Field → Aircraft → ℕ
 fixAfterMiss f a = cond (eqb (length (orderOf (f .sequence))) 1) (a .fix) (f .next)
 
@@ -163,7 +163,7 @@ missedApproach f r =
     let a = aircraftAt f finalApproach 1 in
     let w = missed (a .fix) in
     let fix = fixAfterMiss f a in
-    let g = tailPut (headGone f finalApproach) w (withFix (arrived w a) fix) in
+    let g = tailPut (headGone f finalApproach) w (withFix (turnedAway (f .legs) w a) fix) in
     withSequence g (appended (removed (f .sequence) (r .number)) (r .number)) (opposite fix)
 
 -- kind 11, from zone z: "If 3000 and 2000 of the side are empty, to 2000. Else if 3000 is empty, to 3000. Else the aircraft at 3000 goes to 2000

@@ -6,7 +6,7 @@ use lib.Dec.{T, ltb}
 use lib.ListN.{getD}
 use Rattle.field.specs.declared.Aircraft.{Aircraft}
 use Rattle.field.specs.declared.Field.{Field}
-use Rattle.field.specs.Boxes.{isFlyingZone, nobody, zoneOf, legOf}
+use Rattle.field.specs.Boxes.{isFlyingZone, nobody, zoneOf}
 use Rattle.tick.specs.Tick.{tickedAircraft}
 
 -- what stands in a place of zone z, counted from 0
@@ -19,8 +19,8 @@ isFlying f z place = isFlyingZone z && ltb place (zoneOf f z .length)
 
 -- from f to g each who flies is given its own advance, and nothing else changes (02, 2.4)
 pub record OwnAdvance (f : Field) (amount : ℕ) (g : Field) : Type 0 where
-  -- who flies: the advance of that aircraft, on the leg of its zone, by the amount; whatever the others are
-  pub flying : (z place : ℕ) → T (isFlyingZone z) → place < zoneOf f z .length → atPlace g z place ≡ tickedAircraft (legOf (f .legs) z) amount (atPlace f z place)
+  -- who flies: the advance of that aircraft, on its own leg (02, 2.7), by the amount; whatever the others are
+  pub flying : (z place : ℕ) → T (isFlyingZone z) → place < zoneOf f z .length → atPlace g z place ≡ tickedAircraft amount (atPlace f z place)
   -- every other place
   pub others : (z place : ℕ) → isFlying f z place ≡ false → atPlace g z place ≡ atPlace f z place
   pub lengths : (z : ℕ) → zoneOf g z .length ≡ zoneOf f z .length

@@ -9,8 +9,8 @@ use field::boxes::empty_field;
 use field::boxes::empty_zone;
 use field::boxes::entering;
 use field::boxes::nobody;
+use field::boxes::on_leg;
 use field::boxes::opposite;
-use field::boxes::with_progress;
 use field::boxes::zone_of;
 use field::edits::appended;
 use field::edits::with_sequence;
@@ -29,9 +29,9 @@ pub fn legs(miles: f64) -> Legs {
     }
 }
 
-// An aircraft of speed 64 as it enters a zone.
+// An aircraft of speed 64 as it enters a zone of a field with legs of a mile.
 pub fn into(zone: usize, number: u16, fix: u8) -> Aircraft {
-    arrived(zone, entering(number, fix, 64))
+    arrived(legs(1.0), zone, entering(number, fix, 64))
 }
 
 // The field with an aircraft at the tail of a zone.
@@ -69,12 +69,12 @@ pub fn with_nine(a: Aircraft) -> Field {
     with_zone(crowded(), 1, with_tail(empty_zone(), a))
 }
 
-// The crowded field with 7 at another progress.
-pub fn with_seven(p: Progress) -> Field {
+// The crowded field with 7 at another progress and leg.
+pub fn with_seven(p: Progress, leg: f64) -> Field {
     with_zone(
         crowded(),
         12,
-        with_tail(empty_zone(), with_progress(into(12, 7, 1), p)),
+        with_tail(empty_zone(), on_leg(into(12, 7, 1), p, leg)),
     )
 }
 
@@ -87,6 +87,7 @@ pub fn with_waited(a: Aircraft, miles: f64) -> Aircraft {
         speed: a.speed,
         progress: p,
         waited: miles,
+        leg: a.leg,
     }
 }
 
@@ -110,9 +111,9 @@ pub fn in_order(numbers: [u16; 4], length: usize, next: u8) -> Field {
     with_sequence(crowded(), s, next)
 }
 
-// The crowded field with four other legs.
+// The crowded field with four other legs, of which 7 has that of final.
 pub fn flown(length: f64) -> Field {
-    let f = crowded();
+    let f = with_seven(Progress::Flying(0.0), length);
     let zones = f.zones;
     let sequence = f.sequence;
     Field {
@@ -123,10 +124,17 @@ pub fn flown(length: f64) -> Field {
     }
 }
 
+// 7 alone in a flying zone of a field with legs of this length, with a leg of its own and these miles flown of it.
+pub fn on_own_leg(length: f64, zone: usize, leg: f64, miles: f64) -> Field {
+    let f = more(empty_field(legs(length)), zone, 7, 1);
+    let a = on_leg(into(zone, 7, 1), Progress::Flying(miles), leg);
+    with_zone(f, zone, with_tail(empty_zone(), a))
+}
+
 // 7 alone in a flying zone, its leg of a mile flown to these miles, with these miles waited.
 pub fn alone(zone: usize, miles: f64, before: f64) -> Field {
     let f = more(empty_field(legs(1.0)), zone, 7, 1);
-    let a = with_progress(into(zone, 7, 1), Progress::Flying(miles));
+    let a = on_leg(into(zone, 7, 1), Progress::Flying(miles), 1.0);
     with_zone(f, zone, with_tail(empty_zone(), with_waited(a, before)))
 }
 

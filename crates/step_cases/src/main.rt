@@ -1,27 +1,28 @@
 // Writes a line for each of some fields that no session reaches: what the field is, the answer of one step on it, and of the field
 // after it the sequence, the next fix, and whether the head of final has flown its leg out. Then the miles waited of one aircraft after a
-// step, as the 16 hexadecimal digits of the `f64`'s bit pattern.
-use crate::fields::alone;
-use crate::fields::behind;
+// step, and then the own leg of one, as the 16 hexadecimal digits of the `f64`'s bit pattern.
 use crate::fields::crowded;
 use crate::fields::flown;
 use crate::fields::in_order;
 use crate::fields::into;
 use crate::fields::legs;
 use crate::fields::more;
+use crate::fields::on_own_leg;
 use crate::fields::standing;
 use crate::fields::two;
 use crate::fields::with_left;
 use crate::fields::with_nine;
 use crate::fields::with_seven;
 use crate::fields::with_waited;
+use crate::miles::legs_ahead;
+use crate::miles::miles_waited;
 use field::Field;
 use field::Sequence;
 use field::boxes::empty_field;
 use field::boxes::entering;
-use field::boxes::flown_out_in;
+use field::boxes::leg_flown_out;
 use field::boxes::nobody;
-use field::boxes::with_progress;
+use field::boxes::on_leg;
 use leg::Progress;
 use libc::STDOUT_FILENO;
 use questions::find::aircraft_at;
@@ -30,11 +31,12 @@ use rules::Answer;
 use step::step;
 
 mod fields;
+mod miles;
 
 // ---- the lines
 
 // Writes a space and a number.
-fn number(n: u64) {
+pub fn number(n: u64) {
     io::write_all(STDOUT_FILENO, b" ");
     io::print_decimal(STDOUT_FILENO, n);
 }
@@ -72,8 +74,7 @@ fn line(name: &[u8], f: Field, r: Request) {
     sequence(s);
     io::write_all(STDOUT_FILENO, b", next");
     number(g.next as u64);
-    let legs = g.legs;
-    if flown_out_in(legs, 12, aircraft_at(g, 12, 1)) {
+    if leg_flown_out(aircraft_at(g, 12, 1)) {
         io::write_all(STDOUT_FILENO, b", final flown out\n");
     } else {
         io::write_all(STDOUT_FILENO, b", final not flown out\n");
@@ -119,8 +120,11 @@ fn within() {
     move_of(b"8 misses", f, 10, 8);
     tick(b"tick", f);
     tick(b"9 of speed 512", with_nine(entering(9, 1, 512)));
-    tick(b"7 at the leg's end", with_seven(Progress::Flying(1.0)));
-    tick(b"7 at minus 0", with_seven(Progress::Flying(-0.0)));
+    tick(
+        b"7 at the leg's end",
+        with_seven(Progress::Flying(1.0), 1.0),
+    );
+    tick(b"7 at minus 0", with_seven(Progress::Flying(-0.0), 1.0));
     tick(b"legs of 64 miles", flown(64.0));
     tick(b"one on the runway", standing(f, 13, into(13, 10, 2)));
     tick(
@@ -134,6 +138,30 @@ fn within() {
     tick(
         b"minus 0 waited past a zone's length",
         with_left(with_waited(nobody(), -0.0), 0),
+    );
+}
+
+// Own legs within the bounds (document 02, 2.7): zeros of either sign, and any from 1/64 of a mile to 128 in a missed zone.
+fn own_legs_within() {
+    tick(
+        b"9 with minus 0 as its leg",
+        with_nine(on_leg(entering(9, 1, 64), Progress::Waiting, -0.0)),
+    );
+    tick(
+        b"minus 0 as the leg past a zone's length",
+        with_left(on_leg(nobody(), Progress::Waiting, -0.0), 0),
+    );
+    tick(
+        b"7 missed, 128 miles ahead",
+        on_own_leg(1.0, 7, 128.0, 127.0),
+    );
+    tick(
+        b"7 missed, a 64th of a mile ahead",
+        on_own_leg(1.0, 8, 0.015625, 0.0),
+    );
+    tick(
+        b"7 missed, past the field's leg",
+        on_own_leg(1.0, 7, 2.0, 1.5),
     );
 }
 
@@ -202,7 +230,7 @@ fn past_a_length() {
     );
     tick(
         b"e: flying past a zone's length",
-        with_left(with_progress(nobody(), Progress::Flying(0.0)), 0),
+        with_left(on_leg(nobody(), Progress::Flying(0.0), 0.0), 0),
     );
     tick(
         b"e: miles waited past a zone's length",
@@ -225,17 +253,20 @@ fn not_as_said() {
     tick(b"g: speed 513", with_nine(entering(9, 1, 513)));
     tick(
         b"g: flying at 3000",
-        with_nine(with_progress(entering(9, 1, 64), Progress::Flying(0.0))),
+        with_nine(on_leg(entering(9, 1, 64), Progress::Flying(0.0), 0.0)),
     );
-    tick(b"g: waiting on final", with_seven(Progress::Waiting));
+    tick(b"g: waiting on final", with_seven(Progress::Waiting, 1.0));
     tick(
         b"g: miles past the leg",
-        with_seven(Progress::Flying(1.0000000000000002)),
+        with_seven(Progress::Flying(1.0000000000000002), 1.0),
     );
-    tick(b"g: miles below 0", with_seven(Progress::Flying(-0.015625)));
+    tick(
+        b"g: miles below 0",
+        with_seven(Progress::Flying(-0.015625), 1.0),
+    );
     tick(
         b"g: miles not a number",
-        with_seven(Progress::Flying(0.0 / 0.0)),
+        with_seven(Progress::Flying(0.0 / 0.0), 1.0),
     );
     tick(
         b"g: waited past 4096 miles",
@@ -260,58 +291,55 @@ fn not_as_said() {
     );
 }
 
-// Writes miles as the 16 hexadecimal digits of their bit pattern.
-fn print_miles(miles: f64) {
-    if miles == miles {
-        io::print_hex(STDOUT_FILENO, f64::to_bits(miles), 16);
-    } else {
-        io::write_all(STDOUT_FILENO, b"NaN");
-    }
-}
-
-// Writes the number of a request of a kind on a field, and the miles waited of the head of a zone after it. A tick is of a minute, and for nobody.
-fn waited(name: &[u8], f: Field, kind: u8, number_of: u16, zone: usize) {
-    let amount = if kind == 12 { 64 } else { 0 };
-    let r = Request {
-        kind: kind,
-        side: 0,
-        number: number_of,
-        amount: amount,
-    };
-    let after = step(f, r);
-    io::write_all(STDOUT_FILENO, name);
-    io::write_all(STDOUT_FILENO, b":");
-    let a = after.answer;
-    number(a.number as u64);
-    let g = after.field;
-    let head = aircraft_at(g, zone, 1);
-    io::write_all(STDOUT_FILENO, b" ");
-    print_miles(head.waited);
-    io::write_all(STDOUT_FILENO, b"\n");
-}
-
-// The miles waited: added up by a tick, and carried by everything that moves an aircraft.
-fn miles_waited() {
-    waited(b"tick to the end", alone(12, -0.0, 2.5), 12, 0, 12);
-    waited(b"tick at the end", alone(12, 1.0, 2.5), 12, 0, 12);
-    waited(b"tick past the end", alone(12, 0.75, 2.5), 12, 0, 12);
-    waited(b"tick near 4096", alone(12, 1.0, 4095.5), 12, 0, 12);
-    waited(b"tick at minus 0", alone(12, 0.0, -0.0), 12, 0, 12);
-    waited(b"8 waits at 3000", behind(), 12, 0, 1);
-    waited(b"7 lands", alone(12, 1.0, 2.5), 7, 7, 13);
-    waited(b"7 misses", alone(12, 0.5, 2.5), 10, 7, 7);
-    waited(b"7 holds", alone(7, 1.0, 2.5), 11, 7, 3);
-    waited(b"7 holds beside 8", behind(), 11, 7, 1);
-    waited(b"8 goes along", behind(), 11, 7, 3);
-    waited(b"7 merges", alone(9, 1.0, 2.5), 5, 7, 11);
+// Bounds e and g, of own legs (document 02, 2.7).
+fn own_legs() {
+    tick(
+        b"e: a leg past a zone's length",
+        with_left(on_leg(nobody(), Progress::Waiting, 5e-324), 0),
+    );
+    tick(
+        b"e: a leg not a number past a zone's length",
+        with_left(on_leg(nobody(), Progress::Waiting, 0.0 / 0.0), 0),
+    );
+    tick(
+        b"g: a leg at 3000",
+        with_nine(on_leg(entering(9, 1, 64), Progress::Waiting, 1.0)),
+    );
+    tick(
+        b"g: on final a longer leg than the field's",
+        with_seven(Progress::Flying(0.0), 1.0000000000000002),
+    );
+    tick(
+        b"g: on base a shorter leg than the field's",
+        on_own_leg(1.0, 9, 0.5, 0.0),
+    );
+    tick(
+        b"g: missed, past 128 miles ahead",
+        on_own_leg(1.0, 7, 128.00000000000003, 0.0),
+    );
+    tick(
+        b"g: missed, under a 64th ahead",
+        on_own_leg(1.0, 8, 0.015624999999999998, 0.0),
+    );
+    tick(
+        b"g: missed, ahead not a number",
+        on_own_leg(1.0, 7, 0.0 / 0.0, 0.0),
+    );
+    tick(
+        b"g: missed, miles past the own leg",
+        on_own_leg(1.0, 7, 0.5, 0.75),
+    );
 }
 
 // Writes the lines of all cases.
 fn main() {
     within();
+    own_legs_within();
     too_many();
     out_of_order();
     past_a_length();
     not_as_said();
+    own_legs();
     miles_waited();
+    legs_ahead();
 }

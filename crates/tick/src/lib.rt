@@ -1,44 +1,44 @@
-// A tick (document 01, kind 12; document 02, 2.2): everyone flying advances (specs/Tick.antt).
+// A tick (document 01, kind 12; document 02, 2.2 and 2.7): everyone flying advances (specs/Tick.antt).
 use field::Aircraft;
 use field::Field;
 use field::Zone;
-use field::boxes::leg_of;
 use leg::Progress;
 use leg::advance;
 use leg::waited_after;
 ghost use mathlib.Core.Path.{_≡_};
 ghost use Rattle.tick.specs.Tick.{tickedAircraft, tickedZone, ticked};
 
-// An aircraft of a zone with this leg after a tick: one that flies advances and adds the miles past the end to those waited; one that waits
+// An aircraft after a tick: one that flies advances along its own leg and adds the miles past the end to those waited; one that waits
 // stays as it is.
-pub fn ticked_aircraft(leg: f64, amount: u16, a: Aircraft) -> Aircraft
-    ensures { λ r. ⌜ r ≡ tickedAircraft leg amount a ⌝ }
+pub fn ticked_aircraft(amount: u16, a: Aircraft) -> Aircraft
+    ensures { λ r. ⌜ r ≡ tickedAircraft amount a ⌝ }
 {
     let p = a.progress;
     match p {
         Progress::Waiting => a,
         Progress::Flying(miles) => {
-            let after = advance(miles, a.speed, amount, leg);
+            let after = advance(miles, a.speed, amount, a.leg);
             Aircraft {
                 number: a.number,
                 fix: a.fix,
                 speed: a.speed,
                 progress: Progress::Flying(after.miles),
                 waited: waited_after(a.waited, after.past),
+                leg: a.leg,
             }
         }
     }
 }
 
-// A zone with this leg after a tick.
-pub fn ticked_zone(leg: f64, amount: u16, q: Zone) -> Zone
-    ensures { λ r. ⌜ r ≡ tickedZone leg amount q ⌝ }
+// A zone that is flown in after a tick.
+pub fn ticked_zone(amount: u16, q: Zone) -> Zone
+    ensures { λ r. ⌜ r ≡ tickedZone amount q ⌝ }
 {
     let mut after = q;
     let mut i = 0;
     while i < 4 {
         let a = after.aircraft[i];
-        after.aircraft[i] = ticked_aircraft(leg, amount, a);
+        after.aircraft[i] = ticked_aircraft(amount, a);
         i += 1;
     }
     after
@@ -48,12 +48,11 @@ pub fn ticked_zone(leg: f64, amount: u16, q: Zone) -> Zone
 pub fn ticked(f: Field, amount: u16) -> Field
     ensures { λ r. ⌜ r ≡ ticked f amount ⌝ }
 {
-    let legs = f.legs;
     let mut after = f;
     let mut i = 6;
     while i < 12 {
         let q = after.zones[i];
-        after.zones[i] = ticked_zone(leg_of(legs, i + 1), amount, q);
+        after.zones[i] = ticked_zone(amount, q);
         i += 1;
     }
     after

@@ -9,8 +9,11 @@ pub fn empty() -> Field {
 
 /// One more at the end of a zone, at the start of its leg, and of the sequence.
 pub fn put(field: &mut Field, zone: Zone, number: u16, fix: Side) {
-    let progress = if zone.is_flying() { Progress::Flying(0.0) } else { Progress::Waiting };
-    field.zone_mut(zone).push_back(Aircraft { number, fix, speed: 64, progress, waited: 0.0 });
+    let (progress, leg) = match field.legs.of(zone) {
+        Some(leg) => (Progress::Flying(0.0), leg),
+        None => (Progress::Waiting, 0.0),
+    };
+    field.zone_mut(zone).push_back(Aircraft { number, fix, speed: 64, progress, waited: 0.0, leg });
     if zone != Zone::Runway {
         field.sequence.push_back(number);
         field.next_fix = fix.opposite();
@@ -60,6 +63,10 @@ pub fn miles(field: &Field, number: u16) -> f64 {
         Progress::Flying(miles) => miles,
         Progress::Waiting => panic!("{number} is waiting"),
     }
+}
+
+pub fn leg(field: &Field, number: u16) -> f64 {
+    field.find(number).expect("on the field").1.leg
 }
 
 pub fn waited(field: &Field, number: u16) -> f64 {

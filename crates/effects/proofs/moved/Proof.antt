@@ -21,16 +21,16 @@ use Rattle.effects.proofs.moved.Statement.{statement}
 use Rattle.effects.proofs.moved.Tie as tie
 
 -- a number that passes the test is a zone's
-from-low : (c : tie.Else1) → 1 ≤ c .before .before .before .before .args .from
+from-low : (c : tie.Else1) → 1 ≤ c .before .before .before .before .before .args .from
 from-low c = within-low 1 13 _ (holds (c .before .in-range .ensures) (c .if1 .left))
 
-from-high : (c : tie.Else1) → c .before .before .before .before .args .from ≤ 13
+from-high : (c : tie.Else1) → c .before .before .before .before .before .args .from ≤ 13
 from-high c = within-high 1 13 _ (holds (c .before .in-range .ensures) (c .if1 .left))
 
-to-low : (c : tie.Else2) → 1 ≤ c .before .before .before .before .before .before .args .to
+to-low : (c : tie.Else2) → 1 ≤ c .before .before .before .before .before .before .before .args .to
 to-low c = within-low 1 13 _ (holds (c .before .in-range2 .ensures) (c .if2 .left))
 
-to-high : (c : tie.Else2) → c .before .before .before .before .before .before .args .to ≤ 13
+to-high : (c : tie.Else2) → c .before .before .before .before .before .before .before .args .to ≤ 13
 to-high c = within-high 1 13 _ (holds (c .before .in-range2 .ensures) (c .if2 .left))
 
 -- the field with another list of zones
@@ -53,7 +53,7 @@ unfolding tailPut
 tail-on f z a {q} d long low high e = written f z q low ∙ ap (withZone f z) (e ∙ ap (λ (p : Zone). withTail p a) (zone-read f z d long low high))
 
 -- where one of the two is no zone, by the calls
-called : (f : Field) (from to : ℕ) {a b : Aircraft} {g h : Field} → b ≡ aircraftAt f from 1 → a ≡ arrived to b → g ≡ headGone f from → h ≡ tailPut g to a → h ≡ moved f from to
+called : (f : Field) (from to : ℕ) {a b : Aircraft} {g h : Field} → b ≡ aircraftAt f from 1 → a ≡ arrived (f .legs) to b → g ≡ headGone f from → h ≡ tailPut g to a → h ≡ moved f from to
 unfolding moved
 called f from to eb ea eg eh = cc
 
@@ -75,7 +75,7 @@ tail-put-requires c κs = search needs
 returns : tie.Need-returns
 returns c =
     let k = c .before .before .before .before in
-    let s = k .before .before .args in
+    let s = k .before .before .before .args in
     called (s .f) (s .from) (s .to) (k .before .aircraft-at .ensures) (k .arrived .ensures) (c .before .head-gone .ensures) (c .tail-put .ensures)
 
 in-range-requires-2 : tie.Need-in-range-requires-2
@@ -90,7 +90,7 @@ tail-put-requires-2 c κs = search needs
 returns-2 : tie.Need-returns-2
 returns-2 c =
     let k = c .before .before .before .before .before .before in
-    let s = k .before .before .args in
+    let s = k .before .before .before .args in
     called (s .f) (s .from) (s .to) (k .before .aircraft-at .ensures) (k .arrived .ensures) (c .before .head-gone2 .ensures) (c .tail-put2 .ensures)
 
 sub-q : tie.Need-sub-q
@@ -126,11 +126,11 @@ element-copy-out-p c = omega (arith, to-high (c .before .before))
 with-tail-requires : tie.Need-with-tail-requires
 with-tail-requires c κs = search needs
 
-sub-t14 : tie.Need-sub-t14
-sub-t14 c = to-low (c .before .before .before .before)
+sub-t15 : tie.Need-sub-t15
+sub-t15 c = to-low (c .before .before .before .before)
 
-mul-t15 : tie.Need-mul-t15
-mul-t15 c = record { fits = omega (arith, to-high (c .before .before .before .before)) }
+mul-t16 : tie.Need-mul-t16
+mul-t16 c = record { fits = omega (arith, to-high (c .before .before .before .before)) }
 
 element-set-from-g : tie.Need-element-set-from-g
 element-set-from-g c = omega (arith, to-high (c .before .before .before .before))
@@ -141,7 +141,7 @@ returns-3 c =
     let w = c .before .before in
     let e = w .before .before in
     let k = e .before .before .before .before in
-    let s = k .before .before in
+    let s = k .before .before .before in
     let f = s .args .f in
     let from = s .args .from in
     let to = s .args .to in
@@ -149,7 +149,7 @@ returns-3 c =
     let q = w .without-head .result in
     let f₁ = zoned f (set (f .zones) (from - 1) q) in
     let long₁ = length-set (f .zones) (from - 1) q ∙ long in
-    let a = k .arrived .ensures ∙ ap (arrived to) (k .before .aircraft-at .ensures) in
+    let a = k .arrived .ensures ∙ ap (arrived (f .legs) to) (k .before .aircraft-at .ensures) in
     tail-on f₁ to (k .arrived .result) _ long₁ (to-low e) (to-high e) (c .with-tail .ensures)
     ∙ ap (λ (g : Field). tailPut g to (k .arrived .result)) (head-off f from _ long (from-low (e .before .before)) (from-high (e .before .before)) (w .without-head .ensures))
     ∙ ap (tailPut (headGone f from) to) a
@@ -179,7 +179,7 @@ moved-spec =
     mul-p-2
     element-copy-out-p
     with-tail-requires
-    sub-t14
-    mul-t15
+    sub-t15
+    mul-t16
     element-set-from-g
     returns-3)

@@ -12,23 +12,23 @@ use borrow.Author.Needs.{needs}
 use Rattle.tick.proofs.ticked_aircraft.Statement.{statement}
 use Rattle.tick.proofs.ticked_aircraft.Tie as tie
 
-module _ (leg : Float) (amount : ℕ) (a : Aircraft) where
+module _ (amount : ℕ) (a : Aircraft) where
   -- one that waits stays as it is
-  waits : a .progress ≡ Waiting → a ≡ tickedAircraft leg amount a
+  waits : a .progress ≡ Waiting → a ≡ tickedAircraft amount a
   unfolding tickedAircraft
   waits e =
-      let p = e ∙ sym (ap (λ (q : Progress). progressAfter q (a .speed) amount leg) e) in
-      let w = sym (ap (λ (q : Progress). waitedWith q (a .waited) (a .speed) amount leg) e) in
-      λ i. record { number = a .number; fix = a .fix; speed = a .speed; progress = p i; waited = w i }
+      let p = e ∙ sym (ap (λ (q : Progress). progressAfter q (a .speed) amount (a .leg)) e) in
+      let w = sym (ap (λ (q : Progress). waitedWith q (a .waited) (a .speed) amount (a .leg)) e) in
+      λ i. record { number = a .number; fix = a .fix; speed = a .speed; progress = p i; waited = w i; leg = a .leg }
 
   -- one that flies, by what its advance yields
-  flies : (miles : Float) {after : Advanced} {waited : Float} → a .progress ≡ Flying miles → after ≡ advancing miles (a .speed) amount leg → waited ≡ waitedAfter (a .waited) (after .past)
-      → _≡_ {A = Aircraft} (record { number = a .number; fix = a .fix; speed = a .speed; progress = Flying (after .miles); waited = waited }) (tickedAircraft leg amount a)
+  flies : (miles : Float) {after : Advanced} {waited : Float} → a .progress ≡ Flying miles → after ≡ advancing miles (a .speed) amount (a .leg) → waited ≡ waitedAfter (a .waited) (after .past)
+      → _≡_ {A = Aircraft} (record { number = a .number; fix = a .fix; speed = a .speed; progress = Flying (after .miles); waited = waited; leg = a .leg }) (tickedAircraft amount a)
   unfolding tickedAircraft advancing
   flies miles e f g =
-      let p = ap (λ (r : Advanced). Flying (r .miles)) f ∙ sym (ap (λ (q : Progress). progressAfter q (a .speed) amount leg) e) in
-      let w = g ∙ ap (λ (r : Advanced). waitedAfter (a .waited) (r .past)) f ∙ sym (ap (λ (q : Progress). waitedWith q (a .waited) (a .speed) amount leg) e) in
-      λ i. record { number = a .number; fix = a .fix; speed = a .speed; progress = p i; waited = w i }
+      let p = ap (λ (r : Advanced). Flying (r .miles)) f ∙ sym (ap (λ (q : Progress). progressAfter q (a .speed) amount (a .leg)) e) in
+      let w = g ∙ ap (λ (r : Advanced). waitedAfter (a .waited) (r .past)) f ∙ sym (ap (λ (q : Progress). waitedWith q (a .waited) (a .speed) amount (a .leg)) e) in
+      λ i. record { number = a .number; fix = a .fix; speed = a .speed; progress = p i; waited = w i; leg = a .leg }
 
 enum-told : tie.Need-enum-told
 enum-told c = search needs
@@ -45,12 +45,12 @@ waited-after-requires c κs = search needs
 returns : tie.Need-returns
 returns c =
     let s = c .before .before in
-    waits (s .args .leg) (s .args .amount) (s .args .a) (c .enum-told .given .1)
+    waits (s .args .amount) (s .args .a) (c .enum-told .given .1)
 
 returns-2 : tie.Need-returns-2
 returns-2 c =
     let s = c .before .before .before .before .before in
-    flies (s .args .leg) (s .args .amount) (s .args .a) (c .before .before .before .p .given .0 .0) (c .before .before .before .p .given .1) (c .before .advance .ensures) (c .waited-after .ensures)
+    flies (s .args .amount) (s .args .a) (c .before .before .before .p .given .0 .0) (c .before .before .before .p .given .1) (c .before .advance .ensures) (c .waited-after .ensures)
 
 pub ticked-aircraft-spec : {M : Type 1} → statement M
 ticked-aircraft-spec =

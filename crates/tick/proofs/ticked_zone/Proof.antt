@@ -15,11 +15,11 @@ use Rattle.tick.proofs.ticked_zone.Statement.{statement}
 use Rattle.tick.proofs.ticked_zone.Tie as tie
 
 abbrev Inv-loop : tie.InvT-loop
-Inv-loop leg amount after₀ i₀ after i =
-    (i ≤ 4) × (after .aircraft ≡ take i (map (tickedAircraft leg amount) (after₀ .aircraft)) ++ drop i (after₀ .aircraft)) × (after .length ≡ after₀ .length)
+Inv-loop amount after₀ i₀ after i =
+    (i ≤ 4) × (after .aircraft ≡ take i (map (tickedAircraft amount) (after₀ .aircraft)) ++ drop i (after₀ .aircraft)) × (after .length ≡ after₀ .length)
 
 abbrev μ-loop : tie.MeasureT-loop
-μ-loop leg amount after₀ i₀ after i = 4 - i
+μ-loop amount after₀ i₀ after i = 4 - i
 
 loop-holds : tie.Need-loop-holds Inv-loop μ-loop
 loop-holds c = (omega arith, refl, refl)
@@ -33,8 +33,8 @@ element-copy-out-a c = search needs
 ticked-aircraft-requires : tie.Need-ticked-aircraft-requires Inv-loop μ-loop
 ticked-aircraft-requires c κs = search needs
 
-mul-t8 : tie.Need-mul-t8 Inv-loop μ-loop
-mul-t8 c = search needs
+mul-t7 : tie.Need-mul-t7 Inv-loop μ-loop
+mul-t7 c = search needs
 
 element-set-from-after : tie.Need-element-set-from-after Inv-loop μ-loop
 element-set-from-after c = search needs
@@ -49,10 +49,10 @@ loop-again : tie.Need-loop-again Inv-loop μ-loop
 loop-again c =
     let s = c .before .before .before .before in
     let l = c .before .before .before .loop in
-    let g = tickedAircraft (s .args .leg) (s .args .amount) in
+    let g = tickedAircraft (s .args .amount) in
     let q = s .args .q in
     let xs = q .aircraft in
-    let long : length xs ≡ 4 = zone-known q (s .good .1 .1 .0) .places in
+    let long : length xs ≡ 4 = zone-known q (s .good .1 .0) .places in
     let here = filled-at (l .after .aircraft) (map g xs) xs (l .i) nobody _ (omega arith) (length-map xs g) (l .inv .1) in
     let ticked = c .ticked-aircraft in
     let right = ticked .ensures ∙ ap g here ∙ sym (getD-map g xs (l .i) nobody nobody (omega arith)) in
@@ -63,10 +63,10 @@ unfolding tickedZone
 returns c =
     let s = c .before .before in
     let l = c .before .loop in
-    let g = tickedAircraft (s .args .leg) (s .args .amount) in
+    let g = tickedAircraft (s .args .amount) in
     let q = s .args .q in
     let xs = q .aircraft in
-    let long : length xs ≡ 4 = zone-known q (s .good .1 .1 .0) .places in
+    let long : length xs ≡ 4 = zone-known q (s .good .1 .0) .places in
     let all = filled-all (l .after .aircraft) (map g xs) xs (l .i) (omega arith) (length-map xs g) (l .inv .1) in
     λ j. record { aircraft = all j; length = l .inv .2 j }
 
@@ -80,7 +80,7 @@ ticked-zone-spec =
     mul-a
     element-copy-out-a
     ticked-aircraft-requires
-    mul-t8
+    mul-t7
     element-set-from-after
     add-i
     loop-less

@@ -1,31 +1,13 @@
 -- `field::boxes::leg_of` meets its contract: at each zone the definition computes to the leg that the arm returns. Assumes nothing.
 use mathlib.Core.Path.{_≡_, refl, sym, ap}
-use mathlib.Core.Bool.{false}
-use Prim.Native.Nat.{ℕ, _≤_}
+use Prim.Native.Nat.{ℕ}
 use native.Mathlib.Omega.{arith}
-use borrow.Author.Tests.{ne-eqb}
 use lib.Ieee.{ofBits, ofInt}
-use lib.Dec.{eqb}
-use Rattle.leg.specs.Progress.{whole}
-use Rattle.field.specs.declared.Legs.{Legs}
 use Rattle.field.specs.Boxes.{legOf}
+use Rattle.field.proofs.Arrival.{leg-elsewhere}
 use Rattle.field.proofs.Shapes.{one-of-two}
 use Rattle.field.proofs.boxes.leg_of.Statement.{statement}
 use Rattle.field.proofs.boxes.leg_of.Tie as tie
-
--- outside zones 7 to 12 the leg is 0
-elsewhere : (legs : Legs) (z : ℕ) → (7 ≤ z → z ≤ 12 → ⊥) → legOf legs z ≡ whole 0
-unfolding legOf
-elsewhere legs z out =
-    let other : (k : ℕ) → 7 ≤ k → k ≤ 12 → eqb z k ≡ false = λ k low high. ne-eqb z k (λ e. out (omega arith) (omega arith)) in
-    simp (
-      other 7 (omega arith) (omega arith),
-      other 8 (omega arith) (omega arith),
-      other 9 (omega arith) (omega arith),
-      other 10 (omega arith) (omega arith),
-      other 11 (omega arith) (omega arith),
-      other 12 (omega arith) (omega arith),
-    )
 
 returns : tie.Need-returns
 unfolding legOf
@@ -49,13 +31,13 @@ returns-4 c =
 
 returns-5 : tie.Need-returns-5
 unfolding ofBits ofInt
-returns-5 c = sym (elsewhere _ _ (λ low high. omega arith))
+returns-5 c = sym (leg-elsewhere _ _ (λ low high. omega arith))
 
 returns-6 : tie.Need-returns-6
 unfolding ofBits ofInt
 returns-6 c =
     let rest = c .before .before .before .match .rest in
-    sym (elsewhere _ _ (λ low high. omega (arith, rest .1, rest .0 .1)))
+    sym (leg-elsewhere _ _ (λ low high. omega (arith, rest .1, rest .0 .1)))
 
 pub leg-of-spec : {M : Type 1} → statement M
 leg-of-spec = tie.close (tie.spec returns returns-2 returns-3 returns-4 returns-5 returns-6)

@@ -1,11 +1,11 @@
--- `step_cases::print_miles` meets its contract. Assumes nothing.
+-- `step_cases::miles::print_miles` meets its contract. Assumes nothing.
 use mathlib.Core.Path.{_≡_, sym}
 use mathlib.Core.Bool.{true, not, true≢false}
 use borrow.Author.Needs.{needs}
 use lib.Dec.{T}
 use lib.Ieee.{Float, nan, inf, fin, eq, isNan}
-use Rattle.step_cases.proofs.print_miles.Statement.{statement}
-use Rattle.step_cases.proofs.print_miles.Tie as tie
+use Rattle.step_cases.proofs.miles.print_miles.Statement.{statement}
+use Rattle.step_cases.proofs.miles.print_miles.Tie as tie
 
 -- What equals itself is no NaN, so that its bits are defined.
 no-nan : (x : Float) → eq x x ≡ true → T (not (isNan x))

@@ -1,9 +1,9 @@
--- `leg_bits::main` meets its contract. The measure is how many combinations are left. Assumes nothing.
+-- `leg_bits::combinations` meets its contract. The measure is how many combinations are left. Assumes nothing.
 use Prim.Native.Nat.{_≤_, _-_}
 use native.Mathlib.Omega.{arith}
 use borrow.Author.Needs.{needs}
-use Rattle.leg_bits.proofs.main.Statement.{statement}
-use Rattle.leg_bits.proofs.main.Tie as tie
+use Rattle.leg_bits.proofs.combinations.Statement.{statement}
+use Rattle.leg_bits.proofs.combinations.Tie as tie
 
 abbrev Inv-loop : tie.InvT-loop
 Inv-loop i₀ i = i ≤ 936
@@ -29,7 +29,7 @@ loop-again c = omega arith
 returns : tie.Need-returns Inv-loop μ-loop
 returns c = search needs
 
-pub main-spec : {M : Type 1} → statement M
-main-spec =
+pub combinations-spec : {M : Type 1} → statement M
+combinations-spec =
     tie.close
     (tie.spec Inv-loop μ-loop loop-holds combination-requires add-i loop-less loop-again returns)

@@ -1,0 +1,25 @@
+-- `field::boxes::turned_away` meets its contract, by those of `progress_into`, `missed_leg` and `on_leg`. Assumes nothing.
+use mathlib.Core.Path.{_∙_}
+use borrow.Author.Needs.{needs}
+use Rattle.field.specs.Boxes.{onLeg, turnedAway}
+use Rattle.field.proofs.boxes.turned_away.Statement.{statement}
+use Rattle.field.proofs.boxes.turned_away.Tie as tie
+
+progress-into-requires : tie.Need-progress-into-requires
+progress-into-requires c κs = search needs
+
+missed-leg-requires : tie.Need-missed-leg-requires
+missed-leg-requires c κs = search needs
+
+on-leg-requires : tie.Need-on-leg-requires
+on-leg-requires c κs = search needs
+
+returns : tie.Need-returns
+unfolding turnedAway
+returns c =
+    let into = c .before .before in
+    let a = into .before .args .a in
+    c .on-leg .ensures ∙ (λ i. onLeg a (into .progress-into .ensures i) (c .before .missed-leg .ensures i))
+
+pub turned-away-spec : {M : Type 1} → statement M
+turned-away-spec = tie.close (tie.spec progress-into-requires missed-leg-requires on-leg-requires returns)
