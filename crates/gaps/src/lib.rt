@@ -15,7 +15,7 @@ use questions::find::place_of;
 ghost use mathlib.Core.Path.{_≡_};
 ghost use mathlib.Core.Bool.{_&&_};
 ghost use Rattle.field.specs.Boxes.{orderOf};
-ghost use Rattle.gaps.specs.Gaps.{leftOf, toGo, wayOf, gapOf, spacingOf, onApproach, noPair, pairOf, pairsIn, listed, refused, gapsOf};
+ghost use Rattle.gaps.specs.Gaps.{leftOf, toGo, wayOf, gapOf, spacingOf, onApproach, noPair, pairOf, pairsIn, listed, refused, legalSpacing, gapsOf};
 
 // The widest spacing that may be asked for, in 64ths of a mile.
 const WIDEST: u16 = 512;
@@ -173,14 +173,18 @@ fn listed(f: Field, spacing: u16) -> Spacings
     }
 }
 
+// Whether a spacing is 1 to 512.
+pub fn legal_spacing(spacing: u16) -> bool
+    ensures { λ r. ⌜ r ≡ legalSpacing spacing ⌝ }
+{
+    if 1 <= spacing { spacing <= WIDEST } else { false }
+}
+
 // The spacing of each pair on the approach, in sequence order; 4 for a spacing that is not 1 to 512, then 10 for a field that breaks a bound.
 pub fn gaps(f: Field, spacing: u16) -> Spacings
     ensures { λ r. ⌜ r ≡ gapsOf f spacing ⌝ }
 {
-    if spacing < 1 {
-        return refused(4);
-    }
-    if WIDEST < spacing {
+    if !legal_spacing(spacing) {
         return refused(4);
     }
     if !within_bounds(f) {
