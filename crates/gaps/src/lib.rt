@@ -177,7 +177,11 @@ fn listed(f: Field, spacing: u16) -> Spacings
 pub fn legal_spacing(spacing: u16) -> bool
     ensures { λ r. ⌜ r ≡ legalSpacing spacing ⌝ }
 {
-    if 1 <= spacing { spacing <= WIDEST } else { false }
+    if 1 <= spacing {
+        spacing <= WIDEST
+    } else {
+        false
+    }
 }
 
 // The spacing of each pair on the approach, in sequence order; 4 for a spacing that is not 1 to 512, then 10 for a field that breaks a bound.
