@@ -6,13 +6,10 @@ use Prim.Native.Nat.{ℕ, _-_}
 use lib.Dec.{eqb, leb}
 use lib.ListN.{length, replicate}
 use lib.Ieee.{Float, binary64, add, sub, lt}
-use Rattle.leg.specs.Progress.{whole, sixtyFourths}
-use Rattle.leg.specs.declared.Progress.{Progress}
-use Rattle.leg.specs.declared.Progress.the-variants.{Waiting, Flying}
-use Rattle.field.specs.declared.Aircraft.{Aircraft}
+use Rattle.leg.specs.Progress.{whole, sixtyFourths, remaining}
 use Rattle.field.specs.declared.Legs.{Legs}
 use Rattle.field.specs.declared.Field.{Field}
-use Rattle.field.specs.Boxes.{intermediate, finalApproach, orderOf, legOf}
+use Rattle.field.specs.Boxes.{intermediate, finalApproach, orderOf}
 use Rattle.questions.specs.Find.{placeOf, aircraftAt}
 use Rattle.bounds.specs.Bounds.{withinBounds}
 use Rattle.gaps.specs.declared.Spacing.{Spacing}
@@ -22,12 +19,6 @@ use Rattle.gaps.specs.declared.Spacings.{Spacings}
 
 -- ---- the way to the threshold
 
--- "what is left of its leg": the leg less the miles flown on it, rounded once. Nobody waits on the approach of a field within the bounds;
--- of one that waits the whole leg is left.
-abbrev pub leftOf : Float → Progress → Float
-leftOf leg Waiting = leg
-leftOf leg (Flying miles) = sub binary64 leg miles
-
 -- "plus the full legs that follow (base, intermediate, final), added in that order": final after intermediate, both after a base, each sum
 -- rounded once
 unfoldable pub toGo : Legs → ℕ → Float → Float
@@ -36,12 +27,12 @@ toGo legs z left =
     (cond (eqb z intermediate) (add binary64 left (legs .«final_approach»))
     (add binary64 (add binary64 left (legs .intermediate)) (legs .«final_approach»)))
 
--- the miles to the threshold of the one with this number
+-- the miles to the threshold of the one with this number: "what is left of its leg", its own (2.7), and the legs that follow
 unfoldable pub wayOf : Field → ℕ → Float
 wayOf f number =
     let at = placeOf f number in
     let a = aircraftAt f (at .zone) (at .place) in
-    toGo (f .legs) (at .zone) (leftOf (legOf (f .legs) (at .zone)) (a .progress))
+    toGo (f .legs) (at .zone) (remaining (a .progress) (a .leg))
 
 -- ---- a pair
 

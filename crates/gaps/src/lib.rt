@@ -3,19 +3,18 @@
 use bounds::within_bounds;
 use field::Field;
 use field::Legs;
-use field::boxes::leg_of;
 use field::boxes::order_length;
 use field::zones::FINAL;
 use field::zones::FIRST_BASE;
 use field::zones::INTERMEDIATE;
-use leg::Progress;
 use leg::of_sixty_fourths;
+use leg::remaining;
 use questions::find::aircraft_at;
 use questions::find::place_of;
 ghost use mathlib.Core.Path.{_≡_};
 ghost use mathlib.Core.Bool.{_&&_};
 ghost use Rattle.field.specs.Boxes.{orderOf};
-ghost use Rattle.gaps.specs.Gaps.{leftOf, toGo, wayOf, gapOf, spacingOf, onApproach, noPair, pairOf, pairsIn, listed, refused, legalSpacing, gapsOf};
+ghost use Rattle.gaps.specs.Gaps.{toGo, wayOf, gapOf, spacingOf, onApproach, noPair, pairOf, pairsIn, listed, refused, legalSpacing, gapsOf};
 
 // The widest spacing that may be asked for, in 64ths of a mile.
 const WIDEST: u16 = 512;
@@ -40,16 +39,6 @@ pub struct Spacings {
     pub pairs: [Pair; 3],
 }
 
-// What is left of a leg, rounded once.
-fn left_of(leg: f64, p: Progress) -> f64
-    ensures { λ r. ⌜ r ≡ leftOf leg p ⌝ }
-{
-    match p {
-        Progress::Waiting => leg,
-        Progress::Flying(miles) => leg - miles,
-    }
-}
-
 // The miles to the threshold from what is left of the leg of a zone of the approach: the legs that follow are added in order, each sum rounded once.
 fn to_go(legs: Legs, zone: usize, left: f64) -> f64
     ensures { λ r. ⌜ r ≡ toGo legs zone left ⌝ }
@@ -70,7 +59,7 @@ fn way_of(f: Field, number: u16) -> f64
     let a = aircraft_at(f, zone, at.place);
     let p = a.progress;
     let legs = f.legs;
-    to_go(legs, zone, left_of(leg_of(legs, zone), p))
+    to_go(legs, zone, remaining(p, a.leg))
 }
 
 // The follower's miles to the threshold less the leader's, rounded once.
