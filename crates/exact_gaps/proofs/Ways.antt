@@ -1,15 +1,13 @@
--- The way to the threshold of one on the approach is exact, and with it the gap of each pair. Assumes nothing.
-use mathlib.Core.Path.{_≡_, refl, sym, ap, _∙_, subst}
-use mathlib.Core.Bool.{Bool, true, false, cond, not, _&&_}
-use mathlib.Core.Logic.{_⊎_, inl, inr}
-use mathlib.Core.List.{List, [], _∷_, _++_}
-use Prim.Native.Nat.{ℕ, zero, suc, _+_, _-_, _*_, _^_, _≤_, _<_, min}
+-- The way to the threshold of one on the approach, from its account, is exact. Assumes nothing.
+use mathlib.Core.Path.{_≡_, subst}
+use mathlib.Core.Bool.{Bool}
+use mathlib.Core.List.{List, [], _∷_}
+use Prim.Native.Nat.{ℕ, zero, suc, _+_, _-_, _*_, _≤_, _<_, min}
 use native.Mathlib.Omega.{arith}
-use lib.Dec.{T, eqb, leb, ltb, leb→le, le→leb}
+use lib.Dec.{T}
 use lib.ListN.{length, getD}
-use lib.Ieee.{Float, binary64, sub, add, eq, lt}
-use lib.Ieee.Fits.{and-i, and-l, and-r}
-use borrow.Author.Tests.{ne-eqb, leb-true}
+use lib.Ieee.{Float, binary64, add, eq}
+use lib.Ieee.Fits.{and-l, and-r}
 use Rattle.limits.specs.Limits.{longestLeg}
 use Rattle.leg.specs.Progress.{sixtyFourths, remaining}
 use Rattle.leg.specs.Ticks.{Between, Exactly, FlownExactly}
@@ -17,34 +15,24 @@ use Rattle.leg.specs.declared.Progress.{Progress}
 use Rattle.leg.specs.declared.Progress.the-variants.{Waiting, Flying}
 use Rattle.leg.proofs.Grid.{sixtyFourths-exact}
 use Rattle.leg.proofs.Missed.{left-grid, ahead-grid}
-use Rattle.request.specs.Input.{within}
-use Rattle.request.specs.declared.Request.{Request}
 use Rattle.field.specs.declared.Aircraft.{Aircraft}
-use Rattle.field.specs.declared.Legs.{Legs}
-use Rattle.field.specs.declared.Field.{Field}
-use Rattle.field.specs.Boxes.{nobody, everywhere, inZone, legOf, emptyField, orderOf, isFlyingZone}
-use Rattle.field.specs.Lists.{every, isIn}
-use Rattle.field.proofs.Tests.{passed, pass, decided, either-way, each-from}
-use Rattle.questions.specs.declared.Place.{Place}
-use Rattle.questions.specs.Counts.{howMany}
-use Rattle.questions.specs.Find.{placeOf, aircraftAt, numbersIn}
-use Rattle.questions.proofs.FindLaws.{found-exactly, found-there}
-use Rattle.bounds.specs.Bounds.{fitsZone, legFits, boundG, withinBounds, legalLegs}
-use Rattle.laws.proofs.Fits.{fits-parts}
-use Rattle.rules.specs.Play.{fieldAfter, played}
-use Rattle.demand.specs.Exact.{WholeLegs, inMiles, in64ths, Flight, noFlight, flightAfter, EachAircraft, Account}
-use Rattle.gaps.specs.Gaps.{toGo, wayOf}
-use Rattle.exact_gaps.specs.ExactGaps.{following, wayFrom, reached, wayIn4096ths}
+use Rattle.field.specs.Boxes.{nobody, legOf, isFlyingZone}
+use Rattle.field.specs.Lists.{every}
+use Rattle.field.proofs.Tests.{each-from}
+use Rattle.bounds.specs.Bounds.{legFits}
+use Rattle.demand.specs.Exact.{WholeLegs, inMiles, in64ths, Flight, EachAircraft, Account}
+use Rattle.gaps.specs.Gaps.{toGo}
+use Rattle.exact_gaps.specs.ExactGaps.{wayFrom}
 use Rattle.exact_gaps.proofs.Signed.{same-parts}
 
 -- ---- one of a queue, by its place from 1
-each-at : (P : Aircraft → Type 0) (qs : List Aircraft) (place : ℕ) → EachAircraft P qs → 1 ≤ place → place ≤ length qs → P (getD (nobody ∷ qs) place nobody)
+pub each-at : (P : Aircraft → Type 0) (qs : List Aircraft) (place : ℕ) → EachAircraft P qs → 1 ≤ place → place ≤ length qs → P (getD (nobody ∷ qs) place nobody)
 each-at P qs zero e low high = absurd (omega arith)
 each-at P [] (suc i) e low high = absurd (omega arith)
 each-at P (a ∷ qs) (suc zero) e low high = e .0
 each-at P (a ∷ qs) (suc (suc i)) e low high = each-at P qs (suc i) (e .1) (omega arith) (omega arith)
 
-every-at : (p : Aircraft → Bool) (qs : List Aircraft) (place : ℕ) → T (every p qs) → 1 ≤ place → place ≤ length qs → T (p (getD (nobody ∷ qs) place nobody))
+pub every-at : (p : Aircraft → Bool) (qs : List Aircraft) (place : ℕ) → T (every p qs) → 1 ≤ place → place ≤ length qs → T (p (getD (nobody ∷ qs) place nobody))
 every-at p qs zero e low high = absurd (omega arith)
 every-at p [] (suc i) e low high = absurd (omega arith)
 every-at p (a ∷ qs) (suc zero) e low high = and-l (p a) (every p qs) e
@@ -70,7 +58,7 @@ module _ (w : WholeLegs) (a : Aircraft) (s : Flight) where
   middle-exact : Exactly (sixtyFourths (w .intermediate-leg)) (64 * w .intermediate-leg)
   middle-exact = sixtyFourths-exact (w .intermediate-leg) (let h = w .intermediate-fits in omega arith)
 
-  from-base : (z : ℕ) → (T (isFlyingZone z)) → T (eq (a .leg) (sixtyFourths (w .base-leg))) → Account s z a
+  from-base : (z : ℕ) → T (isFlyingZone z) → T (eq (a .leg) (sixtyFourths (w .base-leg))) → Account s z a
       → Exactly (add binary64 (add binary64 (remaining (a .progress) (a .leg)) (sixtyFourths (w .intermediate-leg))) (sixtyFourths (w .final-leg))) (64 * w .base-leg - min (64 * w .base-leg) (a .speed * s .ticks) + (64 * w .intermediate-leg + 64 * w .final-leg))
   from-base z f e k =
       let l = 64 * w .base-leg - min (64 * w .base-leg) (a .speed * s .ticks) in
@@ -83,7 +71,7 @@ module _ (w : WholeLegs) (a : Aircraft) (s : Flight) where
       let same : l + 64 * w .intermediate-leg + 64 * w .final-leg ≡ l + (64 * w .intermediate-leg + 64 * w .final-leg) = omega arith in
       subst (Exactly (add binary64 (add binary64 (remaining (a .progress) (a .leg)) (sixtyFourths (w .intermediate-leg))) (sixtyFourths (w .final-leg)))) same all
 
-  way-exact : (z : ℕ) → 9 ≤ z → z ≤ 12 → Way z
+  pub way-exact : (z : ℕ) → 9 ≤ z → z ≤ 12 → Way z
   unfolding toGo legFits legOf isFlyingZone
   way-exact z low high = each-from 9 4 Way (from-base 9 tt, (from-base 10 tt, (middle, (last, tt)))) z low (omega arith)
     where

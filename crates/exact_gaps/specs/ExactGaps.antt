@@ -10,13 +10,14 @@ use lib.Ieee.{Float}
 use lib.Ieee.Exact.{HasValue}
 use Rattle.request.specs.declared.Request.{Request}
 use Rattle.field.specs.declared.Field.{Field}
-use Rattle.field.specs.Boxes.{intermediate, finalApproach, emptyField}
+use Rattle.field.specs.Boxes.{intermediate, finalApproach, orderOf, emptyField}
 use Rattle.questions.specs.Find.{placeOf, aircraftAt}
 use Rattle.rules.specs.Play.{fieldAfter, played}
 use Rattle.demand.specs.Exact.{WholeLegs, inMiles, in64ths, noFlight, flightAfter}
 use Rattle.gaps.specs.declared.Spacing.{Spacing}
 use Rattle.gaps.specs.declared.Spacing.the-variants.{Close, Clear}
 use Rattle.gaps.specs.declared.Pair.{Pair}
+use Rattle.gaps.specs.Gaps.{pairsIn, listed, gapsOf}
 
 -- the miles times 4096 are exactly this integer, of either sign
 abbrev pub ExactlySigned : Float → ℤ → Type 0
@@ -63,3 +64,8 @@ pub record ExactPair (w : WholeLegs) (rs : List Request) (spacing : ℕ) (p : Pa
 abbrev pub EachPair : (Pair → Type 0) → List Pair → Type 0
 EachPair P [] = Unit {0}
 EachPair P (p ∷ ps) = P p × EachPair P ps
+
+-- what holds of a legal spacing on that field: it is not refused, and each pair is exact
+pub record ExactGaps (w : WholeLegs) (rs : List Request) (spacing : ℕ) : Type 0 where
+  pub accepted : gapsOf (reached w rs) spacing ≡ listed (pairsIn (reached w rs) spacing (orderOf (reached w rs .sequence)))
+  pub exact : EachPair (ExactPair w rs spacing) (pairsIn (reached w rs) spacing (orderOf (reached w rs .sequence)))
