@@ -133,7 +133,7 @@ module _ (w : WholeLegs) (rs : List Request) where
         let s = flightAfter w n noFlight (played (emptyField (inMiles w)) rs) in
         subst (λ (l : Legs). Exactly (toGo l z (remaining (a .progress) (a .leg))) (wayFrom w z (min (64 * in64ths w z) (a .speed * s .ticks)))) (sym legs-are) (way-exact w a s z low high own account)
 
-  way-few : (n : ℕ) → wayIn4096ths w rs n < 2 ^ 53
+  pub way-few : (n : ℕ) → wayIn4096ths w rs n < 2 ^ 53
   unfolding wayIn4096ths
   way-few n = way-small w (placeOf f n .zone) _
 

@@ -1,3 +1,5 @@
 pub mod Decimals
 pub mod Listed
 pub mod Sizes
+pub mod Texts
+pub mod Printed

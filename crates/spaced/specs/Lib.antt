@@ -1,2 +1,3 @@
 pub mod Miles
 pub mod Spaced
+pub mod Printed
