@@ -1,4 +1,5 @@
 pub mod Decimals
+pub mod Digits
 pub mod Listed
 pub mod Sizes
 pub mod Texts
