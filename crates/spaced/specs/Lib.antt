@@ -1,3 +1,4 @@
 pub mod Miles
 pub mod Spaced
 pub mod Printed
+pub mod Word
