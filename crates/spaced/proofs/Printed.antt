@@ -31,7 +31,7 @@ use Rattle.gaps.specs.Gaps.{noPair, legalSpacing, pairsIn, listed, gapsOf}
 use Rattle.exact_gaps.specs.ExactGaps.{reached, wayIn4096ths, gapIn, isClose, ExactPair, EachPair}
 use Rattle.exact_gaps.proofs.ExactGaps.{way-few, exact-gaps}
 use Rattle.text.specs.Text.{decimal, space, newline}
-use Rattle.spaced.specs.Miles.{milesText}
+use Rattle.miles.specs.Miles.{milesText}
 use Rattle.spaced.specs.Spaced.{gapText, spacingText, pairLine, pairLines, spacingsReport, spacedOf}
 use Rattle.spaced.specs.Printed.{signedText, wordOf, wholeLine, wholeLines}
 use Rattle.spaced.proofs.Texts.{difference-text}

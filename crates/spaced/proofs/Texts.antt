@@ -19,7 +19,7 @@ use Rattle.leg.proofs.Floats.{lt-of-values}
 use Rattle.leg.proofs.Grid.{whole-value}
 use Rattle.field.proofs.Tests.{either-way}
 use Rattle.exact_gaps.specs.ExactGaps.{ExactlySigned}
-use Rattle.spaced.specs.Miles.{minus, fraction, in4096ths, milesText}
+use Rattle.miles.specs.Miles.{minus, fraction, in4096ths, milesText}
 use Rattle.spaced.specs.Printed.{signedText}
 
 -- ---- a product, by the fractions that the factors equal

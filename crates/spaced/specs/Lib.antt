@@ -1,4 +1,2 @@
-pub mod Miles
 pub mod Spaced
 pub mod Printed
-pub mod Word

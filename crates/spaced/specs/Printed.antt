@@ -1,16 +1,16 @@
 -- What is printed, in whole numbers alone: the report of a file as theorem `printed-exact` of `proofs/Printed.antt` gives it, with no `f64` in it.
 -- Definitions only.
-use Prim.Native.Nat.{ℕ, zero, suc, _+_, _-_, _*_, _^_}
-use mathlib.Core.Bool.{Bool, true, false, not}
+use Prim.Native.Nat.{ℕ, suc, _+_, _*_}
+use mathlib.Core.Bool.{Bool, true, false}
 use mathlib.Core.List.{List, [], _∷_, _++_}
-use lib.Dec.{eqb, ltb}
+use lib.Dec.{ltb}
 use lib.IntN.{ℤ, pos, negsuc, subℕ}
 use Rattle.request.specs.declared.Request.{Request}
 use Rattle.demand.specs.Exact.{WholeLegs}
 use Rattle.gaps.specs.declared.Pair.{Pair}
 use Rattle.text.specs.Text.{decimal, space, newline}
 use Rattle.exact_gaps.specs.ExactGaps.{wayIn4096ths}
-use Rattle.spaced.specs.Miles.{minus, fraction}
+use Rattle.miles.specs.Miles.{minus, fraction}
 
 -- an integer of 4096ths in decimal
 abbrev pub signedText : ℤ → List ℕ
@@ -32,15 +32,3 @@ wholeLine w rs spacing leader follower =
 abbrev pub wholeLines : WholeLegs → List Request → ℕ → List Pair → List ℕ
 wholeLines w rs spacing [] = []
 wholeLines w rs spacing (p ∷ ps) = wholeLine w rs spacing (p .leader) (p .follower) ++ wholeLines w rs spacing ps
-
--- what digits after the point are worth, in units of the k-th place: no more than k of them, the first at the first place
-abbrev pub worthOf : ℕ → List ℕ → ℕ
-worthOf k [] = 0
-worthOf zero (d ∷ ds) = 0
-worthOf (suc k) (d ∷ ds) = (d - 48) * 10 ^ k + worthOf k ds
-
--- whether the last digit, if any, is not 0
-abbrev pub endsWell : List ℕ → Bool
-endsWell [] = true
-endsWell (d ∷ []) = not (eqb d 48)
-endsWell (d ∷ e ∷ ds) = endsWell (e ∷ ds)

@@ -14,7 +14,7 @@ use Rattle.gaps.specs.declared.Spacing.the-variants.{Close, Clear}
 use Rattle.gaps.specs.declared.Pair.{Pair}
 use Rattle.gaps.specs.declared.Spacings.{Spacings}
 use Rattle.gaps.specs.Gaps.{legalSpacing, gapsOf}
-use Rattle.spaced.specs.Miles.{milesText}
+use Rattle.miles.specs.Miles.{milesText}
 
 -- the end of a line: the gap in miles
 unfoldable pub gapText : Float → List ℕ

@@ -1,7 +1,5 @@
 // The spacing along the path after a practice file (document 02, 2.8): from the bytes of the file and a spacing to the bytes of the report.
 mod lines;
-mod miles;
-pub mod word;
 
 use crate::lines::put_refused_file;
 use crate::lines::put_refused_spacing;

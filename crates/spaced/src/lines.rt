@@ -1,8 +1,8 @@
 // The lines of a spacing report, put into the caller's buffer (specs/Spaced.antt). Each function yields the place after what it put.
-use crate::miles::put_miles;
 use gaps::Pair;
 use gaps::Spacing;
 use gaps::Spacings;
+use miles::put_miles;
 use text::put_byte;
 use text::put_line;
 use text::put_number;
