@@ -16,7 +16,9 @@ use Rattle.text.specs.Text.{decimal, line}
 use Rattle.text.proofs.Texts.{decimal-short, line-short}
 use Rattle.miles.specs.Miles.{milesText}
 use Rattle.miles.proofs.Sizes.{miles-short}
-use Rattle.spaced.specs.Spaced.{gapText, spacingText, pairLine, pairLines, refusedSpacing, refusedFile, spacingsReport}
+use Rattle.session.specs.Report.{refusedReport}
+use Rattle.session.proofs.Entries.{refused-length}
+use Rattle.spaced.specs.Spaced.{gapText, spacingText, pairLine, pairLines, refusedSpacing, spacingsReport}
 
 gap-short : (x : Float) → length (gapText x) ≤ 31
 unfolding gapText
@@ -62,9 +64,8 @@ pub refused-spacing-short : (n : ℕ) → n < 2 ^ 64 → length (refusedSpacing 
 unfolding refusedSpacing
 refused-spacing-short n h = let l = number-short n h in omega arith
 
-pub refused-file-short : (n : ℕ) → n < 2 ^ 64 → length (refusedFile n) ≤ 1024
-unfolding refusedFile
-refused-file-short n h = let l = number-short n h in omega arith
+pub refused-file-short : (n : ℕ) → n < 2 ^ 64 → length (refusedReport n) ≤ 1024
+refused-file-short n h = let l = refused-length n h in omega arith
 
 pub spacings-short : (s : Spacings) → SpacingsKnown s → length (spacingsReport s) ≤ 1024
 unfolding spacingsReport

@@ -9,6 +9,7 @@ use Rattle.practice.specs.File.{fileNumber}
 use Rattle.field.specs.declared.Field.{Field}
 use Rattle.text.specs.Text.{decimal, space, newline, line}
 use Rattle.playing.specs.Playing.{fieldOfFile}
+use Rattle.session.specs.Report.{refusedReport}
 use Rattle.gaps.specs.declared.Spacing.{Spacing}
 use Rattle.gaps.specs.declared.Spacing.the-variants.{Close, Clear}
 use Rattle.gaps.specs.declared.Pair.{Pair}
@@ -37,10 +38,6 @@ pairLines (p ∷ ps) = pairLine p ++ pairLines ps
 unfoldable pub refusedSpacing : ℕ → List ℕ
 refusedSpacing number = 115 ∷ 112 ∷ 97 ∷ 99 ∷ 105 ∷ 110 ∷ 103 ∷ space ∷ line (number ∷ [])
 
--- a refused file: `file` and its number
-unfoldable pub refusedFile : ℕ → List ℕ
-refusedFile number = 102 ∷ 105 ∷ 108 ∷ 101 ∷ space ∷ line (number ∷ [])
-
 -- the report of an answer: a refusal, or a line for each pair
 unfoldable pub spacingsReport : Spacings → List ℕ
 spacingsReport s = cond (eqb (s .number) 0) (pairLines (take (s .count) (s .pairs))) (refusedSpacing (s .number))
@@ -49,7 +46,7 @@ spacingsReport s = cond (eqb (s .number) 0) (pairLines (take (s .count) (s .pair
 unfoldable pub spacedOf : List ℕ → ℕ → List ℕ
 spacedOf file spacing =
     cond (legalSpacing spacing)
-    (cond (eqb (fileNumber file) 0) (spacingsReport (gapsOf (fieldOfFile file) spacing)) (refusedFile (fileNumber file)))
+    (cond (eqb (fileNumber file) 0) (spacingsReport (gapsOf (fieldOfFile file) spacing)) (refusedReport (fileNumber file)))
     (refusedSpacing 4)
 
 -- how many bytes the caller's buffer has

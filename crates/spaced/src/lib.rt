@@ -1,12 +1,12 @@
 // The spacing along the path after a practice file (document 02, 2.8): from the bytes of the file and a spacing to the bytes of the report.
 mod lines;
 
-use crate::lines::put_refused_file;
 use crate::lines::put_refused_spacing;
 use crate::lines::put_spacings;
 use gaps::gaps;
 use gaps::legal_spacing;
 use playing::play;
+use session::lines::put_refused;
 ghost use mathlib.Core.Path.{_≡_};
 ghost use Prim.Native.Nat.{_≤_};
 ghost use mathlib.Core.List.{_++_};
@@ -30,7 +30,7 @@ pub fn spaced(file: &[u8], spacing: u16, out: &mut SpacingBuffer) -> usize
     let p = play(file, false, &mut log);
     let number = p.number;
     if number != 0 {
-        return put_refused_file(bytes, number);
+        return put_refused(bytes, number);
     }
     let f = p.field;
     put_spacings(bytes, gaps(f, spacing))

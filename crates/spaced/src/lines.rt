@@ -8,7 +8,7 @@ use text::put_line;
 use text::put_number;
 use text::put_text;
 ghost use Rattle.text.specs.Buffer.{Put};
-ghost use Rattle.spaced.specs.Spaced.{gapText, spacingText, pairLine, refusedSpacing, refusedFile, spacingsReport};
+ghost use Rattle.spaced.specs.Spaced.{gapText, spacingText, pairLine, refusedSpacing, spacingsReport};
 
 // The gap at the end of a line.
 fn put_gap(out: &mut [u8], at: usize, gap: f64) -> usize
@@ -51,15 +51,6 @@ pub(crate) fn put_refused_spacing(out: &mut [u8], number: u16) -> usize
     ensures { λ r. ⌜ Put (now (out .entry)) 0 (refusedSpacing number) (now (out .exit)) r ⌝ }
 {
     let next = put_text(out, 0, b"spacing ");
-    let numbers = [number as usize];
-    put_line(out, next, &numbers)
-}
-
-// The report of a refused file, from the buffer's first byte on.
-pub(crate) fn put_refused_file(out: &mut [u8], number: u16) -> usize
-    ensures { λ r. ⌜ Put (now (out .entry)) 0 (refusedFile number) (now (out .exit)) r ⌝ }
-{
-    let next = put_text(out, 0, b"file ");
     let numbers = [number as usize];
     put_line(out, next, &numbers)
 }

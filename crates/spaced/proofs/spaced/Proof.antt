@@ -19,7 +19,8 @@ use Rattle.gaps.specs.Gaps.{gapsOf, legalSpacing}
 use Rattle.gaps.proofs.Known.{spacings-known}
 use Rattle.text.specs.Buffer.{Put}
 use Rattle.text.proofs.Texts.{put-whole}
-use Rattle.spaced.specs.Spaced.{refusedSpacing, refusedFile, spacingsReport, spacedOf, spacedRoom}
+use Rattle.session.specs.Report.{refusedReport}
+use Rattle.spaced.specs.Spaced.{refusedSpacing, spacingsReport, spacedOf, spacedRoom}
 use Rattle.spaced.proofs.Sizes.{refused-spacing-short, refused-file-short, spacings-short}
 use Rattle.spaced.proofs.spaced.Statement.{statement}
 use Rattle.spaced.proofs.spaced.Tie as tie
@@ -61,8 +62,8 @@ returns c =
 play-requires : tie.Need-play-requires
 play-requires c κs = search needs
 
-put-refused-file-requires : tie.Need-put-refused-file-requires
-put-refused-file-requires c κs = search needs
+put-refused-requires : tie.Need-put-refused-requires
+put-refused-requires c κs = search needs
 
 -- past the first test the spacing is legal
 legal : (c : tie.After-play) → legalSpacing (c .before .before .before .before .before .before .args .spacing) ≡ true
@@ -74,8 +75,8 @@ returns-2 c =
     let k = c .before .before in
     let n = number-told k in
     let refused : fileNumber (file-of k) ≡ 0 → ⊥ = λ e. c .before .if2 .taken (n ∙ e) in
-    ends (c .put-refused-file .ensures) (room-known (k .before .before .before .before)) (refused-file-short (k .play .result .number) (omega (arith, k .play .ok)))
-    (ap refusedFile n ∙ sym (if-true _ _ (legal k) ∙ if-false _ _ (ne-eqb _ 0 refused)))
+    ends (c .put-refused .ensures) (room-known (k .before .before .before .before)) (refused-file-short (k .play .result .number) (omega (arith, k .play .ok)))
+    (ap refusedReport n ∙ sym (if-true _ _ (legal k) ∙ if-false _ _ (ne-eqb _ 0 refused)))
 
 gaps-requires : tie.Need-gaps-requires
 gaps-requires c κs = search needs
@@ -102,7 +103,7 @@ spaced-spec =
     put-refused-spacing-requires
     returns
     play-requires
-    put-refused-file-requires
+    put-refused-requires
     returns-2
     gaps-requires
     put-spacings-requires
