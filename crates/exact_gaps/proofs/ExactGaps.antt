@@ -1,41 +1,38 @@
 -- After every list of requests from an empty field with legs in whole 64ths, each gap is exact, and close says what the whole numbers say. Assumes nothing.
 use mathlib.Core.Path.{_≡_, refl, sym, ap, _∙_, subst}
 use mathlib.Core.Bool.{Bool, true, false, cond, not, _&&_, _||_, true≢false}
-use mathlib.Core.Logic.{_⊎_, inl, inr}
+use mathlib.Core.Logic.{inl, inr}
 use mathlib.Core.List.{List, [], _∷_, _++_}
 use Prim.Native.Nat.{ℕ, _+_, _-_, _*_, _^_, _≤_, _<_, min}
 use native.Mathlib.Omega.{arith}
-use lib.Dec.{T, eqb, leb, ltb, leb→le, le→leb}
+use lib.Dec.{T, eqb, leb, leb→le, le→leb}
 use lib.IntN.{subℕ}
 use lib.Ieee.{Float, lt}
 use lib.Ieee.Fits.{and-i, and-l, and-r}
 use borrow.Author.Tests.{ne-eqb}
 use Rattle.leg.specs.Progress.{sixtyFourths, remaining}
 use Rattle.leg.specs.Ticks.{Exactly}
-use Rattle.request.specs.Input.{within}
 use Rattle.request.specs.declared.Request.{Request}
 use Rattle.field.specs.declared.Aircraft.{Aircraft}
 use Rattle.field.specs.declared.Legs.{Legs}
 use Rattle.field.specs.declared.Field.{Field}
 use Rattle.field.specs.Boxes.{everywhere, inZone, isSide, emptyField, orderOf}
 use Rattle.field.specs.Lists.{every, isIn}
-use Rattle.field.proofs.Tests.{passed, pass, decided, if-true, if-false, either-way}
+use Rattle.field.proofs.Tests.{passed, pass, decided, if-true, either-way}
 use Rattle.field.proofs.Lists.{every-listed}
-use Rattle.questions.specs.declared.Place.{Place}
 use Rattle.questions.specs.Counts.{howMany}
 use Rattle.questions.specs.Find.{placeOf, aircraftAt, numbersIn}
 use Rattle.questions.proofs.FindLaws.{Found, found-exactly, found-there}
 use Rattle.bounds.specs.Bounds.{fitsZone, legFits, boundG, withinBounds, legalLegs}
 use Rattle.laws.proofs.BoundLaws.{within-each}
 use Rattle.laws.proofs.Fits.{fits-parts}
-use Rattle.rules.specs.Play.{fieldAfter, played}
+use Rattle.rules.specs.Play.{played}
 use Rattle.line.proofs.Line.{fieldOf}
 use Rattle.line.proofs.Within.{within-bounds}
-use Rattle.demand.specs.Exact.{WholeLegs, inMiles, in64ths, Flight, noFlight, flightAfter, Account}
+use Rattle.demand.specs.Exact.{WholeLegs, inMiles, in64ths, noFlight, flightAfter, Account}
 use Rattle.demand.proofs.Demand.{from-empty}
 use Rattle.demand.proofs.Flights.{legs-legal}
 use Rattle.demand.proofs.Exact.{exactness}
-use Rattle.gaps.specs.declared.Spacing.{Spacing}
 use Rattle.gaps.specs.declared.Spacing.the-variants.{Close, Clear}
 use Rattle.gaps.specs.declared.Pair.{Pair}
 use Rattle.gaps.specs.Gaps.{toGo, wayOf, gapOf, spacingOf, pairOf, onApproach, between, pairsIn, legalSpacing, listed, refused, gapsOf}

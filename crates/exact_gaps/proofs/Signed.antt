@@ -1,5 +1,5 @@
 -- Differences of either sign on the grid of the 4096ths: nothing is rounded, and a comparison with a spacing is one of whole numbers. Assumes nothing.
-use mathlib.Core.Path.{_≡_, refl, sym, ap, _∙_, subst}
+use mathlib.Core.Path.{_≡_, sym, ap, _∙_, subst}
 use mathlib.Core.Bool.{Bool, true, false, cond, true≢false}
 use Prim.Native.Nat.{ℕ, suc, _+_, _-_, _*_, _^_, _≤_, _<_}
 use native.Mathlib.Nat.{mul-assoc, mul-comm, mul-left-comm, mul-sub, mul-pos, eq-of-mul-eq-mul-right, lt-of-not-le, lt-of-lt-of-le, mul-le-mul-right, mul-lt-mul-of-pos-right, not-le-of-lt}
@@ -7,7 +7,7 @@ use native.Mathlib.Decide.{decLe}
 use native.Mathlib.Omega.{arith}
 use lib.Dec.{T, ltb, eqb, eqb→eq, ltb→lt, lit<, lit≤}
 use lib.Pow.{pow-add, pow-mono, shl-lt}
-use lib.IntN.{ℤ, pos, negsuc, subℕ}
+use lib.IntN.{pos, negsuc, subℕ}
 use lib.Ieee.{Float, nan, inf, fin, binary64, up, down, round, sub, lt, eq}
 use lib.Ieee.Fits.{and-l, up-pos, down-pos}
 use lib.Ieee.Exact.{HasValue, round-exact}

@@ -1,13 +1,9 @@
 -- The report of a practice file, in whole numbers alone: nothing that is printed was rounded. Assumes nothing.
 use mathlib.Core.Path.{_≡_, refl, sym, ap, _∙_}
-use mathlib.Core.Bool.{Bool, true, cond}
-use mathlib.Core.List.{List, [], _∷_, _++_, append-assoc}
-use Prim.Native.Nat.{ℕ, suc, _+_, _*_}
-use native.Mathlib.Omega.{arith}
-use lib.Dec.{T, eqb, ltb}
-use lib.IntN.{subℕ}
-use lib.ListN.{length, take, replicate}
-use lib.Ieee.{Float}
+use mathlib.Core.List.{List, [], _∷_, _++_}
+use Prim.Native.Nat.{ℕ, _+_}
+use lib.Dec.{T}
+use lib.ListN.{length, take}
 use borrow.Author.Tests.{eq-eqb}
 use Rattle.limits.specs.Limits.{longestLeg}
 use Rattle.leg.specs.Ticks.{Between}
@@ -15,8 +11,7 @@ use Rattle.request.specs.declared.Request.{Request}
 use Rattle.field.specs.declared.Field.{Field}
 use Rattle.field.specs.Boxes.{orderOf}
 use Rattle.field.proofs.Tests.{passed, if-true}
-use Rattle.practice.specs.declared.FileLegs.{FileLegs}
-use Rattle.practice.specs.File.{legsOf, legsBody, legsAllowed, fileNumber}
+use Rattle.practice.specs.File.{legsOf, legsBody, fileNumber}
 use Rattle.practice.proofs.Accepted.{LegKnown, legs-known}
 use Rattle.practice.proofs.Meaning.{held}
 use Rattle.playing.specs.declared.Played.{Played}
@@ -26,14 +21,13 @@ use Rattle.demand.specs.Exact.{WholeLegs}
 use Rattle.gaps.specs.declared.Spacing.{Spacing}
 use Rattle.gaps.specs.declared.Spacing.the-variants.{Close, Clear}
 use Rattle.gaps.specs.declared.Pair.{Pair}
-use Rattle.gaps.specs.declared.Spacings.{Spacings}
-use Rattle.gaps.specs.Gaps.{noPair, legalSpacing, pairsIn, listed, gapsOf}
+use Rattle.gaps.specs.Gaps.{legalSpacing, pairsIn, listed, gapsOf}
 use Rattle.exact_gaps.specs.ExactGaps.{reached, wayIn4096ths, gapIn, isClose, ExactPair, EachPair}
 use Rattle.exact_gaps.proofs.ExactGaps.{way-few, exact-gaps}
 use Rattle.text.specs.Text.{decimal, space, newline}
 use Rattle.miles.specs.Miles.{milesText}
 use Rattle.spaced.specs.Spaced.{gapText, spacingText, pairLine, pairLines, spacingsReport, spacedOf}
-use Rattle.spaced.specs.Printed.{signedText, wordOf, wholeLine, wholeLines}
+use Rattle.spaced.specs.Printed.{wordOf, wholeLine, wholeLines}
 use Rattle.spaced.proofs.Texts.{difference-text}
 use Rattle.spaced.proofs.Listed.{report-listed}
 

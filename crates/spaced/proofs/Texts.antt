@@ -1,16 +1,16 @@
 -- Miles that are exactly an integer of 4096ths are printed as that integer over 4096. Assumes nothing.
 use mathlib.Core.Path.{_≡_, refl, sym, ap, _∙_, subst}
 use mathlib.Core.Bool.{Bool, true, false, cond, _&&_, true≢false}
-use mathlib.Core.List.{List, _∷_}
-use Prim.Native.Nat.{ℕ, suc, _+_, _-_, _*_, _^_, _≤_, _<_}
+use mathlib.Core.List.{_∷_}
+use Prim.Native.Nat.{ℕ, suc, _+_, _-_, _*_, _^_, _<_}
 use native.Mathlib.Nat.{mul-assoc, mul-comm, mul-left-comm, mul-pos}
 use native.Mathlib.Omega.{arith}
-use lib.Dec.{T, ltb, le→leb, ltb→lt, lit<, lit≤}
+use lib.Dec.{ltb, le→leb, lit<}
 use lib.IntN.{ℤ, pos, negsuc, subℕ}
 use lib.Ieee.{Float, nan, inf, fin, Format, binary64, up, down, round, mul, neg, lt, ofInt, toUnsigned, inFloat}
 use lib.Ieee.Back.{unsigned-back}
 use lib.Ieee.Exact.{HasValue}
-use lib.Ieee.Fits.{up-pos, down-pos}
+use lib.Ieee.Fits.{down-pos}
 use lib.Ieee.Positive.{first-pos}
 use lib.Ieee.Scale.{round-same}
 use borrow.Author.Tests.{lt-ltb, le-ltb, ltb-true}

@@ -29,6 +29,7 @@ wholeLine w rs spacing leader follower =
     let behind = wayIn4096ths w rs follower in
     decimal leader ++ (space ∷ decimal follower ++ (space ∷ wordOf (ltb behind (ahead + 64 * spacing)) ++ (space ∷ signedText (subℕ behind ahead) ++ (newline ∷ []))))
 
+-- the lines of pairs
 abbrev pub wholeLines : WholeLegs → List Request → ℕ → List Pair → List ℕ
 wholeLines w rs spacing [] = []
 wholeLines w rs spacing (p ∷ ps) = wholeLine w rs spacing (p .leader) (p .follower) ++ wholeLines w rs spacing ps

@@ -6,7 +6,6 @@ use lib.Dec.{eqb}
 use lib.ListN.{take}
 use lib.Ieee.{Float}
 use Rattle.practice.specs.File.{fileNumber}
-use Rattle.field.specs.declared.Field.{Field}
 use Rattle.text.specs.Text.{decimal, space, newline, line}
 use Rattle.playing.specs.Playing.{fieldOfFile}
 use Rattle.session.specs.Report.{refusedReport}
@@ -30,6 +29,7 @@ spacingText (Clear gap) = 99 ∷ 108 ∷ 101 ∷ 97 ∷ 114 ∷ space ∷ gapTex
 unfoldable pub pairLine : Pair → List ℕ
 pairLine p = decimal (p .leader) ++ (space ∷ decimal (p .follower) ++ (space ∷ spacingText (p .spacing)))
 
+-- the lines of pairs
 abbrev pub pairLines : List Pair → List ℕ
 pairLines [] = []
 pairLines (p ∷ ps) = pairLine p ++ pairLines ps

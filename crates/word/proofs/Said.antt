@@ -1,7 +1,7 @@
 -- A word read digit by digit; a number up to 512 that is written in decimal is read back. Assumes nothing.
 use mathlib.Core.Path.{_≡_, refl, sym, ap, _∙_}
-use mathlib.Core.Bool.{Bool, true, false, cond, _&&_}
-use mathlib.Core.List.{List, [], _∷_}
+use mathlib.Core.Bool.{Bool, cond, _&&_}
+use mathlib.Core.List.{List}
 use Prim.Native.Nat.{ℕ, _+_, _-_, _*_, _≤_, _<_}
 use native.Mathlib.Omega.{arith}
 use lib.Dec.{T, leb, eqb, eqb→eq}
@@ -10,7 +10,7 @@ use borrow.Author.Tests.{le-leb, lt-leb}
 use Rattle.field.specs.Boxes.{zonesFrom}
 use Rattle.field.specs.Lists.{every}
 use Rattle.field.proofs.Parts.{and-then, and-cut}
-use Rattle.field.proofs.Tests.{if-true, if-false, every-from}
+use Rattle.field.proofs.Tests.{every-from}
 use Rattle.text.specs.Text.{digitsUpTo, decimal}
 use Rattle.text.proofs.Texts.{from-here, past-all}
 use Rattle.word.specs.Word.{saidFrom, numberSaid}

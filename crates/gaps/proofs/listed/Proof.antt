@@ -3,7 +3,7 @@
 use mathlib.Core.Path.{_≡_, sym, ap, _∙_}
 use mathlib.Core.Logic.{⊎-elim}
 use mathlib.Core.List.{List}
-use Prim.Native.Nat.{ℕ, _+_, _-_, _≤_, _<_}
+use Prim.Native.Nat.{ℕ, _-_, _≤_, _<_}
 use native.Mathlib.Omega.{arith}
 use lib.ListN.{length, replicate}
 use borrow.Author.Needs.{needs}
@@ -13,7 +13,6 @@ use Rattle.field.specs.Boxes.{orderOf, orderLength}
 use Rattle.field.proofs.Known.{field-known}
 use Rattle.field.proofs.Shapes.{order-fits}
 use Rattle.gaps.specs.declared.Pair.{Pair}
-use Rattle.gaps.specs.Gaps.{noPair}
 use Rattle.gaps.proofs.Pairs.{Found, found-none, found-same, found-more, found-all}
 use Rattle.gaps.proofs.listed.Statement.{statement}
 use Rattle.gaps.proofs.listed.Tie as tie

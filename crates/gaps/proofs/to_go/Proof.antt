@@ -1,5 +1,5 @@
 -- `gaps::to_go` meets its contract: at each zone the definition computes to the sum that the arm returns. Assumes nothing.
-use mathlib.Core.Path.{_≡_, sym, ap}
+use mathlib.Core.Path.{sym, ap}
 use borrow.Author.Tests.{ne-eqb}
 use Prim.Native.Nat.{ℕ}
 use Rattle.gaps.specs.Gaps.{toGo}

@@ -4,7 +4,7 @@ use mathlib.Core.List.{List}
 use Prim.Native.Nat.{ℕ}
 use denote.Ref.{now}
 use Rattle.text.specs.Buffer.{Put}
-use Rattle.text.proofs.Texts.{put-more, put-same}
+use Rattle.text.proofs.Texts.{put-more}
 use Rattle.miles.proofs.Decimals.{fraction-whole, fraction-part}
 use borrow.Author.Needs.{needs}
 use Rattle.miles.proofs.put_fraction.Statement.{statement}

@@ -1,5 +1,5 @@
 -- `miles::put_miles` meets its contract: a minus where the miles are below 0, and their size. Assumes nothing.
-use mathlib.Core.Path.{subst⁻¹, sym, _∙_}
+use mathlib.Core.Path.{subst⁻¹}
 use mathlib.Core.List.{List}
 use Prim.Native.Nat.{ℕ}
 use denote.Ref.{now}

@@ -1,5 +1,5 @@
 -- `spaced::spaced` meets its contract: the spacing's refusal, the file's, or the report of the field that was played. Assumes nothing.
-use mathlib.Core.Path.{_≡_, sym, ap, _∙_, subst, subst⁻¹}
+use mathlib.Core.Path.{_≡_, sym, ap, _∙_, subst}
 use mathlib.Core.List.{List, _++_}
 use mathlib.Core.Bool.{true}
 use Prim.Native.Nat.{ℕ, _≤_}
@@ -14,13 +14,12 @@ use Rattle.field.proofs.Tests.{if-true, if-false}
 use Rattle.practice.specs.File.{fileNumber}
 use Rattle.playing.specs.declared.Played.{Played}
 use Rattle.playing.specs.Playing.{playedOf, fieldOfFile}
-use Rattle.gaps.specs.declared.Spacings.{Spacings}
 use Rattle.gaps.specs.Gaps.{gapsOf, legalSpacing}
 use Rattle.gaps.proofs.Known.{spacings-known}
 use Rattle.text.specs.Buffer.{Put}
 use Rattle.text.proofs.Texts.{put-whole}
 use Rattle.session.specs.Report.{refusedReport}
-use Rattle.spaced.specs.Spaced.{refusedSpacing, spacingsReport, spacedOf, spacedRoom}
+use Rattle.spaced.specs.Spaced.{spacingsReport, spacedOf, spacedRoom}
 use Rattle.spaced.proofs.Sizes.{refused-spacing-short, refused-file-short, spacings-short}
 use Rattle.spaced.proofs.spaced.Statement.{statement}
 use Rattle.spaced.proofs.spaced.Tie as tie
