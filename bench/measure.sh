@@ -22,6 +22,7 @@ staticlib() {
 staticlib . session
 staticlib . binder
 staticlib . demonstration
+staticlib . spaced
 cargo build --quiet --release --offline --locked --manifest-path bench/Cargo.toml
 bench=bench/target/release/bench
 longest=crates/cases/data/longest.scap

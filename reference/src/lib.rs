@@ -3,11 +3,12 @@
 //!
 //! [`report`] is the whole of the program `play`: the bytes of a practice file
 //! in, the bytes of its report out. [`week`] does the same for a binder of
-//! practice files, and [`button()`] for a practice file after which one button
-//! empties the field. Beneath them: [`file`] reads a practice file, [`binder`] a
-//! binder, [`request`] holds requests and the input rules, [`field`] the zones,
-//! the sequence, the bounds and the twelve kinds of request, [`mod@button`] what
-//! a press proposes.
+//! practice files, [`button()`] for a practice file after which one button
+//! empties the field, and [`spacing()`] for the spacing after a practice file.
+//! Beneath them: [`file`] reads a practice file, [`binder`] a binder,
+//! [`request`] holds requests and the input rules, [`field`] the zones, the
+//! sequence, the bounds and the twelve kinds of request, [`mod@button`] what a
+//! press proposes, [`mod@spacing`] the gaps along the path.
 
 pub mod binder;
 pub mod button;
@@ -16,6 +17,7 @@ pub mod field;
 pub mod file;
 pub mod refusal;
 pub mod request;
+pub mod spacing;
 
 pub use binder::Week;
 pub use button::Ending;
@@ -23,6 +25,7 @@ pub use field::{Aircraft, Answer, Field, Legs, Progress, Side, Zone};
 pub use file::PracticeFile;
 pub use refusal::{BinderRefusal, FileRefusal, Refusal};
 pub use request::{Call, Request};
+pub use spacing::{Gap, Pair};
 
 use std::io::Write;
 
@@ -73,6 +76,19 @@ pub fn week(binder: &[u8]) -> Vec<u8> {
 /// The whole output of `button` for the bytes of one practice file.
 pub fn button(file: &[u8]) -> Vec<u8> {
     if_read(file, |practice, out| hold_down(played(practice, Field::step, |_, _, _| ()), out))
+}
+
+/// The whole output of `spacing` for a spacing in 64ths of a mile and the bytes of one practice file.
+pub fn spacing(file: &[u8], spacing: u16) -> Vec<u8> {
+    match spacing::check(spacing) {
+        Ok(()) => if_read(file, |practice, out| {
+            let field = played(practice, Field::step, |_, _, _| ());
+            // From an empty field no bound is ever broken.
+            let pairs = spacing::pairs(&field, spacing).expect("within the bounds");
+            pairs.iter().for_each(|pair| line(out, format_args!("{pair}")));
+        }),
+        Err(refusal) => format!("spacing {}\n", refusal.number()).into_bytes(),
+    }
 }
 
 fn report_by(file: &[u8], step: impl Fn(&mut Field, &Request) -> Result<Answer, Refusal>) -> Vec<u8> {

@@ -1,21 +1,27 @@
 //! Reads one practice file from standard input and writes its report; with
 //! the word `week`, a binder of them and its report; with the word `button`, a
-//! practice file and what the button plays after it.
+//! practice file and what the button plays after it; with the word `spacing`
+//! and a spacing, a practice file and the gaps after it.
 
 use std::io::{self, Read, Write};
 use std::{env, process};
 
-type Report = fn(&[u8]) -> Vec<u8>;
+type Report = Box<dyn Fn(&[u8]) -> Vec<u8>>;
 
 fn main() -> io::Result<()> {
     let words: Vec<String> = env::args().skip(1).collect();
     let words: Vec<&str> = words.iter().map(String::as_str).collect();
     let (longest, report): (usize, Report) = match words[..] {
-        [] => (reference::file::LONGEST, reference::report),
-        ["week"] => (reference::binder::LONGEST, reference::week),
-        ["button"] => (reference::file::LONGEST, reference::button),
+        [] => (reference::file::LONGEST, Box::new(reference::report)),
+        ["week"] => (reference::binder::LONGEST, Box::new(reference::week)),
+        ["button"] => (reference::file::LONGEST, Box::new(reference::button)),
+        ["spacing", word] => {
+            // What is no number of 16 bits is refused as 0 is.
+            let spacing = word.parse().unwrap_or(0);
+            (reference::file::LONGEST, Box::new(move |file| reference::spacing(file, spacing)))
+        }
         _ => {
-            eprintln!("usage: reference < FILE, reference week < BINDER or reference button < FILE");
+            eprintln!("usage: reference [button | spacing SPACING] < FILE, or reference week < BINDER");
             process::exit(2);
         }
     };

@@ -3,7 +3,6 @@
 mod common;
 use common::*;
 
-use reference::explore::requests;
 use reference::{Field, Legs, Request};
 use std::collections::HashMap;
 
@@ -217,31 +216,6 @@ impl Exact {
             assert_eq!(leg(field, *number) * 4096.0, one.leg.map_or(0, |(_, of)| of) as f64);
             assert_eq!(waited(field, *number) * 4096.0, one.past().min(4096 * 4096) as f64);
         }
-    }
-}
-
-struct Dice(u64);
-
-impl Dice {
-    fn below(&mut self, n: usize) -> usize {
-        self.0 = self.0.wrapping_mul(6364136223846793005).wrapping_add(1442695040888963407);
-        (self.0 >> 33) as usize % n
-    }
-
-    fn pick<T: Copy>(&mut self, among: &[T]) -> T {
-        among[self.below(among.len())]
-    }
-
-    fn request(&mut self, field: &Field, speeds: &[u16], ticks_in_16: usize) -> Request {
-        if self.below(16) < ticks_in_16 {
-            let amount = 1 + self.below(64) as u16;
-            return Request::new(12, 0, 0, self.pick(&[amount, 64, 64]));
-        }
-        let mut request = self.pick(&requests(field));
-        if request.kind <= 2 {
-            request.amount = self.pick(speeds);
-        }
-        request
     }
 }
 

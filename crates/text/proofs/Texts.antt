@@ -97,16 +97,21 @@ put-fits b at (x ∷ xs) h =
     ∙ put-fits (set b at x) (suc at) xs (omega arith)
     ∙ ap (λ (n : ℕ). (sets (set b at x) (suc at) xs, n)) {x = suc at + length xs} {y = at + suc (length xs)} (omega arith)
 
--- a report that is put from the buffer's first byte on is written
-pub written : {before after bytes : List ℕ} {n : ℕ} → Put before 0 bytes after n → length before ≡ room → length bytes ≤ room → Written bytes before n after
-written {before} {after} {bytes} {n} p l h =
+-- what is put from the buffer's first byte on, and fits, is written
+pub put-whole : {before after bytes : List ℕ} {n : ℕ} (size : ℕ) → Put before 0 bytes after n → length before ≡ size → length bytes ≤ size → (n ≡ length bytes) × ((after ≡ bytes ++ drop n before) × (n ≤ size))
+put-whole {before} {after} {bytes} {n} size p l h =
     let all = put-fits before 0 bytes (omega arith) in
-    let size : n ≡ length bytes = let e = ap (λ (q : List ℕ × ℕ). q .1) all in omega (arith, p .next) in
-    record {
-      size = size;
-      buffer = p .buffer ∙ ap (λ (q : List ℕ × ℕ). q .0) all ∙ sets-eq bytes before 0 (omega arith) ∙ ap (λ (k : ℕ). bytes ++ drop k before) {x = 0 + length bytes} {y = n} (omega arith);
-      fits = omega arith;
-    }
+    let long : n ≡ length bytes = let e = ap (λ (q : List ℕ × ℕ). q .1) all in omega (arith, p .next) in (
+      long,
+      (
+        p .buffer ∙ ap (λ (q : List ℕ × ℕ). q .0) all ∙ sets-eq bytes before 0 (omega arith) ∙ ap (λ (k : ℕ). bytes ++ drop k before) {x = 0 + length bytes} {y = n} (omega arith),
+        omega arith,
+      ),
+    )
+
+-- so is a report
+pub written : {before after bytes : List ℕ} {n : ℕ} → Put before 0 bytes after n → length before ≡ room → length bytes ≤ room → Written bytes before n after
+written p l h = let w = put-whole room p l h in record { size = w .0; buffer = w .1 .0; fits = w .1 .1 }
 
 -- the same, as a contract says it
 pub stated : {bytes before after : List ℕ} {n : ℕ} → Written bytes before n after → (n ≡ length bytes) × ((after ≡ bytes ++ drop n before) × (n ≤ room))

@@ -1,6 +1,7 @@
 //! Fields and requests for the tests.
 #![allow(dead_code)]
 
+use reference::explore::requests;
 use reference::{Aircraft, Answer, Field, Legs, PracticeFile, Progress, Refusal, Request, Side, Zone};
 
 pub fn empty() -> Field {
@@ -83,4 +84,31 @@ pub fn report(file: &[u8]) -> String {
     let report = reference::report(file);
     assert_eq!(report, reference::report_unjudged(file));
     String::from_utf8(report).expect("ASCII")
+}
+
+/// Numbers drawn from a seed.
+pub struct Dice(pub u64);
+
+impl Dice {
+    pub fn below(&mut self, n: usize) -> usize {
+        self.0 = self.0.wrapping_mul(6364136223846793005).wrapping_add(1442695040888963407);
+        (self.0 >> 33) as usize % n
+    }
+
+    pub fn pick<T: Copy>(&mut self, among: &[T]) -> T {
+        among[self.below(among.len())]
+    }
+
+    /// A tick, so often in 16, or a request of any kind for somebody there or one new.
+    pub fn request(&mut self, field: &Field, speeds: &[u16], ticks_in_16: usize) -> Request {
+        if self.below(16) < ticks_in_16 {
+            let amount = 1 + self.below(64) as u16;
+            return Request::new(12, 0, 0, self.pick(&[amount, 64, 64]));
+        }
+        let mut request = self.pick(&requests(field));
+        if request.kind <= 2 {
+            request.amount = self.pick(speeds);
+        }
+        request
+    }
 }

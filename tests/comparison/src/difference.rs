@@ -1,6 +1,6 @@
 //! Where the two programs differ, as readable sessions.
 
-use crate::library::{Library, Player, BUTTON, PLAYERS, WEEK};
+use crate::library::{spacing_into, Library, ShortBuffer, BUTTON, PLAYERS, WEEK};
 use reference::{binder, PracticeFile, Request};
 
 /// The report that both programs give of a file, the library judging the fields or not, or how they differ.
@@ -18,13 +18,19 @@ pub fn same_button(library: &mut Library, file: &[u8]) -> Result<Vec<u8>, String
     same(library, &BUTTON, file, reference::button(file))
 }
 
+/// What both print of the spacing after a file, or how they differ.
+pub fn same_spacing(library: &mut Library, file: &[u8], spacing: u16) -> Result<Vec<u8>, String> {
+    let player = |file: &[u8], out: &mut ShortBuffer| spacing_into(file, spacing, out);
+    same(library, &[("the library", player)], file, reference::spacing(file, spacing))
+}
+
 fn same<const N: usize>(
     library: &mut Library,
-    players: &[(&str, Player<N>)],
+    players: &[(&str, impl Fn(&[u8], &mut [u8; N]) -> usize)],
     input: &[u8],
     expected: Vec<u8>,
 ) -> Result<Vec<u8>, String> {
-    for &(name, play) in players {
+    for (name, play) in players {
         match library.report(play, input) {
             Ok(report) if report == expected => {}
             Ok(report) => return Err(first_line(&expected, name, report)),
@@ -47,12 +53,13 @@ fn first_line(expected: &[u8], name: &str, report: &[u8]) -> String {
     format!("{name}'s report goes on after the reference's")
 }
 
-/// A way to compare the two programs on a file.
-pub type Same = fn(&mut Library, &[u8]) -> Result<Vec<u8>, String>;
-
-/// How the two differ on a file, and its readable session without the requests that do not matter.
-/// A file that cannot be read as one is given in hexadecimal.
-pub fn readable(library: &mut Library, same: Same, file: &[u8]) -> String {
+/// How the two differ on a file, by a way to compare them, and its readable session without the requests that do not
+/// matter. A file that cannot be read as one is given in hexadecimal.
+pub fn readable(
+    library: &mut Library,
+    same: impl Fn(&mut Library, &[u8]) -> Result<Vec<u8>, String>,
+    file: &[u8],
+) -> String {
     let file = shortened(file.to_vec(), |file| same(library, file).is_err());
     let how = same(library, &file).err().unwrap_or_default();
     format!("{how}\n{}", text(&file))

@@ -6,12 +6,16 @@ extern "C" {
     fn baguymo_report_judged(file: *const u8, length: usize, out: *mut u8) -> usize;
     fn baguymo_week(binder: *const u8, length: usize, out: *mut u8) -> usize;
     fn baguymo_button(file: *const u8, length: usize, out: *mut u8) -> usize;
+    fn baguymo_spacing(file: *const u8, length: usize, spacing: u16, out: *mut u8) -> usize;
 }
 
-/// Bytes of the buffer that the library is lent.
+/// Bytes of the buffer that the library is lent for the report of a file, of a binder or of the button.
 pub const ROOM: usize = 131_072;
+/// The same for the spacing.
+pub const SHORT_ROOM: usize = 1024;
 
 pub type Buffer = [u8; ROOM];
+pub type ShortBuffer = [u8; SHORT_ROOM];
 
 /// Plays a file or a binder into a buffer, and yields the length of the report.
 pub type Player<const N: usize> = fn(&[u8], &mut [u8; N]) -> usize;
@@ -46,6 +50,11 @@ pub fn button_into(file: &[u8], out: &mut Buffer) -> usize {
     unsafe { baguymo_button(file.as_ptr(), file.len(), out.as_mut_ptr()) }
 }
 
+pub fn spacing_into(file: &[u8], spacing: u16, out: &mut ShortBuffer) -> usize {
+    // SAFETY: as above.
+    unsafe { baguymo_spacing(file.as_ptr(), file.len(), spacing, out.as_mut_ptr()) }
+}
+
 /// Bytes before and after the buffer that must stay as they are.
 const MARGIN: usize = 4096;
 
@@ -64,7 +73,11 @@ impl Default for Library {
 impl Library {
     /// The report of a file or a binder, or what else the library wrote than a
     /// report. What the buffer holds before is another byte each time.
-    pub fn report<const N: usize>(&mut self, play: Player<N>, input: &[u8]) -> Result<&[u8], String> {
+    pub fn report<const N: usize>(
+        &mut self,
+        play: impl Fn(&[u8], &mut [u8; N]) -> usize,
+        input: &[u8],
+    ) -> Result<&[u8], String> {
         self.fill = self.fill.wrapping_add(101);
         let memory = &mut self.memory[..MARGIN + N + MARGIN];
         memory.fill(self.fill);

@@ -1,13 +1,14 @@
 //! Plays many practice files by the proved library, with the fields judged
 //! and not, and by the reference, many binders by both, and many files after
-//! which the button is held down: comparison [SEED [COUNT]], COUNT random
-//! sessions, a tenth as many random binders, and a tenth as many for the
-//! button. The last line says how many of them were compared, and the verdict.
+//! which the button is held down, and after which the spacing is asked for:
+//! comparison [SEED [COUNT]], COUNT random sessions, a tenth as many random
+//! binders, a tenth as many for the button, and a quarter for the spacing. The
+//! last line says how many of them were compared, and the verdict.
 
 use comparison::dice::Dice;
-use comparison::difference::{readable, readable_binder, same_button, same_report, same_week};
+use comparison::difference::{readable, readable_binder, same_button, same_report, same_spacing, same_week};
 use comparison::library::Library;
-use comparison::table::{Presses, Table, Weeks};
+use comparison::table::{Gaps, Presses, Table, Weeks};
 use comparison::{binders, damaged, fields, sessions};
 use reference::binder::to_bytes;
 use reference::PracticeFile;
@@ -22,6 +23,8 @@ const A_BINDER: usize = 10;
 /// Random sessions for each after which the button is held down, and for each of those with edge legs and speeds.
 const A_PRESSED: usize = 10;
 const AN_EDGE: usize = 100;
+/// Random sessions for each after which the spacing is asked for.
+const A_SPACED: usize = 4;
 /// Damaged files that play for each after which the button is held down.
 const A_DAMAGED: usize = 16;
 
@@ -37,6 +40,9 @@ struct Comparison {
     /// Files after which the button was held down.
     pressed: usize,
     presses: Presses,
+    /// Files after which the spacing was asked for.
+    spaced: usize,
+    gaps: Gaps,
 }
 
 impl Comparison {
@@ -107,6 +113,22 @@ impl Comparison {
         println!("the button after {what}: {} files", self.pressed - before);
         Ok(())
     }
+
+    /// Files after which the spacing is asked for, each by its own.
+    fn spaced(&mut self, what: &str, files: impl IntoIterator<Item = (Vec<u8>, u16)>) -> Result<(), String> {
+        let before = self.spaced;
+        for (file, spacing) in files {
+            self.spaced += 1;
+            let Ok(report) = same_spacing(&mut self.library, &file, spacing) else {
+                let how =
+                    readable(&mut self.library, |library, file| same_spacing(library, file, spacing), &file);
+                return Err(format!("spacing {spacing} after file {} differs: {how}", self.spaced));
+            };
+            self.gaps.count(&report);
+        }
+        println!("the spacing after {what}: {} files", self.spaced - before);
+        Ok(())
+    }
 }
 
 fn none_of(faults: Vec<String>) -> Result<(), String> {
@@ -143,7 +165,8 @@ fn all(comparison: &mut Comparison, seed: u64, count: usize) -> Result<(), Strin
         return Err(String::from("one of these never came\n"));
     }
     all_binders(comparison, &mut dice, count / A_BINDER)?;
-    all_pressed(comparison, &mut dice, count)
+    all_pressed(comparison, &mut dice, count)?;
+    all_spaced(comparison, &mut dice, count)
 }
 
 fn all_binders(comparison: &mut Comparison, dice: &mut Dice, count: usize) -> Result<(), String> {
@@ -171,6 +194,42 @@ fn all_pressed(comparison: &mut Comparison, dice: &mut Dice, count: usize) -> Re
     none_of(comparison.presses.faults())
 }
 
+/// A spacing, one in six of them refused.
+fn spacing(dice: &mut Dice) -> u16 {
+    let edge = dice.pick(&[0, 1, 64, 512, 513]);
+    let allowed = dice.between(1, 512) as u16;
+    let any = dice.bits() as u16;
+    dice.pick(&[
+        edge, edge, any, allowed, allowed, allowed, allowed, allowed, allowed, allowed, allowed, allowed,
+    ])
+}
+
+/// Gaps just under a spacing, equal to it and just over, asked for by it and by the spacings beside it.
+fn at_a_spacing() -> impl Iterator<Item = (Vec<u8>, u16)> {
+    [1, 2, 64, 511, 512].into_iter().flat_map(|spacing: u16| {
+        let gap = 64 * usize::from(spacing);
+        let files = [gap - 1, gap, gap + 1].map(sessions::apart).into_iter();
+        files.flat_map(move |file| [spacing - 1, spacing, spacing + 1].map(|spacing| (file.clone(), spacing)))
+    })
+}
+
+fn all_spaced(comparison: &mut Comparison, dice: &mut Dice, count: usize) -> Result<(), String> {
+    let spacings = [0, 1, 2, 63, 64, 65, 192, 511, 512, 513, 32_768, 65_535];
+    let each = |file: Vec<u8>| spacings.map(|spacing| (file.clone(), spacing));
+    comparison.spaced("stored sessions, by each of 12 spacings", stored().into_iter().flat_map(each))?;
+    comparison.spaced("two who are about a spacing apart", at_a_spacing())?;
+    let damaged = damaged::files(dice);
+    comparison.spaced("damaged files", damaged.into_iter().map(|file| (file, spacing(dice))))?;
+    let ways = fields::ways().map(|file| (file, spacing(dice)));
+    comparison.spaced("the reachable fields, numbers and miles aside", ways)?;
+    let edges = (0..count / AN_EDGE).map(|_| (sessions::at_the_edges(dice), spacing(dice)));
+    comparison.spaced("legs of 1 and 4096 64ths, speeds 1 and 512", edges)?;
+    let sessions = (0..count / A_SPACED).map(|_| (sessions::session(dice), spacing(dice)));
+    comparison.spaced("random sessions", sessions)?;
+    println!("{}", comparison.gaps);
+    none_of(comparison.gaps.faults())
+}
+
 fn argument<T: std::str::FromStr>(place: usize, default: T) -> T {
     match env::args().nth(place) {
         Some(word) => word.parse().unwrap_or_else(|_| panic!("not a number: {word}")),
@@ -182,15 +241,15 @@ fn main() -> ExitCode {
     let (seed, count) = (argument(1, SEED), argument(2, COUNT));
     let mut comparison = Comparison::default();
     let outcome = all(&mut comparison, seed, count);
-    let Comparison { compared, binders, pressed, .. } = comparison;
+    let Comparison { compared, binders, pressed, spaced, .. } = comparison;
     match outcome {
         Ok(()) => {
-            println!("compare: {compared} files compared (seed {seed}), fields judged and not, {binders} binders, and the button after {pressed} files: every report the same");
+            println!("compare: {compared} files compared (seed {seed}), fields judged and not, {binders} binders, the button after {pressed} files and the spacing after {spaced}: every report the same");
             ExitCode::SUCCESS
         }
         Err(fault) => {
             print!("{fault}");
-            println!("compare: FAILED after {compared} files, {binders} binders and the button after {pressed} files (seed {seed})");
+            println!("compare: FAILED after {compared} files, {binders} binders, the button after {pressed} files and the spacing after {spaced} (seed {seed})");
             ExitCode::FAILURE
         }
     }

@@ -203,6 +203,21 @@ pub fn slowest() -> Vec<u8> {
     PracticeFile { legs_64ths: [4096; 4], requests }.to_bytes()
 }
 
+/// Two on opposite bases, the second behind the first by so many 4096ths of a mile.
+pub fn apart(gap: usize) -> Vec<u8> {
+    let ready = [(1, 1, 1, 2), (1, 2, 2, 1), (3, 0, 1, 0), (3, 0, 2, 0), (4, 0, 1, 0), (4, 0, 2, 0)];
+    let ready = ready.map(|(kind, side, number, amount)| Request::new(kind, side, number, amount));
+    let mut practice = PracticeFile { legs_64ths: [4096; 4], requests: ready.to_vec() };
+    // A 64th of a minute makes a 4096th of a mile.
+    let mut left = gap as u16;
+    while left > 0 {
+        let amount = left.min(64);
+        practice.requests.push(Request::new(12, 0, 0, amount));
+        left -= amount;
+    }
+    practice.to_bytes()
+}
+
 /// A session as in practice: legs of two to five miles, 90 to 180 knots, ticks
 /// of half a minute or a minute, few misses and exits, some requests in error.
 pub fn typical(dice: &mut Dice, length: usize) -> PracticeFile {

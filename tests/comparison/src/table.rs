@@ -1,4 +1,4 @@
-//! How often each number was answered for each kind, and what the button proposed.
+//! How often each number was answered for each kind, what the button proposed, and which gaps came.
 
 use reference::binder::NUMBERS;
 use reference::PracticeFile;
@@ -237,5 +237,67 @@ impl fmt::Display for Presses {
         }
         writeln!(f)?;
         PROPOSED.into_iter().try_for_each(|kind| write!(f, "{:>9}", kinds[kind]))
+    }
+}
+
+/// What came of the spacing, by its reports.
+#[derive(Default)]
+pub struct Gaps {
+    /// Pairs that were close and clear.
+    close: usize,
+    clear: usize,
+    /// Gaps under 0, at 0, and with digits after the point.
+    negative: usize,
+    zero: usize,
+    fractions: usize,
+    /// How many reports had each number of pairs.
+    pairs: [usize; 4],
+    /// How often the spacing was refused, and the file.
+    refused: [usize; 2],
+}
+
+impl Gaps {
+    pub fn count(&mut self, report: &[u8]) {
+        let report = std::str::from_utf8(report).expect("ASCII");
+        match report.split(' ').next() {
+            Some("spacing") => self.refused[0] += 1,
+            Some("file") => self.refused[1] += 1,
+            _ => {
+                self.pairs[report.lines().count()] += 1;
+                report.lines().for_each(|line| self.pair(line));
+            }
+        }
+    }
+
+    /// Counts a line: leader, follower, `close` or `clear`, the gap.
+    fn pair(&mut self, line: &str) {
+        let words: Vec<&str> = line.split(' ').collect();
+        self.close += usize::from(words[2] == "close");
+        self.clear += usize::from(words[2] == "clear");
+        self.negative += usize::from(words[3].starts_with('-'));
+        self.zero += usize::from(words[3] == "0");
+        self.fractions += usize::from(words[3].contains('.'));
+    }
+
+    /// What should have come and did not.
+    pub fn faults(&self) -> Vec<String> {
+        let Gaps { close, clear, negative, zero, fractions, pairs, refused } = self;
+        let all = [close, clear, negative, zero, fractions];
+        match all.into_iter().chain(pairs).chain(refused).any(|&count| count == 0) {
+            true => vec![String::from("one of these never came")],
+            false => Vec::new(),
+        }
+    }
+}
+
+impl fmt::Display for Gaps {
+    fn fmt(&self, f: &mut fmt::Formatter) -> fmt::Result {
+        let Gaps { close, clear, negative, zero, fractions, pairs, refused: [spacing, file] } = self;
+        write!(
+            f,
+            "{close} pairs were close and {clear} clear; {negative} gaps were negative, {zero} were 0, "
+        )?;
+        write!(f, "{fractions} were fractions; 0, 1, 2 and 3 pairs came {pairs:?} times, ")?;
+        write!(f, "{spacing} spacings and {file} files were refused")
     }
 }

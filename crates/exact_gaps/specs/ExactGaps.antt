@@ -1,0 +1,71 @@
+-- "The gap is exact on a field reached from the empty one with legs in whole 64ths" (02, 2.8): in 4096ths of a mile it is the difference of two whole
+-- numbers, an integer. Definitions only.
+use mathlib.Core.Path.{_≡_}
+use mathlib.Core.Bool.{Bool, true, false, cond}
+use mathlib.Core.List.{List, [], _∷_}
+use Prim.Native.Nat.{ℕ, suc, _+_, _-_, _*_, min}
+use lib.Dec.{eqb, ltb}
+use lib.IntN.{ℤ, pos, negsuc, subℕ}
+use lib.Ieee.{Float}
+use lib.Ieee.Exact.{HasValue}
+use Rattle.request.specs.declared.Request.{Request}
+use Rattle.field.specs.declared.Field.{Field}
+use Rattle.field.specs.Boxes.{intermediate, finalApproach, orderOf, emptyField}
+use Rattle.questions.specs.Find.{placeOf, aircraftAt}
+use Rattle.rules.specs.Play.{fieldAfter, played}
+use Rattle.demand.specs.Exact.{WholeLegs, inMiles, in64ths, noFlight, flightAfter}
+use Rattle.gaps.specs.declared.Spacing.{Spacing}
+use Rattle.gaps.specs.declared.Spacing.the-variants.{Close, Clear}
+use Rattle.gaps.specs.declared.Pair.{Pair}
+use Rattle.gaps.specs.Gaps.{pairsIn, listed, gapsOf}
+
+-- the miles times 4096 are exactly this integer, of either sign
+abbrev pub ExactlySigned : Float → ℤ → Type 0
+ExactlySigned miles (pos n) = HasValue miles false n 4096
+ExactlySigned miles (negsuc n) = HasValue miles true (suc n) 4096
+
+-- the full legs that follow zone z of the approach, in 4096ths
+abbrev pub following : WholeLegs → ℕ → ℕ
+following w z = cond (eqb z finalApproach) 0 (cond (eqb z intermediate) (64 * w .final-leg) (64 * w .intermediate-leg + 64 * w .final-leg))
+
+-- the way to the threshold from zone z of the approach with so much of its leg flown, all in 4096ths
+abbrev pub wayFrom : WholeLegs → ℕ → ℕ → ℕ
+wayFrom w z flown = 64 * in64ths w z - flown + following w z
+
+-- the field after a list of requests from the empty one with these legs
+abbrev pub reached : WholeLegs → List Request → Field
+reached w rs = fieldAfter (emptyField (inMiles w)) rs
+
+-- the way of the one with this number on that field: of its leg the smaller of the whole and the speed times the tick amounts since it began is flown
+unfoldable pub wayIn4096ths : WholeLegs → List Request → ℕ → ℕ
+wayIn4096ths w rs number =
+    let at = placeOf (reached w rs) number in
+    let a = aircraftAt (reached w rs) (at .zone) (at .place) in
+    let s = flightAfter w number noFlight (played (emptyField (inMiles w)) rs) in
+    wayFrom w (at .zone) (min (64 * in64ths w (at .zone)) (a .speed * s .ticks))
+
+-- the gap that an answer carries
+abbrev pub gapIn : Spacing → Float
+gapIn (Close gap) = gap
+gapIn (Clear gap) = gap
+
+abbrev pub isClose : Spacing → Bool
+isClose (Close gap) = true
+isClose (Clear gap) = false
+
+-- what is exact of a pair on that field
+pub record ExactPair (w : WholeLegs) (rs : List Request) (spacing : ℕ) (p : Pair) : Type 0 where
+  -- the gap times 4096 is the follower's way less the leader's, below 0 where the follower's is the shorter
+  pub gap : ExactlySigned (gapIn (p .spacing)) (subℕ (wayIn4096ths w rs (p .follower)) (wayIn4096ths w rs (p .leader)))
+  -- and it is close exactly where that is under 64 times the spacing in 64ths
+  pub close : isClose (p .spacing) ≡ ltb (wayIn4096ths w rs (p .follower)) (wayIn4096ths w rs (p .leader) + 64 * spacing)
+
+-- what holds of each pair
+abbrev pub EachPair : (Pair → Type 0) → List Pair → Type 0
+EachPair P [] = Unit {0}
+EachPair P (p ∷ ps) = P p × EachPair P ps
+
+-- what holds of a legal spacing on that field: it is not refused, and each pair is exact
+pub record ExactGaps (w : WholeLegs) (rs : List Request) (spacing : ℕ) : Type 0 where
+  pub accepted : gapsOf (reached w rs) spacing ≡ listed (pairsIn (reached w rs) spacing (orderOf (reached w rs .sequence)))
+  pub exact : EachPair (ExactPair w rs spacing) (pairsIn (reached w rs) spacing (orderOf (reached w rs .sequence)))

@@ -1,0 +1,90 @@
+-- Document 02, 2.8, "Spacing along the path": the way to the threshold, the gap of a pair, and the pairs of a field. Definitions only.
+-- The words in quotes are those of document 02, 2.8.
+use mathlib.Core.Bool.{Bool, cond, _&&_}
+use mathlib.Core.List.{List, [], _∷_, _++_}
+use Prim.Native.Nat.{ℕ, _-_}
+use lib.Dec.{eqb, leb}
+use lib.ListN.{length, replicate}
+use lib.Ieee.{Float, binary64, add, sub, lt}
+use Rattle.leg.specs.Progress.{whole, sixtyFourths, remaining}
+use Rattle.field.specs.declared.Legs.{Legs}
+use Rattle.field.specs.declared.Field.{Field}
+use Rattle.field.specs.Boxes.{intermediate, finalApproach, orderOf}
+use Rattle.questions.specs.Find.{placeOf, aircraftAt}
+use Rattle.bounds.specs.Bounds.{withinBounds}
+use Rattle.gaps.specs.declared.Spacing.{Spacing}
+use Rattle.gaps.specs.declared.Spacing.the-variants.{Close, Clear}
+use Rattle.gaps.specs.declared.Pair.{Pair}
+use Rattle.gaps.specs.declared.Spacings.{Spacings}
+
+-- ---- the way to the threshold
+
+-- "plus the full legs that follow (base, intermediate, final), added in that order": final after intermediate, both after a base, each sum
+-- rounded once
+unfoldable pub toGo : Legs → ℕ → Float → Float
+toGo legs z left =
+    cond (eqb z finalApproach) left
+    (cond (eqb z intermediate) (add binary64 left (legs .«final_approach»))
+    (add binary64 (add binary64 left (legs .intermediate)) (legs .«final_approach»)))
+
+-- the miles to the threshold of the one with this number: "what is left of its leg", its own (2.7), and the legs that follow
+unfoldable pub wayOf : Field → ℕ → Float
+wayOf f number =
+    let at = placeOf f number in
+    let a = aircraftAt f (at .zone) (at .place) in
+    toGo (f .legs) (at .zone) (remaining (a .progress) (a .leg))
+
+-- ---- a pair
+
+-- "the follower's miles to the threshold less the leader's", rounded once; it may be negative
+unfoldable pub gapOf : Field → ℕ → ℕ → Float
+gapOf f leader follower = sub binary64 (wayOf f follower) (wayOf f leader)
+
+-- "close or clear, carrying the gap in miles; close means under a given spacing in 64ths"
+unfoldable pub spacingOf : Float → ℕ → Spacing
+spacingOf gap spacing = cond (lt gap (sixtyFourths spacing)) (Close gap) (Clear gap)
+
+-- two neighbours, "with both numbers"
+unfoldable pub pairOf : Field → ℕ → ℕ → ℕ → Pair
+pairOf f spacing leader follower = record { leader = leader; follower = follower; spacing = spacingOf (gapOf f leader follower) spacing }
+
+-- ---- the pairs of a field
+
+-- whether the one with this number is on the approach, zones 9 to 12
+unfoldable pub onApproach : Field → ℕ → Bool
+onApproach f number = leb 9 (placeOf f number .zone) && leb (placeOf f number .zone) 12
+
+-- two neighbours in the sequence, where they are a pair that is "wholly on the approach"
+unfoldable pub between : Field → ℕ → ℕ → ℕ → List Pair
+between f spacing leader follower = cond (onApproach f leader && onApproach f follower) (pairOf f spacing leader follower ∷ []) []
+
+-- "each neighbouring pair in the sequence", "in sequence order"
+abbrev pub pairsIn : Field → ℕ → List ℕ → List Pair
+pairsIn f spacing [] = []
+pairsIn f spacing (n ∷ []) = []
+pairsIn f spacing (n ∷ m ∷ ns) = between f spacing n m ++ pairsIn f spacing (m ∷ ns)
+
+-- ---- the answer
+
+-- a place past the count: no numbers, and clear with a gap of 0
+abbrev pub noPair : Pair
+noPair = record { leader = 0; follower = 0; spacing = Clear (whole 0) }
+
+-- an answer of at most three pairs
+unfoldable pub listed : List Pair → Spacings
+listed pairs = record { number = 0; count = length pairs; pairs = pairs ++ replicate (3 - length pairs) noPair }
+
+-- a refusal, with no pair
+unfoldable pub refused : ℕ → Spacings
+refused number = record { number = number; count = 0; pairs = replicate 3 noPair }
+
+-- "a given spacing in 64ths, 1 to 512"
+abbrev pub legalSpacing : ℕ → Bool
+legalSpacing spacing = leb 1 spacing && leb spacing 512
+
+-- "4 for a spacing outside its range, then 10"
+unfoldable pub gapsOf : Field → ℕ → Spacings
+gapsOf f spacing =
+    cond (legalSpacing spacing)
+    (cond (withinBounds f) (listed (pairsIn f spacing (orderOf (f .sequence)))) (refused 10))
+    (refused 4)

@@ -1,0 +1,4 @@
+pub mod Listed
+pub mod Sizes
+pub mod Texts
+pub mod Printed
