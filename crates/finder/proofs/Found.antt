@@ -19,39 +19,39 @@ use Rattle.finder.specs.Finder.{unused, entryOf, isBefore, firstOf, seco
 -- ---- two entries
 
 -- which of two stands first, by their numbers
-before-unused : (a b : Entry) → a .number ≢ 0 → b .number ≡ 0 → isBefore a b ≡ true
+pub before-unused : (a b : Entry) → a .number ≢ 0 → b .number ≡ 0 → isBefore a b ≡ true
 unfolding isBefore
 before-unused a b h e =
     ap (λ (t : Bool). not t && (eqb (b .number) 0 || ltb (a .number) (b .number))) (ne-eqb (a .number) 0 h)
     ∙ ap (λ (t : Bool). t || ltb (a .number) (b .number)) (eq-eqb (b .number) 0 e)
 
-before-used : (a b : Entry) → a .number ≢ 0 → b .number ≢ 0 → isBefore a b ≡ ltb (a .number) (b .number)
+pub before-used : (a b : Entry) → a .number ≢ 0 → b .number ≢ 0 → isBefore a b ≡ ltb (a .number) (b .number)
 unfolding isBefore
 before-used a b h g =
     ap (λ (t : Bool). not t && (eqb (b .number) 0 || ltb (a .number) (b .number))) (ne-eqb (a .number) 0 h)
     ∙ ap (λ (t : Bool). t || ltb (a .number) (b .number)) (ne-eqb (b .number) 0 g)
 
 -- one that stands before another is put there, and the other goes on; ..
-put-before : (e x : Entry) (xs : List Entry) → isBefore e x ≡ true → put e (x ∷ xs) ≡ e ∷ put x xs
+pub put-before : (e x : Entry) (xs : List Entry) → isBefore e x ≡ true → put e (x ∷ xs) ≡ e ∷ put x xs
 unfolding firstOf secondOf
 put-before e x xs h = ap (λ (t : Bool). cond t e x ∷ put (cond t x (cond (eqb (e .number) (x .number)) unused e)) xs) h
 
 -- .. one that stands behind it goes on itself; ..
-put-behind : (e x : Entry) (xs : List Entry) → isBefore e x ≡ false → e .number ≢ x .number → put e (x ∷ xs) ≡ x ∷ put e xs
+pub put-behind : (e x : Entry) (xs : List Entry) → isBefore e x ≡ false → e .number ≢ x .number → put e (x ∷ xs) ≡ x ∷ put e xs
 unfolding firstOf secondOf
 put-behind e x xs h g =
     ap (λ (t : Bool). cond t e x ∷ put (cond t x (cond (eqb (e .number) (x .number)) unused e)) xs) h
     ∙ ap (λ (t : Bool). x ∷ put (cond t unused e) xs) (ne-eqb (e .number) (x .number) g)
 
 -- .. nothing goes on behind one with the same number, ..
-put-same : (e x : Entry) (xs : List Entry) → isBefore e x ≡ false → e .number ≡ x .number → put e (x ∷ xs) ≡ x ∷ put unused xs
+pub put-same : (e x : Entry) (xs : List Entry) → isBefore e x ≡ false → e .number ≡ x .number → put e (x ∷ xs) ≡ x ∷ put unused xs
 unfolding firstOf secondOf
 put-same e x xs h g =
     ap (λ (t : Bool). cond t e x ∷ put (cond t x (cond (eqb (e .number) (x .number)) unused e)) xs) h
     ∙ ap (λ (t : Bool). x ∷ put (cond t unused e) xs) (eq-eqb (e .number) (x .number) g)
 
 -- .. and an unused one changes nothing
-put-unused : (xs : List Entry) → put unused xs ≡ xs
+pub put-unused : (xs : List Entry) → put unused xs ≡ xs
 unfolding firstOf secondOf isBefore
 put-unused [] = refl
 put-unused (x ∷ xs) = go (eqb 0 (x .number)) (put-unused xs)

@@ -1,7 +1,9 @@
 -- Document 02, 2.9: an index beside the field, in order of number, from each number present to its zone and place.
+use mathlib.Core.Path.{_≡_}
+use mathlib.Core.Logic.{_⊎_}
 use mathlib.Core.Bool.{Bool, true, false, cond, not, _&&_, _||_}
 use mathlib.Core.List.{List, [], _∷_}
-use Prim.Native.Nat.{ℕ}
+use Prim.Native.Nat.{ℕ, _<_}
 use lib.Dec.{eqb, ltb}
 use lib.ListN.{replicate}
 use Rattle.field.specs.declared.Field.{Field}
@@ -49,6 +51,16 @@ putAll f (n ∷ ns) es = putAll f ns (put (entryOf f n) es)
 -- left out, and of more than five numbers the five lowest are in it
 unfoldable pub indexOf : Field → Index
 indexOf f = record { entries = putAll f (numbersIn f everywhere) (replicate 5 unused) }
+
+-- entries that are all unused
+abbrev pub Unused : List Entry → Type 0
+Unused [] = Unit {0}
+Unused (e ∷ es) = (e ≡ unused) × Unused es
+
+-- entries "in order of number", the first above k and each above the one before it, with the unused ones last and all zero
+abbrev pub InOrder : ℕ → List Entry → Type 0
+InOrder k [] = Unit {0}
+InOrder k (e ∷ es) = Unused (e ∷ es) ⊎ ((k < e .number) × InOrder (e .number) es)
 
 -- ---- what an index says
 
