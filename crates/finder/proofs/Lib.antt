@@ -1,0 +1,5 @@
+pub mod Known
+pub mod Putting
+pub mod Found
+pub mod Ordered
+pub mod Theorems

@@ -1,0 +1,55 @@
+-- Entries while one is put among them, place by place, and numbers one after the other. Assumes nothing.
+use mathlib.Core.Path.{_≡_, refl, sym, ap, _∙_}
+use mathlib.Core.List.{List, [], _∷_, _++_, map}
+use Prim.Native.Nat.{ℕ, zero, suc, _+_, _-_, _≤_, _<_}
+use native.Mathlib.Omega.{arith}
+use lib.ListN.{length, getD, take, drop, set, drop-of-length-le}
+use Rattle.field.specs.declared.Field.{Field}
+use Rattle.field.proofs.Arrays.{next-of, filled-at, filled-more, filled-all}
+use Rattle.finder.specs.declared.Entry.{Entry}
+use Rattle.finder.specs.Finder.{unused, entryOf, firstOf, secondOf, put, putAll}
+
+pub put-length : (e : Entry) (xs : List Entry) → length (put e xs) ≡ length xs
+put-length e [] = refl
+put-length e (x ∷ xs) = ap suc (put-length (secondOf e x) xs)
+
+-- the places before i are written, and `moved` goes on from there
+pub record Putting (e : Entry) (xs zs : List Entry) (moved : Entry) (i : ℕ) : Type 0 where
+  pub within : i ≤ 5
+  pub long : length xs ≡ 5
+  pub made : zs ≡ take i (put e xs) ++ drop i xs
+  pub rest : drop i (put e xs) ≡ put moved (drop i xs)
+
+module _ (e : Entry) (xs : List Entry) where
+  pub putting-none : length xs ≡ 5 → Putting e xs xs e 0
+  putting-none h = record { within = omega arith; long = h; made = refl; rest = refl }
+
+  pub putting-more : (zs : List Entry) (moved : Entry) (i : ℕ) (d : Entry) {y m : Entry} → Putting e xs zs moved i → i < 5
+      → y ≡ firstOf moved (getD zs i d) → m ≡ secondOf moved (getD zs i d) → Putting e xs (set zs i y) m (i + 1)
+  putting-more zs moved i d {y} {m} p h first second =
+      let ys : List Entry = put e xs in
+      let x : Entry = getD xs i unused in
+      let long = p .long in
+      let below : i < length xs = omega (arith, long) in
+      let wide = put-length e xs in
+      let there : i < length ys = omega (arith, long, wide) in
+      let here : getD zs i d ≡ x = filled-at zs ys xs i unused d below wide (p .made) in
+      let left = sym (next-of ys i unused there) ∙ p .rest ∙ ap (put moved) (next-of xs i unused below) in
+      let head : firstOf moved x ≡ getD ys i unused = sym (ap (λ (l : List Entry). getD l 0 unused) left) in
+      let tail : drop (i + 1) ys ≡ put (secondOf moved x) (drop (i + 1) xs) = ap (λ (l : List Entry). drop 1 l) left in
+      record {
+        within = omega arith;
+        long = long;
+        made = filled-more zs ys xs i unused y below wide (p .made) (first ∙ ap (firstOf moved) here ∙ head);
+        rest = tail ∙ ap (λ (k : Entry). put k (drop (i + 1) xs)) (sym (second ∙ ap (secondOf moved) here));
+      }
+
+  pub putting-all : (zs : List Entry) (moved : Entry) (i : ℕ) → Putting e xs zs moved i → 5 ≤ i → zs ≡ put e xs
+  putting-all zs moved i p h =
+      let long = p .long in
+      filled-all zs (put e xs) xs i (omega (arith, long, h)) (put-length e xs) (p .made)
+
+-- numbers put behind others
+pub put-behind : (f : Field) (ns ms : List ℕ) (es : List Entry) → putAll f (ns ++ ms) es ≡ putAll f ms (putAll f ns es)
+put-behind f [] ms es = refl
+put-behind f (n ∷ ns) ms es = put-behind f ns ms (put (entryOf f n) es)

@@ -1,0 +1,187 @@
+// An index beside the field, from each number present to its zone and place (specs/Finder.antt).
+use bounds::within_bounds;
+use field::Field;
+use field::Zone;
+use field::boxes::queue_length;
+use field::zones::RUNWAY;
+use questions::Place;
+use questions::find::place_of;
+ghost use mathlib.Core.Path.{_≡_};
+ghost use mathlib.Core.List.{map};
+ghost use Rattle.field.specs.Boxes.{queueOf};
+ghost use Rattle.finder.specs.Finder.{entryOf, isBefore, firstOf, secondOf, put, putAll, indexOf, foundIn, sameEntry, sameIndex, withinBoundsIndexed};
+
+// One place of the index: a number, its zone, and its place in the zone's queue from 1. An unused place is all zero.
+pub struct Entry {
+    pub number: u16,
+    pub zone: u8,
+    pub place: usize,
+}
+
+// The index: five places in order of number, the unused ones last.
+pub struct Index {
+    pub entries: [Entry; 5],
+}
+
+// A field with an index beside it.
+pub struct Indexed {
+    pub field: Field,
+    pub index: Index,
+}
+
+// A number with what a look through the queues says of it.
+fn entry_of(f: Field, number: u16) -> Entry
+    ensures { λ r. ⌜ r ≡ entryOf f number ⌝ }
+{
+    let at = place_of(f, number);
+    Entry {
+        number: number,
+        zone: at.zone,
+        place: at.place,
+    }
+}
+
+// Whether an entry stands before another.
+fn is_before(a: Entry, b: Entry) -> bool
+    ensures { λ r. ⌜ r ≡ isBefore a b ⌝ }
+{
+    if a.number == 0 {
+        return false;
+    }
+    if b.number == 0 {
+        return true;
+    }
+    a.number < b.number
+}
+
+// Of two entries the one that stands first.
+fn first_of(a: Entry, b: Entry) -> Entry
+    ensures { λ r. ⌜ r ≡ firstOf a b ⌝ }
+{
+    if is_before(a, b) {
+        return a;
+    }
+    b
+}
+
+// Of two entries the one behind the first; of two with the same number an unused one.
+fn second_of(a: Entry, b: Entry) -> Entry
+    ensures { λ r. ⌜ r ≡ secondOf a b ⌝ }
+{
+    if is_before(a, b) {
+        return b;
+    }
+    if a.number == b.number {
+        return Entry {
+            number: 0,
+            zone: 0,
+            place: 0,
+        };
+    }
+    a
+}
+
+// The index with an entry put among its own.
+fn with_entry(index: Index, e: Entry) -> Index
+    ensures { λ r. ⌜ r .entries ≡ put e (index .entries) ⌝ }
+{
+    let mut entries = index.entries;
+    let mut moved = e;
+    for i in 0..5 {
+        let here = entries[i];
+        entries[i] = first_of(moved, here);
+        moved = second_of(moved, here);
+    }
+    Index { entries: entries }
+}
+
+// The index with the numbers of a queue put among its own, each with where it is on the field.
+fn with_queue(f: Field, index: Index, q: Zone) -> Index
+    ensures { λ r. ⌜ r .entries ≡ putAll f (map (λ a. a .number) (queueOf q)) (index .entries) ⌝ }
+{
+    let end = queue_length(q);
+    let mut made = index;
+    for i in 0..end {
+        let a = q.aircraft[i];
+        made = with_entry(made, entry_of(f, a.number));
+    }
+    made
+}
+
+// The index of a field.
+pub fn index_of(f: Field) -> Index
+    ensures { λ r. ⌜ r ≡ indexOf f ⌝ }
+{
+    let unused = Entry {
+        number: 0,
+        zone: 0,
+        place: 0,
+    };
+    let entries = [unused; 5];
+    let mut index = Index { entries: entries };
+    let mut zone = 0;
+    while zone < RUNWAY {
+        let q = f.zones[zone];
+        zone += 1;
+        index = with_queue(f, index, q);
+    }
+    index
+}
+
+// Where an index says that a number is; zone 0 and place 0 where it does not have the number, and for number 0.
+pub fn find(index: Index, number: u16) -> Place
+    ensures { λ r. ⌜ r ≡ foundIn index number ⌝ }
+{
+    if number == 0 {
+        return Place { zone: 0, place: 0 };
+    }
+    for i in 0..5 {
+        let e = index.entries[i];
+        if e.number == number {
+            return Place {
+                zone: e.zone,
+                place: e.place,
+            };
+        }
+    }
+    Place { zone: 0, place: 0 }
+}
+
+// Whether two entries are the same.
+fn same_entry(a: Entry, b: Entry) -> bool
+    ensures { λ r. ⌜ r ≡ sameEntry a b ⌝ }
+{
+    if a.number != b.number {
+        return false;
+    }
+    if a.zone != b.zone {
+        return false;
+    }
+    a.place == b.place
+}
+
+// Whether two indexes are the same, place by place.
+pub fn same_index(a: Index, b: Index) -> bool
+    ensures { λ r. ⌜ r ≡ sameIndex a b ⌝ }
+{
+    for i in 0..5 {
+        let x = a.entries[i];
+        let y = b.entries[i];
+        if !same_entry(x, y) {
+            return false;
+        }
+    }
+    true
+}
+
+// Whether a field is within the bounds, and the index beside it is its own.
+pub fn within_bounds_indexed(x: Indexed) -> bool
+    ensures { λ r. ⌜ r ≡ withinBoundsIndexed x ⌝ }
+{
+    let f = x.field;
+    if !within_bounds(f) {
+        return false;
+    }
+    let given = x.index;
+    same_index(given, index_of(f))
+}
