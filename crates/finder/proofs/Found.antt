@@ -1,16 +1,16 @@
 -- What is found among entries after one more was put among them. Assumes nothing.
 use mathlib.Core.Path.{_≡_, refl, sym, ap, _∙_, subst}
 use mathlib.Core.Logic.{_≢_, _⊎_, inl, inr}
-use mathlib.Core.Bool.{Bool, true, false, cond, not, _&&_, _||_, true≢false}
+use mathlib.Core.Bool.{Bool, true, false, cond, not, _&&_, _||_}
 use mathlib.Core.List.{List, [], _∷_}
-use Prim.Native.Nat.{ℕ, zero, suc, _+_, _≤_, _<_}
+use Prim.Native.Nat.{ℕ, suc, _+_, _≤_}
 use native.Mathlib.Omega.{arith}
-use borrow.Author.Tests.{eq-eqb, ne-eqb, eqb-true, eqb-false, lt-ltb, le-ltb, ltb-true, ltb-false}
+use borrow.Author.Tests.{eq-eqb, ne-eqb, eqb-true, eqb-false}
 use lib.Dec.{eqb, ltb}
 use lib.ListN.{length}
 use Rattle.field.specs.declared.Field.{Field}
 use Rattle.field.specs.Lists.{isIn}
-use Rattle.field.proofs.Tests.{decided, if-true, if-false, same}
+use Rattle.field.proofs.Tests.{if-true, if-false}
 use Rattle.questions.specs.declared.Place.{Place}
 use Rattle.questions.specs.Find.{placeOf}
 use Rattle.finder.specs.declared.Entry.{Entry}

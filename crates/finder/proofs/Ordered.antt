@@ -1,6 +1,6 @@
 -- The index of any field is in order of number, with the unused places last. Assumes nothing.
 use mathlib.Core.Path.{_≡_, refl, sym, ap, _∙_, subst}
-use mathlib.Core.Logic.{_≢_, _⊎_, inl, inr}
+use mathlib.Core.Logic.{inl, inr}
 use mathlib.Core.Bool.{Bool, true, false, cond, not, _&&_, _||_}
 use mathlib.Core.List.{List, [], _∷_}
 use Prim.Native.Nat.{ℕ, zero, suc, _≤_, _<_}
@@ -10,7 +10,6 @@ use lib.Dec.{eqb, ltb}
 use lib.ListN.{replicate}
 use Rattle.field.specs.declared.Field.{Field}
 use Rattle.field.specs.Boxes.{everywhere}
-use Rattle.field.proofs.Tests.{decided}
 use Rattle.questions.specs.Find.{numbersIn}
 use Rattle.finder.specs.declared.Entry.{Entry}
 use Rattle.finder.specs.Finder.{unused, entryOf, isBefore, firstOf, secondOf, put, putAll, indexOf, Unused, InOrder}

@@ -1,9 +1,9 @@
 -- Entries while one is put among them, place by place, and numbers one after the other. Assumes nothing.
 use mathlib.Core.Path.{_≡_, refl, sym, ap, _∙_}
-use mathlib.Core.List.{List, [], _∷_, _++_, map}
-use Prim.Native.Nat.{ℕ, zero, suc, _+_, _-_, _≤_, _<_}
+use mathlib.Core.List.{List, [], _∷_, _++_}
+use Prim.Native.Nat.{ℕ, suc, _+_, _-_, _≤_, _<_}
 use native.Mathlib.Omega.{arith}
-use lib.ListN.{length, getD, take, drop, set, drop-of-length-le}
+use lib.ListN.{length, getD, take, drop, set}
 use Rattle.field.specs.declared.Field.{Field}
 use Rattle.field.proofs.Arrays.{next-of, filled-at, filled-more, filled-all}
 use Rattle.finder.specs.declared.Entry.{Entry}

@@ -1,18 +1,19 @@
 -- The theorems of the index: it says what a look through the queues says, and a tick leaves it. Assumes nothing.
-use mathlib.Core.Path.{_≡_, refl, sym, ap, _∙_, fun-ext}
-use mathlib.Core.Logic.{_≢_, _⊎_, inl, inr}
+use mathlib.Core.Path.{_≡_, refl, sym, ap, _∙_}
+use mathlib.Core.Logic.{_≢_, inl, inr}
 use mathlib.Core.Bool.{Bool, true, false, cond, not, _&&_, true≢false}
-use mathlib.Core.List.{List, [], _∷_, _++_}
-use Prim.Native.Nat.{ℕ, zero, suc, _+_, _≤_}
+use mathlib.Core.List.{List, [], _∷_}
+use Prim.Native.Nat.{ℕ, _+_, _≤_}
 use native.Mathlib.Omega.{arith}
-use borrow.Author.Tests.{eq-eqb, ne-eqb, eqb-true, eqb-false}
+use borrow.Author.Tests.{eq-eqb, eqb-true, eqb-false}
 use lib.Dec.{T, eqb, eqb→eq}
-use lib.Ieee.Fits.{and-i, and-l, and-r}
+use lib.Ieee.Fits.{and-l, and-r}
 use lib.ListN.{length, length-append, length-map, replicate}
+use Rattle.field.specs.declared.Legs.{Legs}
 use Rattle.field.specs.declared.Field.{Field}
-use Rattle.field.specs.Boxes.{everywhere, inZone}
+use Rattle.field.specs.Boxes.{everywhere, zoneOf, queueOf, inZone, emptyField}
 use Rattle.field.specs.Lists.{isIn, every, allDifferent}
-use Rattle.field.proofs.Tests.{decided, passed, pass, failed, if-true, if-false}
+use Rattle.field.proofs.Tests.{decided, failed}
 use Rattle.field.proofs.Lists.{every-listed}
 use Rattle.questions.specs.declared.Place.{Place}
 use Rattle.questions.specs.Counts.{total, howMany, presentOn}
@@ -23,7 +24,6 @@ use Rattle.numbers.specs.Numbers.{numbersDiffer}
 use Rattle.bounds.specs.Bounds.{withinBounds}
 use Rattle.tick.specs.Tick.{ticked}
 use Rattle.laws.proofs.BoundLaws.{five-present, within-e}
-use Rattle.laws.proofs.Alike.{Alike}
 use Rattle.laws.proofs.TickLaws.{alike-ticked}
 use Rattle.finder.specs.declared.Entry.{Entry}
 use Rattle.finder.specs.declared.Index.{Index}
@@ -109,6 +109,13 @@ index-same f g h =
 -- A tick leaves the index as it is.
 pub index-ticked : (f : Field) (amount : ℕ) → indexOf (ticked f amount) ≡ indexOf f
 index-ticked f amount = index-same (ticked f amount) f (alike-ticked f amount .numbers)
+
+-- ---- the empty field
+
+-- The index of an empty field is five unused places.
+pub index-empty : (legs : Legs) → indexOf (emptyField legs) ≡ record { entries = replicate 5 unused }
+unfolding indexOf emptyField inZone zoneOf queueOf
+index-empty legs = refl
 
 -- ---- the bounds
 entries-equal : (a b : Entry) → T (sameEntry a b) → a ≡ b

@@ -1,5 +1,5 @@
 -- `finder::entry_of` meets its contract: the look through the queues is that of `questions`. Assumes nothing.
-use mathlib.Core.Path.{_≡_, ap}
+use mathlib.Core.Path.{ap}
 use borrow.Author.Needs.{needs}
 use Rattle.questions.specs.declared.Place.{Place}
 use Rattle.finder.specs.Finder.{entryOf}

@@ -1,5 +1,5 @@
 -- `finder::first_of` meets its contract: the definition takes the arm of the test. Assumes nothing.
-use mathlib.Core.Path.{_≡_, sym, _∙_}
+use mathlib.Core.Path.{sym, _∙_}
 use borrow.Author.Needs.{needs}
 use Rattle.field.proofs.Tests.{if-true, if-false}
 use Rattle.finder.specs.Finder.{firstOf}

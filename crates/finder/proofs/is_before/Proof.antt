@@ -1,5 +1,5 @@
 -- `finder::is_before` meets its contract: each test decides a part of the definition. Assumes nothing.
-use mathlib.Core.Path.{_≡_, refl, sym, ap, _∙_}
+use mathlib.Core.Path.{refl, sym, ap}
 use mathlib.Core.Bool.{not}
 use borrow.Author.Tests.{eq-eqb, ne-eqb}
 use Rattle.field.proofs.Parts.{and-then, and-cut, or-first, or-else}

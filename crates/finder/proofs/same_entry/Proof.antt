@@ -1,5 +1,5 @@
 -- `finder::same_entry` meets its contract: each test decides a part of the definition. Assumes nothing.
-use mathlib.Core.Path.{_≡_, refl, sym, _∙_}
+use mathlib.Core.Path.{refl, sym}
 use borrow.Author.Tests.{eq-eqb, ne-eqb}
 use Rattle.field.proofs.Parts.{and-then, and-cut}
 use Rattle.finder.specs.Finder.{sameEntry}

@@ -1,5 +1,5 @@
 -- `finder::second_of` meets its contract: the definition takes the arms of the tests. Assumes nothing.
-use mathlib.Core.Path.{_≡_, sym, _∙_}
+use mathlib.Core.Path.{sym, _∙_}
 use borrow.Author.Needs.{needs}
 use borrow.Author.Tests.{eq-eqb, ne-eqb}
 use Rattle.field.proofs.Tests.{if-true, if-false}

@@ -1,6 +1,5 @@
 -- `finder::with_entry` meets its contract: the places that the loop has passed are written, and an entry goes on. Assumes nothing.
-use mathlib.Core.Path.{_≡_, sym, _∙_}
-use Prim.Native.Nat.{ℕ, _-_}
+use Prim.Native.Nat.{_-_}
 use borrow.Author.Needs.{needs}
 use native.Mathlib.Omega.{arith}
 use Rattle.finder.proofs.Known.{index-known}

@@ -1,5 +1,5 @@
 -- `finder::within_bounds_indexed` meets its contract: each test decides a part of the definition. Assumes nothing.
-use mathlib.Core.Path.{_≡_, sym, ap, _∙_}
+use mathlib.Core.Path.{sym, ap, _∙_}
 use borrow.Author.Needs.{needs}
 use Rattle.field.proofs.Parts.{and-then, and-cut, holds, fails}
 use Rattle.finder.specs.Finder.{sameIndex, withinBoundsIndexed}
