@@ -8,7 +8,7 @@ use request::input_number;
 use text::put_byte;
 use text::put_text;
 ghost use mathlib.Core.Path.{_≡_};
-ghost use mathlib.Core.List.{_++_};
+ghost use mathlib.Core.List.{[], _∷_, _++_};
 ghost use mathlib.Core.Bool.{_&&_};
 ghost use Prim.Native.Nat.{_+_, _*_, _%_, _/_, _≤_};
 ghost use lib.Dec.{eqb, leb};
@@ -183,14 +183,19 @@ pub extern "C" fn baguymo_write(
     requests: &[u8],
     out: &mut [u8],
     size: &mut [usize; 1],
-) -> u16 {
+) -> u16
+    ensures { λ r. ⌜ r ≡ writingNumber (record { base = base; intermediate = intermediate; last = last; missed = missed }) (now (requests .entry)) (length (now (out .entry))) ⌝ }
+    ensures { λ r. ⌜ now (out .exit) ≡ bufferAfter (record { base = base; intermediate = intermediate; last = last; missed = missed }) (now (requests .entry)) (now (out .entry)) ⌝ }
+    ensures { λ r. ⌜ now (size .exit) ≡ writingOf (record { base = base; intermediate = intermediate; last = last; missed = missed }) (now (requests .entry)) (length (now (out .entry))) .length ∷ [] ⌝ }
+{
     let legs = FileLegs {
         base: base,
         intermediate: intermediate,
         last: last,
         missed: missed,
     };
+    let lent: &mut [usize] = size;
     let w = write(legs, requests, out);
-    size[0] = w.length;
+    lent[0] = w.length;
     w.number
 }
