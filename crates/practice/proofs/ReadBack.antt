@@ -38,7 +38,7 @@ requests-back (r ∷ rest) = λ i. record { kind = r .kind; side = r .side; numb
 
 -- ---- the whole file
 module _ (legs : FileLegs) (rs : List Request) where
-  size : length (encoded legs rs) ≡ 34 + 6 * length rs
+  pub size : length (encoded legs rs) ≡ 34 + 6 * length rs
   unfolding encoded
   size = let e = requests-size rs in omega arith
 

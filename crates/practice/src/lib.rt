@@ -108,7 +108,7 @@ fn legs_of(body: &[u8]) -> FileLegs
 }
 
 // Whether each leg is from 1 64th of a mile to the longest leg.
-fn legs_allowed(legs: FileLegs) -> bool
+pub fn legs_allowed(legs: FileLegs) -> bool
     ensures { λ r. ⌜ r ≡ legsAllowed legs ⌝ }
 {
     let allowed = Range(1, LONGEST_LEG);

@@ -89,7 +89,7 @@ pub put-same : {b a : List ℕ} {at e : ℕ} {xs : List ℕ} → Put b at xs a e
 put-same {b} {at = at} {xs = xs} p = ap length (p .buffer) ∙ put-length b at xs
 
 -- where there is room for all of them they are a run of stores
-put-fits : (b : List ℕ) (at : ℕ) (xs : List ℕ) → at + length xs ≤ length b → _≡_ {A = List ℕ × ℕ} (put b at xs) (sets b at xs, at + length xs)
+pub put-fits : (b : List ℕ) (at : ℕ) (xs : List ℕ) → at + length xs ≤ length b → _≡_ {A = List ℕ × ℕ} (put b at xs) (sets b at xs, at + length xs)
 put-fits b at [] h = ap (λ (n : ℕ). (b, n)) {x = at} {y = at + 0} (omega arith)
 put-fits b at (x ∷ xs) h =
     let l = length-set b at x in

@@ -1,0 +1,5 @@
+pub mod Offences
+pub mod Bytes
+pub mod Numbers
+pub mod Only
+pub mod Written
