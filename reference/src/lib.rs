@@ -8,13 +8,15 @@
 //! Beneath them: [`file`] reads a practice file, [`binder`] a binder,
 //! [`request`] holds requests and the input rules, [`field`] the zones, the
 //! sequence, the bounds and the twelve kinds of request, [`mod@button`] what a
-//! press proposes, [`mod@spacing`] the gaps along the path.
+//! press proposes, [`mod@spacing`] the gaps along the path, [`index`] a field
+//! with an index beside it.
 
 pub mod binder;
 pub mod button;
 pub mod explore;
 pub mod field;
 pub mod file;
+pub mod index;
 pub mod refusal;
 pub mod request;
 pub mod spacing;
@@ -23,6 +25,7 @@ pub use binder::Week;
 pub use button::Ending;
 pub use field::{Aircraft, Answer, Field, Legs, Progress, Side, Zone};
 pub use file::PracticeFile;
+pub use index::{Index, Indexed};
 pub use refusal::{BinderRefusal, FileRefusal, Refusal};
 pub use request::{Call, Request};
 pub use spacing::{Gap, Pair};

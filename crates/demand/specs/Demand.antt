@@ -34,19 +34,23 @@ pub record MovesOn (f : Field) : Type 0 where
   pub kind : T (movesOn (request .kind))
   pub accepted : stepOf f request .answer .number ≡ 0
 
--- what holds of the field and the answers after a list of requests from the empty field with these legs
-pub record Demand3 (legs : Legs) (rs : List Request) : Type 0 where
+-- what holds of the answers to a list of requests and of the field f after it
+pub record Demand3Of (answers : List (Request × Answer)) (f : Field) : Type 0 where
   -- "refusals 10 and 25 never come"
-  pub no-10 : T (neverAnswers 10 (played (emptyField legs) rs))
-  pub no-25 : T (neverAnswers 25 (played (emptyField legs) rs))
+  pub no-10 : T (neverAnswers 10 answers)
+  pub no-25 : T (neverAnswers 25 answers)
   -- at most four in the operation area, two in each side's area, two per missed approach side, one in each of zones 1 to 4
-  pub operation : inOperation (fieldAfter (emptyField legs) rs) ≤ 4
-  pub areas : (side : ℕ) → T (within 1 2 side) → inArea (fieldAfter (emptyField legs) rs) side ≤ 2
-  pub fixes : (side : ℕ) → T (within 1 2 side) → perFix (fieldAfter (emptyField legs) rs) side ≤ 2
-  pub holdings : (zone : ℕ) → T (within 1 4 zone) → howMany (fieldAfter (emptyField legs) rs) zone ≤ 1
+  pub operation : inOperation f ≤ 4
+  pub areas : (side : ℕ) → T (within 1 2 side) → inArea f side ≤ 2
+  pub fixes : (side : ℕ) → T (within 1 2 side) → perFix f side ≤ 2
+  pub holdings : (zone : ℕ) → T (within 1 4 zone) → howMany f zone ≤ 1
   -- let in = taxied off + exited + present
-  pub balance : letIn (played (emptyField legs) rs) ≡ taxiedOff (played (emptyField legs) rs) + exitedFrom (played (emptyField legs) rs) + presentOn (fieldAfter (emptyField legs) rs)
+  pub balance : letIn answers ≡ taxiedOff answers + exitedFrom answers + presentOn f
   -- "then, if anyone is present, there is a request of kinds 3 to 8 or 11 that is accepted on that field"
-  pub never-stuck : 0 < presentOn (fieldAfter (emptyField legs) rs) → T (allFlownOut (fieldAfter (emptyField legs) rs)) → MovesOn (fieldAfter (emptyField legs) rs)
+  pub never-stuck : 0 < presentOn f → T (allFlownOut f) → MovesOn f
   -- "The 29 holds for every list that goes on from there without an accepted request of kind 1, 2 or 10."
-  pub few-moves : (more : List Request) → accepted addsMoves (played (fieldAfter (emptyField legs) rs) more) ≡ 0 → moves (played (fieldAfter (emptyField legs) rs) more) ≤ mostMoves
+  pub few-moves : (more : List Request) → accepted addsMoves (played f more) ≡ 0 → moves (played f more) ≤ mostMoves
+
+-- that, after a list of requests from the empty field with these legs
+abbrev pub Demand3 : Legs → List Request → Type 0
+Demand3 legs rs = Demand3Of (played (emptyField legs) rs) (fieldAfter (emptyField legs) rs)

@@ -11,6 +11,7 @@ use Rattle.request.specs.Input.{within, isEntry, isTick}
 use Rattle.request.specs.declared.Request.{Request}
 use Rattle.field.specs.declared.Aircraft.{Aircraft}
 use Rattle.field.specs.declared.Legs.{Legs}
+use Rattle.field.specs.declared.Field.{Field}
 use Rattle.field.specs.Boxes.{missed, base, intermediate, right, left, isFlyingZone, inZone, legsIn64ths, emptyField}
 use Rattle.rules.specs.declared.Answer.{Answer}
 use Rattle.rules.specs.Play.{fieldAfter, played, isAccepted}
@@ -111,8 +112,12 @@ pub record Account (s : Flight) (z : ℕ) (a : Aircraft) : Type 0 where
   -- this one included (02, 2.2)
   pub waited : Exactly (a .waited) (min mostIn4096ths (s .before + pastIn z (s .leg) (a .speed * s .ticks)))
 
--- after the list that is so of everyone on the field
-abbrev pub Exact : WholeLegs → List Request → Type 0
-Exact w rs =
+-- that is so of everyone on the field f after a list of requests with these answers, ..
+abbrev pub ExactOf : WholeLegs → List (Request × Answer) → Field → Type 0
+ExactOf w answers f =
     (zone : ℕ) → T (within 1 13 zone)
-    → EachAircraft (λ a. Account (flightAfter w (a .number) noFlight (played (emptyField (inMiles w)) rs)) zone a) (inZone (fieldAfter (emptyField (inMiles w)) rs) zone)
+    → EachAircraft (λ a. Account (flightAfter w (a .number) noFlight answers) zone a) (inZone f zone)
+
+-- .. played from the empty field
+abbrev pub Exact : WholeLegs → List Request → Type 0
+Exact w rs = ExactOf w (played (emptyField (inMiles w)) rs) (fieldAfter (emptyField (inMiles w)) rs)

@@ -2,10 +2,10 @@
 use mathlib.Core.Path.{_≡_, refl, sym, ap, _∙_, subst}
 use mathlib.Core.Logic.{_≢_, _⊎_, inl, inr}
 use mathlib.Core.Bool.{Bool, true, false, cond, not, _&&_, _||_}
-use mathlib.Core.List.{List, [], _∷_}
-use Prim.Native.Nat.{ℕ, suc, _+_, _≤_}
+use mathlib.Core.List.{List, [], _∷_, map}
+use Prim.Native.Nat.{ℕ, suc, _+_, _≤_, _<_}
 use native.Mathlib.Omega.{arith}
-use borrow.Author.Tests.{eq-eqb, ne-eqb, eqb-true, eqb-false}
+use borrow.Author.Tests.{eq-eqb, ne-eqb, eqb-true, eqb-false, ltb-true, ltb-false}
 use lib.Dec.{eqb, ltb}
 use lib.ListN.{length}
 use Rattle.field.specs.declared.Field.{Field}
@@ -14,7 +14,7 @@ use Rattle.field.proofs.Tests.{if-true, if-false}
 use Rattle.questions.specs.declared.Place.{Place}
 use Rattle.questions.specs.Find.{placeOf}
 use Rattle.finder.specs.declared.Entry.{Entry}
-use Rattle.finder.specs.Finder.{unused, entryOf, isBefore, firstOf, secondOf, put, putAll, foundAmong}
+use Rattle.finder.specs.Finder.{unused, entryOf, isBefore, firstOf, secondOf, put, putEach, foundAmong}
 
 -- ---- two entries
 
@@ -25,7 +25,7 @@ before-unused a b h e =
     ap (λ (t : Bool). not t && (eqb (b .number) 0 || ltb (a .number) (b .number))) (ne-eqb (a .number) 0 h)
     ∙ ap (λ (t : Bool). t || ltb (a .number) (b .number)) (eq-eqb (b .number) 0 e)
 
-pub before-used : (a b : Entry) → a .number ≢ 0 → b .number ≢ 0 → isBefore a b ≡ ltb (a .number) (b .number)
+before-used : (a b : Entry) → a .number ≢ 0 → b .number ≢ 0 → isBefore a b ≡ ltb (a .number) (b .number)
 unfolding isBefore
 before-used a b h g =
     ap (λ (t : Bool). not t && (eqb (b .number) 0 || ltb (a .number) (b .number))) (ne-eqb (a .number) 0 h)
@@ -37,14 +37,14 @@ unfolding firstOf secondOf
 put-before e x xs h = ap (λ (t : Bool). cond t e x ∷ put (cond t x (cond (eqb (e .number) (x .number)) unused e)) xs) h
 
 -- .. one that stands behind it goes on itself; ..
-pub put-behind : (e x : Entry) (xs : List Entry) → isBefore e x ≡ false → e .number ≢ x .number → put e (x ∷ xs) ≡ x ∷ put e xs
+put-behind : (e x : Entry) (xs : List Entry) → isBefore e x ≡ false → e .number ≢ x .number → put e (x ∷ xs) ≡ x ∷ put e xs
 unfolding firstOf secondOf
 put-behind e x xs h g =
     ap (λ (t : Bool). cond t e x ∷ put (cond t x (cond (eqb (e .number) (x .number)) unused e)) xs) h
     ∙ ap (λ (t : Bool). x ∷ put (cond t unused e) xs) (ne-eqb (e .number) (x .number) g)
 
 -- .. nothing goes on behind one with the same number, ..
-pub put-same : (e x : Entry) (xs : List Entry) → isBefore e x ≡ false → e .number ≡ x .number → put e (x ∷ xs) ≡ x ∷ put unused xs
+put-same : (e x : Entry) (xs : List Entry) → isBefore e x ≡ false → e .number ≡ x .number → put e (x ∷ xs) ≡ x ∷ put unused xs
 unfolding firstOf secondOf
 put-same e x xs h g =
     ap (λ (t : Bool). cond t e x ∷ put (cond t x (cond (eqb (e .number) (x .number)) unused e)) xs) h
@@ -59,6 +59,41 @@ put-unused (x ∷ xs) = go (eqb 0 (x .number)) (put-unused xs)
     go : (b : Bool) → put unused xs ≡ xs → _≡_ {A = List Entry} (x ∷ put (cond b unused unused) xs) (x ∷ xs)
     go true e = ap (λ (l : List Entry). x ∷ l) e
     go false e = ap (λ (l : List Entry). x ∷ l) e
+
+-- nor does another of number 0
+pub put-zero : (e : Entry) → e .number ≡ 0 → (xs : List Entry) → put e xs ≡ xs
+unfolding firstOf secondOf isBefore
+put-zero e z [] = refl
+put-zero e z (x ∷ xs) =
+    ap (λ (t : Bool).
+    let b = not t && (eqb (x .number) 0 || ltb (e .number) (x .number)) in
+    cond b e x ∷ put (cond b x (cond (eqb (e .number) (x .number)) unused e)) xs) (eq-eqb (e .number) 0 z)
+    ∙ go (eqb (e .number) (x .number)) (put-zero e z xs)
+  where
+    go : (b : Bool) → put e xs ≡ xs → _≡_ {A = List Entry} (x ∷ put (cond b unused e) xs) (x ∷ xs)
+    go true h = ap (λ (l : List Entry). x ∷ l) (put-unused xs)
+    go false h = ap (λ (l : List Entry). x ∷ l) h
+
+-- a used entry put among entries with a used one first: it stands before that one, has its number, or goes on behind it
+pub put-by : (P : List Entry → Type 0) (e x : Entry) (xs : List Entry) → e .number ≢ 0 → x .number ≢ 0
+    → (e .number < x .number → P (e ∷ put x xs))
+    → (e .number ≡ x .number → P (x ∷ xs))
+    → (x .number < e .number → P (x ∷ put e xs))
+    → P (put e (x ∷ xs))
+put-by P e x xs h g less alike more = go (ltb (e .number) (x .number)) (eqb (e .number) (x .number)) refl refl
+  where
+    used : isBefore e x ≡ ltb (e .number) (x .number)
+    used = before-used e x h g
+
+    go : (b c : Bool) → ltb (e .number) (x .number) ≡ b → eqb (e .number) (x .number) ≡ c → P (put e (x ∷ xs))
+    go true c s t = subst P (sym (put-before e x xs (used ∙ s))) (less (ltb-true (e .number) (x .number) s))
+    go false true s t =
+        let equal = eqb-true (e .number) (x .number) t in
+        subst P (sym (put-same e x xs (used ∙ s) equal ∙ ap (λ (l : List Entry). x ∷ l) (put-unused xs))) (alike equal)
+    go false false s t =
+        let most = ltb-false (e .number) (x .number) s in
+        let other = eqb-false (e .number) (x .number) t in
+        subst P (sym (put-behind e x xs (used ∙ s) other)) (more (omega (arith, most, other)))
 
 -- ---- one more among others
 
@@ -156,26 +191,17 @@ module _ (f : Field) where
       used : Own f x → 1 ≤ free xs
       used p = let no = if-false {A = ℕ} 1 0 (ne-eqb (x .number) 0 (p .nonzero)) in omega (arith, no, room)
 
-      by : Own f x → (1 ≤ free xs → More f e xs (put e xs)) → ((p : Own f x) → 1 ≤ free xs → More f x xs (put x xs))
-          → (b c : Bool) → ltb (e .number) (x .number) ≡ b → eqb (e .number) (x .number) ≡ c → More f e (x ∷ xs) (put e (x ∷ xs))
-      by p later other true c s t =
-          subst (More f e (x ∷ xs)) (sym (put-before e x xs (before-used e x (o .nonzero) (p .nonzero) ∙ s)))
-          (at-before e x o p xs (put x xs) (other p (used p)))
-      by p later other false true s t =
-          subst (More f e (x ∷ xs))
-          (sym (put-same e x xs (before-used e x (o .nonzero) (p .nonzero) ∙ s) (eqb-true (e .number) (x .number) t) ∙ ap (λ (l : List Entry). x ∷ l) (put-unused xs)))
-          (at-same e x o p (eqb-true (e .number) (x .number) t) xs (os .1))
-      by p later other false false s t =
-          subst (More f e (x ∷ xs)) (sym (put-behind e x xs (before-used e x (o .nonzero) (p .nonzero) ∙ s) (eqb-false (e .number) (x .number) t)))
-          (at-behind e x p (eqb-false (e .number) (x .number) t) xs (put e xs) (later (used p)))
-
       go : (x ≡ unused) ⊎ Own f x → (1 ≤ free xs → More f e xs (put e xs)) → ((p : Own f x) → 1 ≤ free xs → More f x xs (put x xs))
           → More f e (x ∷ xs) (put e (x ∷ xs))
       go (inl z) later other =
           let made = put-before e unused xs (before-unused e unused (o .nonzero) refl) ∙ ap (λ (l : List Entry). e ∷ l) (put-unused xs) in
           subst (λ (y : Entry). More f e (y ∷ xs) (put e (y ∷ xs))) (sym z)
           (subst (More f e (unused ∷ xs)) (sym made) (at-unused e o xs (os .1)))
-      go (inr p) later other = by p later other (ltb (e .number) (x .number)) (eqb (e .number) (x .number)) refl refl
+      go (inr p) later other =
+          put-by (More f e (x ∷ xs)) e x xs (o .nonzero) (p .nonzero)
+          (λ g. at-before e x o p xs (put x xs) (other p (used p)))
+          (λ g. at-same e x o p g xs (os .1))
+          (λ g. at-behind e x p (λ t. omega (arith, g, t)) xs (put e xs) (later (used p)))
 
   -- ---- all numbers of a list
 
@@ -190,7 +216,7 @@ module _ (f : Field) where
 
   -- Numbers put among such entries, where there is a place for each: each is found where a look through the queues finds it, and the others are found as before.
   pub all-found : (ns : List ℕ) → NonZero ns → (es : List Entry) → Owns f es → length ns ≤ free es → (n : ℕ) → n ≢ 0
-      → foundAmong n (putAll f ns es) ≡ cond (isIn n ns) (placeOf f n) (foundAmong n es)
+      → foundAmong n (putEach (map (entryOf f) ns) es) ≡ cond (isIn n ns) (placeOf f n) (foundAmong n es)
   unfolding entryOf
   all-found [] z es os room n h = refl
   all-found (m ∷ ns) z es os room n h =

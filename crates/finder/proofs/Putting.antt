@@ -1,13 +1,13 @@
--- Entries while one is put among them, place by place, and numbers one after the other. Assumes nothing.
+-- Entries while one is put among them, place by place, and entries one after the other. Assumes nothing.
 use mathlib.Core.Path.{_≡_, refl, sym, ap, _∙_}
 use mathlib.Core.List.{List, [], _∷_, _++_}
 use Prim.Native.Nat.{ℕ, suc, _+_, _-_, _≤_, _<_}
 use native.Mathlib.Omega.{arith}
-use lib.ListN.{length, getD, take, drop, set}
-use Rattle.field.specs.declared.Field.{Field}
+use lib.ListN.{length, getD, take, drop, set, take-append-drop}
 use Rattle.field.proofs.Arrays.{next-of, filled-at, filled-more, filled-all}
 use Rattle.finder.specs.declared.Entry.{Entry}
-use Rattle.finder.specs.Finder.{unused, entryOf, firstOf, secondOf, put, putAll}
+use Rattle.finder.specs.Finder.{unused, firstOf, secondOf, put, putEach}
+use Rattle.finder.proofs.Found.{put-zero}
 
 pub put-length : (e : Entry) (xs : List Entry) → length (put e xs) ≡ length xs
 put-length e [] = refl
@@ -49,7 +49,11 @@ module _ (e : Entry) (xs : List Entry) where
       let long = p .long in
       filled-all zs (put e xs) xs i (omega (arith, long, h)) (put-length e xs) (p .made)
 
--- numbers put behind others
-pub put-behind : (f : Field) (ns ms : List ℕ) (es : List Entry) → putAll f (ns ++ ms) es ≡ putAll f ms (putAll f ns es)
-put-behind f [] ms es = refl
-put-behind f (n ∷ ns) ms es = put-behind f ns ms (put (entryOf f n) es)
+  -- an unused one that goes on leaves the rest
+  pub putting-stop : (zs : List Entry) (moved : Entry) (i : ℕ) → Putting e xs zs moved i → moved .number ≡ 0 → zs ≡ put e xs
+  putting-stop zs moved i p z = p .made ∙ ap (λ (l : List Entry). take i (put e xs) ++ l) (sym (p .rest ∙ put-zero moved z (drop i xs))) ∙ take-append-drop i (put e xs)
+
+-- entries put after others
+pub put-after : (xs ys es : List Entry) → putEach (xs ++ ys) es ≡ putEach ys (putEach xs es)
+put-after [] ys es = refl
+put-after (x ∷ xs) ys es = put-after xs ys (put x es)

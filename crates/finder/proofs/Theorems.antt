@@ -2,7 +2,7 @@
 use mathlib.Core.Path.{_≡_, refl, sym, ap, _∙_}
 use mathlib.Core.Logic.{_≢_, inl, inr}
 use mathlib.Core.Bool.{Bool, true, false, cond, not, _&&_, true≢false}
-use mathlib.Core.List.{List, [], _∷_}
+use mathlib.Core.List.{List, [], _∷_, map}
 use Prim.Native.Nat.{ℕ, _+_, _≤_}
 use native.Mathlib.Omega.{arith}
 use borrow.Author.Tests.{eq-eqb, eqb-true, eqb-false}
@@ -28,7 +28,7 @@ use Rattle.laws.proofs.TickLaws.{alike-ticked}
 use Rattle.finder.specs.declared.Entry.{Entry}
 use Rattle.finder.specs.declared.Index.{Index}
 use Rattle.finder.specs.declared.Indexed.{Indexed}
-use Rattle.finder.specs.Finder.{unused, entryOf, put, putAll, indexOf, foundAmong, foundIn, sameEntry, sameEntries, sameIndex, withinBoundsIndexed}
+use Rattle.finder.specs.Finder.{unused, entryOf, putEach, indexOf, foundAmong, foundIn, sameEntry, sameEntries, sameIndex, withinBoundsIndexed}
 use Rattle.finder.proofs.Found.{NonZero, all-found}
 
 -- ---- the numbers of a field within the bounds
@@ -72,7 +72,7 @@ found-as-looked f w number = go (eqb number 0) refl
     five : length (numbersIn f everywhere) ≤ 5
     five = let few = five-present f w in let many = as-many f everywhere in omega (arith, few, many)
 
-    all : number ≢ 0 → foundAmong number (putAll f (numbersIn f everywhere) (replicate 5 unused)) ≡ placeOf f number
+    all : number ≢ 0 → foundAmong number (putEach (map (entryOf f) (numbersIn f everywhere)) (replicate 5 unused)) ≡ placeOf f number
     all h =
         all-found f (numbersIn f everywhere) (non-zero f (numbersIn f everywhere) (nonzero-all f w)) (replicate 5 unused)
         (inl refl, (inl refl, (inl refl, (inl refl, (inl refl, tt))))) five number h
@@ -86,7 +86,7 @@ found-as-looked f w number = go (eqb number 0) refl
           | inr t ↦ t
         ]
 
-    go : (b : Bool) → eqb number 0 ≡ b → cond b nowhere (foundAmong number (putAll f (numbersIn f everywhere) (replicate 5 unused))) ≡ placeOf f number
+    go : (b : Bool) → eqb number 0 ≡ b → cond b nowhere (foundAmong number (putEach (map (entryOf f) (numbersIn f everywhere)) (replicate 5 unused))) ≡ placeOf f number
     go true e = sym (absent-nowhere f number (zero-absent (eqb-true number 0 e)))
     go false e = all (eqb-false number 0 e)
 
@@ -95,16 +95,17 @@ entry-same : (f g : Field) (n : ℕ) → placeOf f n ≡ placeOf g n → entryOf
 unfolding entryOf
 entry-same f g n e = ap (λ (p : Place). record { number = n; zone = p .zone; place = p .place }) e
 
-all-same : (f g : Field) → ((n : ℕ) → placeOf f n ≡ placeOf g n) → (ns : List ℕ) (es : List Entry) → putAll f ns es ≡ putAll g ns es
-all-same f g h [] es = refl
-all-same f g h (n ∷ ns) es = ap (λ (e : Entry). putAll f ns (put e es)) (entry-same f g n (h n)) ∙ all-same f g h ns (put (entryOf g n) es)
+all-same : (f g : Field) → ((n : ℕ) → placeOf f n ≡ placeOf g n) → (ns : List ℕ) → map (entryOf f) ns ≡ map (entryOf g) ns
+all-same f g h [] = refl
+all-same f g h (n ∷ ns) = ap (λ (e : Entry). e ∷ map (entryOf f) ns) (entry-same f g n (h n)) ∙ ap (λ (es : List Entry). entryOf g n ∷ es) (all-same f g h ns)
 
 -- Fields with the same numbers in every queue have the same index.
 pub index-same : (f g : Field) → ((z : ℕ) → numbersAt f z ≡ numbersAt g z) → indexOf f ≡ indexOf g
 unfolding indexOf
 index-same f g h =
-    ap (λ (ns : List ℕ). record { entries = putAll f ns (replicate 5 unused) }) (numbers-same f g h everywhere)
-    ∙ ap (λ (es : List Entry). record { entries = es }) (all-same f g (λ n. look-up-same f g n h) (numbersIn g everywhere) (replicate 5 unused))
+    let put : List Entry → Index = λ es. record { entries = putEach es (replicate 5 unused) } in
+    ap (λ (ns : List ℕ). put (map (entryOf f) ns)) (numbers-same f g h everywhere)
+    ∙ ap put (all-same f g (λ n. look-up-same f g n h) (numbersIn g everywhere))
 
 -- A tick leaves the index as it is.
 pub index-ticked : (f : Field) (amount : ℕ) → indexOf (ticked f amount) ≡ indexOf f

@@ -2,10 +2,11 @@
 use mathlib.Core.Path.{_≡_}
 use mathlib.Core.Logic.{_⊎_}
 use mathlib.Core.Bool.{Bool, true, false, cond, not, _&&_, _||_}
-use mathlib.Core.List.{List, [], _∷_}
-use Prim.Native.Nat.{ℕ, _<_}
+use mathlib.Core.List.{List, [], _∷_, map}
+use Prim.Native.Nat.{ℕ, suc, _<_}
 use lib.Dec.{eqb, ltb}
 use lib.ListN.{replicate}
+use Rattle.field.specs.declared.Aircraft.{Aircraft}
 use Rattle.field.specs.declared.Field.{Field}
 use Rattle.field.specs.Boxes.{everywhere}
 use Rattle.questions.specs.declared.Place.{Place}
@@ -42,15 +43,20 @@ abbrev pub put : Entry → List Entry → List Entry
 put e [] = []
 put e (x ∷ xs) = firstOf e x ∷ put (secondOf e x) xs
 
--- numbers put among entries in order, each with what a look through the queues says of it
-abbrev pub putAll : Field → List ℕ → List Entry → List Entry
-putAll f [] es = es
-putAll f (n ∷ ns) es = putAll f ns (put (entryOf f n) es)
+-- entries put among entries in order, one after the other
+abbrev pub putEach : List Entry → List Entry → List Entry
+putEach [] es = es
+putEach (e ∷ more) es = putEach more (put e es)
 
--- the index of a field: all numbers of the thirteen zones, put among five unused places. Out of the bounds a number that stands twice is in it once, 0 is
--- left out, and of more than five numbers the five lowest are in it
+-- the index of a field: all numbers of the thirteen zones, each with what a look through the queues says of it, put among five unused places. Out of the
+-- bounds a number that stands twice is in it once, 0 is left out, and of more than five numbers the five lowest are in it
 unfoldable pub indexOf : Field → Index
-indexOf f = record { entries = putAll f (numbersIn f everywhere) (replicate 5 unused) }
+indexOf f = record { entries = putEach (map (entryOf f) (numbersIn f everywhere)) (replicate 5 unused) }
+
+-- those of a queue whose head is place k of a zone, each with its own zone and place: what one walk through the zones puts
+abbrev pub entriesFrom : ℕ → ℕ → List Aircraft → List Entry
+entriesFrom zone k [] = []
+entriesFrom zone k (a ∷ rest) = record { number = a .number; zone = zone; place = k } ∷ entriesFrom zone (suc k) rest
 
 -- entries that are all unused
 abbrev pub Unused : List Entry → Type 0

@@ -5,17 +5,15 @@ use field::Zone;
 use field::boxes::queue_length;
 use field::zones::RUNWAY;
 use questions::Place;
-use questions::find::place_of;
 ghost use mathlib.Core.Path.{_≡_};
-ghost use mathlib.Core.List.{map};
 ghost use Rattle.field.specs.Boxes.{queueOf};
-ghost use Rattle.finder.specs.Finder.{entryOf, isBefore, firstOf, secondOf, put, putAll, indexOf, foundIn, sameEntry, sameIndex, withinBoundsIndexed};
+ghost use Rattle.finder.specs.Finder.{isBefore, firstOf, secondOf, put, putEach, entriesFrom, indexOf, foundIn, sameEntry, sameIndex, withinBoundsIndexed};
 
 // One place of the index: a number, its zone, and its place in the zone's queue from 1. An unused place is all zero.
 pub struct Entry {
     pub number: u16,
     pub zone: u8,
-    pub place: usize,
+    pub place: u8,
 }
 
 // The index: five places in order of number, the unused ones last.
@@ -27,18 +25,6 @@ pub struct Index {
 pub struct Indexed {
     pub field: Field,
     pub index: Index,
-}
-
-// A number with what a look through the queues says of it.
-fn entry_of(f: Field, number: u16) -> Entry
-    ensures { λ r. ⌜ r ≡ entryOf f number ⌝ }
-{
-    let at = place_of(f, number);
-    Entry {
-        number: number,
-        zone: at.zone,
-        place: at.place,
-    }
 }
 
 // Whether an entry stands before another.
@@ -88,6 +74,9 @@ fn with_entry(index: Index, e: Entry) -> Index
     let mut entries = index.entries;
     let mut moved = e;
     for i in 0..5 {
+        if moved.number == 0 {
+            break;
+        }
         let here = entries[i];
         entries[i] = first_of(moved, here);
         moved = second_of(moved, here);
@@ -95,20 +84,26 @@ fn with_entry(index: Index, e: Entry) -> Index
     Index { entries: entries }
 }
 
-// The index with the numbers of a queue put among its own, each with where it is on the field.
-fn with_queue(f: Field, index: Index, q: Zone) -> Index
-    ensures { λ r. ⌜ r .entries ≡ putAll f (map (λ a. a .number) (queueOf q)) (index .entries) ⌝ }
+// The index with those of a queue put among its own, each with the zone and its place in the queue.
+fn with_queue(index: Index, q: Zone, zone: u8) -> Index
+    ensures { λ r. ⌜ r .entries ≡ putEach (entriesFrom zone 1 (queueOf q)) (index .entries) ⌝ }
 {
     let end = queue_length(q);
     let mut made = index;
     for i in 0..end {
         let a = q.aircraft[i];
-        made = with_entry(made, entry_of(f, a.number));
+        let place = (i + 1) as u8;
+        let e = Entry {
+            number: a.number,
+            zone: zone,
+            place: place,
+        };
+        made = with_entry(made, e);
     }
     made
 }
 
-// The index of a field.
+// The index of a field, by one walk through its zones.
 pub fn index_of(f: Field) -> Index
     ensures { λ r. ⌜ r ≡ indexOf f ⌝ }
 {
@@ -119,11 +114,12 @@ pub fn index_of(f: Field) -> Index
     };
     let entries = [unused; 5];
     let mut index = Index { entries: entries };
-    let mut zone = 0;
-    while zone < RUNWAY {
-        let q = f.zones[zone];
-        zone += 1;
-        index = with_queue(f, index, q);
+    for zone in 1..=RUNWAY {
+        let length = f.zones[zone - 1].length;
+        if length != 0 {
+            let q = f.zones[zone - 1];
+            index = with_queue(index, q, zone as u8);
+        }
     }
     index
 }
@@ -138,9 +134,10 @@ pub fn find(index: Index, number: u16) -> Place
     for i in 0..5 {
         let e = index.entries[i];
         if e.number == number {
+            let at = e.place as usize;
             return Place {
                 zone: e.zone,
-                place: e.place,
+                place: at,
             };
         }
     }

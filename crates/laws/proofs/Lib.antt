@@ -1,6 +1,5 @@
 pub mod EditLaws
 pub mod CountLaws
-pub mod LookUp
 pub mod BoundLaws
 pub mod Alike
 pub mod Fits

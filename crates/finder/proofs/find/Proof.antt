@@ -33,17 +33,20 @@ mul-e c = search needs
 element-copy-out-e : tie.Need-element-copy-out-e Inv-loop μ-loop
 element-copy-out-e c = search needs
 
+cast-at : tie.Need-cast-at Inv-loop μ-loop
+cast-at c = search needs
+
 returns-2 : tie.Need-returns-2 Inv-loop μ-loop
 unfolding foundIn
 returns-2 c =
-    let at = c .before .before .before .before in
+    let at = c .before .before .before .before .before in
     let a = at .before .before .args in
     let l = at .loop in
     let long = l .inv .0 in
     let here = next-of (a .t1 .entries) (l .i) _ (omega (arith, long)) in
     sym
     (if-false _ _ (ne-eqb _ _ (at .before .if1 .left))
-    ∙ walked-stop (foundAmong (a .number)) (a .t1 .entries) 0 (l .i) (l .inv .1) here (if-true _ _ (eq-eqb _ _ (c .if2 .taken))))
+    ∙ walked-stop (foundAmong (a .number)) (a .t1 .entries) 0 (l .i) (l .inv .1) here (if-true _ _ (eq-eqb _ _ (c .before .if2 .taken))))
 
 add-i : tie.Need-add-i Inv-loop μ-loop
 add-i c = search needs
@@ -70,4 +73,4 @@ returns-3 c =
     sym (if-false _ _ (ne-eqb _ _ (at .before .if1 .left)) ∙ walked-all (foundAmong (a .number)) (a .t1 .entries) 0 (l .i) (l .inv .1) (omega (arith, long)))
 
 pub find-spec : {M : Type 1} → statement M
-find-spec = tie.close (tie.spec Inv-loop μ-loop returns loop-holds mul-e element-copy-out-e returns-2 add-i loop-less loop-again returns-3)
+find-spec = tie.close (tie.spec Inv-loop μ-loop returns loop-holds mul-e element-copy-out-e cast-at returns-2 add-i loop-less loop-again returns-3)

@@ -1,49 +1,58 @@
--- `finder::index_of` meets its contract: the loop has put the numbers of zones 1 to `zone` among five unused places. Assumes nothing.
-use mathlib.Core.Path.{_≡_, refl, sym, ap, _∙_}
-use mathlib.Core.List.{List, map}
-use Prim.Native.Nat.{ℕ, _+_, _-_, _≤_, _<_}
-use native.Mathlib.Numerals.{add-one}
+-- `finder::index_of` meets its contract: the loop has put those of the zones before `zone` among five unused places. Assumes nothing.
+use mathlib.Core.Path.{_≡_, sym, ap, _∙_}
+use mathlib.Core.Logic.{⊎-elim}
+use mathlib.Core.List.{List}
+use Prim.Native.Nat.{ℕ, _+_, _-_, _≤_}
 use native.Mathlib.Omega.{arith}
-use lib.ListN.{length, getD, replicate}
+use lib.ListN.{length, getD, take}
 use borrow.Author.Needs.{needs}
 use Rattle.field.specs.declared.Zone.{Zone}
 use Rattle.field.specs.declared.Field.{Field}
-use Rattle.field.specs.Boxes.{zonesFrom, emptyZone, zoneOf, queueOf, inZone}
+use Rattle.field.specs.Boxes.{zoneOf, queueOf, inZone}
 use Rattle.field.proofs.Known.{field-known}
-use Rattle.field.proofs.Shapes.{read}
-use Rattle.questions.specs.Find.{numbersIn}
-use Rattle.questions.proofs.Listed.{numberOf, numbersAt, one-zone-more}
+use Rattle.field.proofs.Shapes.{zone-read}
 use Rattle.finder.specs.declared.Entry.{Entry}
 use Rattle.finder.specs.declared.Index.{Index}
-use Rattle.finder.specs.Finder.{unused, putAll, indexOf}
-use Rattle.finder.proofs.Putting.{put-behind}
+use Rattle.finder.specs.Finder.{putEach, entriesFrom}
+use Rattle.finder.proofs.Walk.{Walked, walked-none, walked-more, walked-all}
 use Rattle.finder.proofs.index_of.Statement.{statement}
 use Rattle.finder.proofs.index_of.Tie as tie
 
--- the numbers of zones 1 to z put among unused places
-abbrev upTo : Field → ℕ → List Entry
-upTo f z = putAll f (numbersIn f (zonesFrom 1 z)) (replicate 5 unused)
+-- zone z, read at the index before it
+module _ (f : Field) (z : ℕ) (d : Zone) (long : length (f .zones) ≡ 13) (h : z ≤ 13) (es : List Entry) (w : Walked f z es) where
+  here : getD (f .zones) (z - 1) d ≡ zoneOf f z
+  here = zone-read f z d long (w .low) h
 
--- one zone more, read at the index z
-gathered : (f : Field) (z : ℕ) (d : Zone) {es rs : List Entry} → length (f .zones) ≡ 13 → z < 13 → rs ≡ putAll f (map numberOf (queueOf (getD (f .zones) z d))) es
-    → es ≡ upTo f z → rs ≡ upTo f (z + 1)
-unfolding inZone zoneOf
-gathered f z d n h made so =
-    made
-    ∙ ap (putAll f (map numberOf (queueOf (getD (f .zones) z d)))) so
-    ∙ ap (λ (q : Zone). putAll f (map numberOf (queueOf q)) (upTo f z)) (read (f .zones) z d emptyZone (omega arith))
-    ∙ ap (λ (k : ℕ). putAll f (map numberOf (inZone f k)) (upTo f z)) (sym (add-one z))
-    ∙ sym (put-behind f (numbersIn f (zonesFrom 1 z)) (numbersAt f (z + 1)) (replicate 5 unused))
-    ∙ ap (λ (ns : List ℕ). putAll f ns (replicate 5 unused)) (sym (one-zone-more f 1 z) ∙ ap (λ (k : ℕ). numbersIn f (zonesFrom 1 k)) (sym (add-one z)))
+  -- its queue was put, ..
+  gathered : {rs : List Entry} → rs ≡ putEach (entriesFrom z 1 (queueOf (getD (f .zones) (z - 1) d))) es → Walked f (z + 1) rs
+  unfolding inZone
+  gathered made = walked-more f z es h w (made ∙ ap (λ (q : Zone). putEach (entriesFrom z 1 (queueOf q)) es) here)
+
+  -- .. or it is empty
+  empty : {rs : List Entry} → rs ≡ es → getD (f .zones) (z - 1) d .length ≡ 0 → Walked f (z + 1) rs
+  unfolding queueOf
+  empty same none = gathered (same ∙ sym (ap (λ (n : ℕ). putEach (entriesFrom z 1 (take n (getD (f .zones) (z - 1) d .aircraft))) es) none))
 
 abbrev Inv-loop : tie.InvT-loop
-Inv-loop f index₀ zone₀ index zone = (zone ≤ 13) × (index .entries ≡ upTo f zone)
+Inv-loop f index₀ zone₀ index zone = Walked f zone (index .entries)
 
 abbrev μ-loop : tie.MeasureT-loop
-μ-loop f index₀ zone₀ index zone = 13 - zone
+μ-loop f index₀ zone₀ index zone = 14 - zone
 
 loop-holds : tie.Need-loop-holds Inv-loop μ-loop
-loop-holds c = (omega arith, refl)
+loop-holds c = walked-none (c .args .t1)
+
+sub-length : tie.Need-sub-length Inv-loop μ-loop
+sub-length c = search needs
+
+mul-length : tie.Need-mul-length Inv-loop μ-loop
+mul-length c = search needs
+
+element-copy-out-length : tie.Need-element-copy-out-length Inv-loop μ-loop
+element-copy-out-length c = search needs
+
+sub-q : tie.Need-sub-q Inv-loop μ-loop
+sub-q c = search needs
 
 mul-q : tie.Need-mul-q Inv-loop μ-loop
 mul-q c = search needs
@@ -51,28 +60,33 @@ mul-q c = search needs
 element-copy-out-q : tie.Need-element-copy-out-q Inv-loop μ-loop
 element-copy-out-q c = search needs
 
-add-zone : tie.Need-add-zone Inv-loop μ-loop
-add-zone c = search needs
+cast-with-queue : tie.Need-cast-with-queue Inv-loop μ-loop
+cast-with-queue c = search needs
 
 with-queue-requires : tie.Need-with-queue-requires Inv-loop μ-loop
 with-queue-requires c κs = search needs
+
+add-zone : tie.Need-add-zone Inv-loop μ-loop
+add-zone c = search needs
 
 loop-less : tie.Need-loop-less Inv-loop μ-loop
 loop-less c = search needs
 
 loop-again : tie.Need-loop-again Inv-loop μ-loop
 loop-again c =
-    let at = c .before .before .before in
+    let at = c .before .before in
+    let l = at .loop in
     let f = at .before .args .t1 in
     let thirteen = field-known f (at .before .good .0) .zones in
-    (omega arith, gathered f (at .loop .zone) _ thirteen (omega arith) (c .with-queue .ensures) (at .loop .inv .1))
+    ⊎-elim
+    (λ w. gathered f (l .zone) _ thirteen (omega arith) (l .index .entries) (l .inv) (ap (λ (i : Index). i .entries) (w .3) ∙ w .2 .ensures))
+    (λ w. empty f (l .zone) _ thirteen (omega arith) (l .index .entries) (l .inv) (ap (λ (i : Index). i .entries) (w .1)) (w .0 .left))
+    (c .if1 .came)
 
 returns : tie.Need-returns Inv-loop μ-loop
-unfolding indexOf
 returns c =
     let l = c .before .loop in
-    let all : l .zone ≡ 13 = omega arith in
-    ap {B = Index} (λ (es : List Entry). record { entries = es }) (l .inv .1 ∙ ap (upTo (c .before .before .args .t1)) all)
+    ap {B = Index} (λ (es : List Entry). record { entries = es }) (walked-all (c .before .before .args .t1) (l .zone) (l .index .entries) (l .inv) (omega arith))
 
 pub index-of-spec : {M : Type 1} → statement M
 index-of-spec =
@@ -81,10 +95,15 @@ index-of-spec =
     Inv-loop
     μ-loop
     loop-holds
+    sub-length
+    mul-length
+    element-copy-out-length
+    sub-q
     mul-q
     element-copy-out-q
-    add-zone
+    cast-with-queue
     with-queue-requires
+    add-zone
     loop-less
     loop-again
     returns)

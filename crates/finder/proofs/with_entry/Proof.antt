@@ -3,7 +3,7 @@ use Prim.Native.Nat.{_-_}
 use borrow.Author.Needs.{needs}
 use native.Mathlib.Omega.{arith}
 use Rattle.finder.proofs.Known.{index-known}
-use Rattle.finder.proofs.Putting.{Putting, putting-none, putting-more, putting-all}
+use Rattle.finder.proofs.Putting.{Putting, putting-none, putting-more, putting-all, putting-stop}
 use Rattle.finder.proofs.with_entry.Statement.{statement}
 use Rattle.finder.proofs.with_entry.Tie as tie
 
@@ -42,7 +42,7 @@ loop-less c = search needs
 
 loop-again : tie.Need-loop-again Inv-loop μ-loop
 loop-again c =
-    let at = c .before .before .before .before in
+    let at = c .before .before .before .before .before .before in
     let a = at .before .before .args in
     let l = at .loop in
     putting-more (a .e) (a .index .entries) (l .entries) (l .moved) (l .i) _ (l .inv) (omega arith) (c .before .first-of .ensures) (c .second-of .ensures)
@@ -53,6 +53,13 @@ returns c =
     let a = at .before .before .args in
     let l = at .loop in
     putting-all (a .e) (a .index .entries) (l .entries) (l .moved) (l .i) (l .inv) (omega arith)
+
+returns-2 : tie.Need-returns-2 Inv-loop μ-loop
+returns-2 c =
+    let at = c .before .before .before in
+    let a = at .before .before .args in
+    let l = at .loop in
+    putting-stop (a .e) (a .index .entries) (l .entries) (l .moved) (l .i) (l .inv) (c .if1 .taken)
 
 pub with-entry-spec : {M : Type 1} → statement M
 with-entry-spec =
@@ -70,4 +77,5 @@ with-entry-spec =
     add-i
     loop-less
     loop-again
-    returns)
+    returns
+    returns-2)

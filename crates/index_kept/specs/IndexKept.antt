@@ -1,0 +1,48 @@
+-- Document 02, 2.9: what holds of a field with its index beside it, of one request on such a field within the bounds and of any list of them.
+use mathlib.Core.Path.{_≡_}
+use mathlib.Core.Logic.{_⊎_}
+use mathlib.Core.List.{List}
+use Prim.Native.Nat.{ℕ}
+use Rattle.request.specs.declared.Request.{Request}
+use Rattle.field.specs.declared.Legs.{Legs}
+use Rattle.field.specs.Boxes.{emptyField}
+use Rattle.questions.specs.Find.{placeOf}
+use Rattle.finder.specs.declared.Indexed.{Indexed}
+use Rattle.finder.specs.Finder.{foundIn}
+use Rattle.rules.specs.Step.{stepOf}
+use Rattle.rules.specs.Play.{played}
+use Rattle.demand.specs.Demand.{Demand3Of}
+use Rattle.demand.specs.Exact.{WholeLegs, inMiles, ExactOf}
+use Rattle.indexed.specs.Indexed.{withIndex, stepIndexed, playedIndexed, indexedAfter}
+
+-- the index says of every number, present or absent, what a look through the queues would say
+abbrev pub SaysAsLooked : Indexed → Type 0
+SaysAsLooked x = (number : ℕ) → foundIn (x .index) number ≡ placeOf (x .field) number
+
+-- a request on a field within the bounds with its own index
+pub record Kept (x : Indexed) (r : Request) : Type 0 where
+  -- the index says so before the request, and after it
+  pub before : SaysAsLooked x
+  pub after : SaysAsLooked (stepIndexed x r .after)
+  -- the answer and the field are those without an index
+  pub same-answer : stepIndexed x r .answer ≡ stepOf (x .field) r .answer
+  pub same-field : stepIndexed x r .after .field ≡ stepOf (x .field) r .field
+  -- a refusal and a tick leave the index
+  pub left : (stepIndexed x r .answer .number ≡ 0 → ⊥) ⊎ (r .kind ≡ 12) → stepIndexed x r .after .index ≡ x .index
+
+-- the empty field with its index
+abbrev pub emptyIndexed : Legs → Indexed
+emptyIndexed legs = withIndex (emptyField legs)
+
+-- demand 3 of the field with its index, after a list of requests from the empty one with these legs
+pub record Demand3Indexed (legs : Legs) (rs : List Request) : Type 0 where
+  -- it holds of the answers that are given with the index, and of the field beside it, ..
+  pub holds : Demand3Of (playedIndexed (emptyIndexed legs) rs) (indexedAfter (emptyIndexed legs) rs .field)
+  -- .. also where it speaks of what is played from there on; ..
+  pub goes-on : (more : List Request) → playedIndexed (indexedAfter (emptyIndexed legs) rs) more ≡ played (indexedAfter (emptyIndexed legs) rs .field) more
+  -- .. and the index says what a look through the queues would say
+  pub says : SaysAsLooked (indexedAfter (emptyIndexed legs) rs)
+
+-- exactness of the field with its index, after a list of requests from the empty one with legs in whole 64ths
+abbrev pub ExactIndexed : WholeLegs → List Request → Type 0
+ExactIndexed w rs = ExactOf w (playedIndexed (emptyIndexed (inMiles w)) rs) (indexedAfter (emptyIndexed (inMiles w)) rs .field)
