@@ -1,13 +1,11 @@
 -- What is printed, case by case, and how long it is. Assumes nothing.
-use mathlib.Core.Path.{_≡_, refl, sym, ap, subst, _∙_}
-use mathlib.Core.List.{List, [], _∷_, _++_}
+use mathlib.Core.Path.{_≡_, sym, ap, subst, _∙_}
+use mathlib.Core.List.{List, [], _++_}
 use mathlib.Core.Bool.{Bool, cond}
-use Prim.Native.Nat.{ℕ, _+_, _*_, _/_, _^_, _≤_, _<_}
+use Prim.Native.Nat.{ℕ, _+_, _^_, _≤_, _<_}
 use native.Mathlib.Omega.{arith}
 use lib.ListN.{length, drop}
 use borrow.Author.Tests.{eq-eqb, ne-eqb, lt-leb, le-leb}
-use Rattle.practice.specs.declared.FileLegs.{FileLegs}
-use Rattle.practice.specs.Requests.{requestsOf}
 use Rattle.text.specs.Buffer.{Put}
 use Rattle.text.proofs.Texts.{line-length, put-whole}
 use Rattle.writer.specs.declared.Writing.{Writing}

@@ -14,7 +14,6 @@ use Rattle.request.proofs.Tests.{both-left, both-right}
 use Rattle.practice.specs.declared.FileLegs.{FileLegs}
 use Rattle.practice.specs.File.{legsAllowed}
 use Rattle.practice.specs.Requests.{requestsOf}
-use Rattle.practice.specs.Practice.{encoded}
 use Rattle.practice.proofs.Requests.{count}
 use Rattle.practice.proofs.ReadBack.{size}
 use Rattle.text.specs.Buffer.{put, Put}
