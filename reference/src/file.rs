@@ -9,10 +9,13 @@ pub const LETTERS: &[u8; 4] = b"SCAP";
 pub const HEADER: usize = 26;
 pub const LONGEST: usize = REQUESTS_AT + LONGEST_REQUESTS;
 const LEGS_AT: usize = HEADER;
-const LEGS_LENGTH: usize = 8;
+/// The four legs.
+pub const LEGS_LENGTH: usize = 8;
 const REQUESTS_AT: usize = LEGS_AT + LEGS_LENGTH;
-const REQUEST: usize = 6;
+/// One request.
+pub const REQUEST: usize = 6;
 const LONGEST_REQUESTS: usize = 24_576;
+pub const MOST_REQUESTS: usize = LONGEST_REQUESTS / REQUEST;
 
 /// A file that plays.
 #[derive(Clone, Debug, PartialEq, Eq)]
@@ -31,7 +34,7 @@ impl PracticeFile {
             return Err(FileRefusal::Contents);
         }
         let legs_64ths = [0, 1, 2, 3].map(|leg| u16_at(file, LEGS_AT + 2 * leg));
-        if legs_64ths.iter().any(|leg| !(1..=4096).contains(leg)) {
+        if !legs_64ths.into_iter().all(leg_allowed) {
             return Err(FileRefusal::Leg);
         }
         let requests = file[REQUESTS_AT..]
@@ -77,6 +80,11 @@ fn contents_as_said(file: &[u8]) -> bool {
         && length <= LONGEST_REQUESTS
         && length.is_multiple_of(REQUEST)
         && REQUESTS_AT + length == file.len()
+}
+
+/// Whether a file may have this leg, in 64ths of a mile.
+pub(crate) fn leg_allowed(leg: u16) -> bool {
+    (1..=4096).contains(&leg)
 }
 
 pub(crate) fn u16_at(file: &[u8], at: usize) -> u16 {

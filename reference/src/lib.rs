@@ -5,11 +5,13 @@
 //! in, the bytes of its report out. [`week`] does the same for a binder of
 //! practice files, [`button()`] for a practice file after which one button
 //! empties the field, and [`spacing()`] for the spacing after a practice file.
-//! Beneath them: [`file`] reads a practice file, [`binder`] a binder,
-//! [`request`] holds requests and the input rules, [`field`] the zones, the
-//! sequence, the bounds and the twelve kinds of request, [`mod@button`] what a
-//! press proposes, [`mod@spacing`] the gaps along the path, [`index`] a field
-//! with an index beside it.
+//! [`author`] is the other way round: legs and requests in, the bytes of a
+//! practice file out. Beneath them: [`file`] reads a practice file, [`binder`]
+//! a binder, [`request`] holds requests and the input rules, [`field`] the
+//! zones, the sequence, the bounds and the twelve kinds of request,
+//! [`mod@button`] what a press proposes, [`mod@spacing`] the gaps along the
+//! path, [`index`] a field with an index beside it, [`writer`] writes a
+//! practice file.
 
 pub mod binder;
 pub mod button;
@@ -20,13 +22,14 @@ pub mod index;
 pub mod refusal;
 pub mod request;
 pub mod spacing;
+pub mod writer;
 
 pub use binder::Week;
 pub use button::Ending;
 pub use field::{Aircraft, Answer, Field, Legs, Progress, Side, Zone};
 pub use file::PracticeFile;
 pub use index::{Index, Indexed};
-pub use refusal::{BinderRefusal, FileRefusal, Refusal};
+pub use refusal::{BinderRefusal, FileRefusal, Refusal, WriteRefusal};
 pub use request::{Call, Request};
 pub use spacing::{Gap, Pair};
 
@@ -92,6 +95,11 @@ pub fn spacing(file: &[u8], spacing: u16) -> Vec<u8> {
         }),
         Err(refusal) => format!("spacing {}\n", refusal.number()).into_bytes(),
     }
+}
+
+/// The whole output of `author` for four legs and requests: a practice file, or one line where they are refused.
+pub fn author(input: &[u8]) -> Vec<u8> {
+    writer::from_bytes(input).unwrap_or_else(|refusal| format!("refused {}\n", refusal.number()).into_bytes())
 }
 
 fn report_by(file: &[u8], step: impl Fn(&mut Field, &Request) -> Result<Answer, Refusal>) -> Vec<u8> {

@@ -1,7 +1,8 @@
 //! Reads one practice file from standard input and writes its report; with
 //! the word `week`, a binder of them and its report; with the word `button`, a
 //! practice file and what the button plays after it; with the word `spacing`
-//! and a spacing, a practice file and the gaps after it.
+//! and a spacing, a practice file and the gaps after it; with the word
+//! `author`, legs and requests and their practice file.
 
 use std::io::{self, Read, Write};
 use std::{env, process};
@@ -15,13 +16,14 @@ fn main() -> io::Result<()> {
         [] => (reference::file::LONGEST, Box::new(reference::report)),
         ["week"] => (reference::binder::LONGEST, Box::new(reference::week)),
         ["button"] => (reference::file::LONGEST, Box::new(reference::button)),
+        ["author"] => (reference::writer::LONGEST_INPUT, Box::new(reference::author)),
         ["spacing", word] => {
             // What is no number of 16 bits is refused as 0 is.
             let spacing = word.parse().unwrap_or(0);
             (reference::file::LONGEST, Box::new(move |file| reference::spacing(file, spacing)))
         }
         _ => {
-            eprintln!("usage: reference [button | spacing SPACING] < FILE, or reference week < BINDER");
+            eprintln!("usage: reference [button | spacing SPACING] < FILE, reference week < BINDER, or reference author < LEGS-AND-REQUESTS");
             process::exit(2);
         }
     };

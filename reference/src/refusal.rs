@@ -1,4 +1,4 @@
-//! The numbers by which a binder, a file or a request is turned away.
+//! The numbers by which a binder, a file or a request is turned away, and what is to be written as a file.
 
 /// A binder whose count, size or placing is not as said.
 #[derive(Clone, Copy, Debug, PartialEq, Eq)]
@@ -24,6 +24,26 @@ impl FileRefusal {
             FileRefusal::SizeOrLetters => 5,
             FileRefusal::Contents => 6,
             FileRefusal::Leg => 7,
+        }
+    }
+}
+
+/// Why legs and requests are not written as a practice file.
+#[derive(Clone, Copy, Debug, PartialEq, Eq)]
+pub enum WriteRefusal {
+    Leg,
+    Count,
+    Request(Refusal),
+    Buffer,
+}
+
+impl WriteRefusal {
+    pub fn number(self) -> u8 {
+        match self {
+            WriteRefusal::Leg => 7,
+            WriteRefusal::Count => 5,
+            WriteRefusal::Request(refusal) => refusal.number(),
+            WriteRefusal::Buffer => 28,
         }
     }
 }

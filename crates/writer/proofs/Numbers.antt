@@ -1,6 +1,6 @@
 -- The number of a writing, test by test, and what is answered and written by it. Assumes nothing.
 use mathlib.Core.Path.{_≡_, refl, sym, ap, subst, _∙_}
-use mathlib.Core.List.{List, _++_}
+use mathlib.Core.List.{List, [], _∷_, _++_}
 use mathlib.Core.Bool.{Bool, true, false, cond, _&&_}
 use Prim.Native.Nat.{ℕ, _+_, _*_, _/_, _%_, _≤_}
 use native.Mathlib.Omega.{arith}
@@ -9,23 +9,26 @@ use lib.ListN.{length, drop}
 use lib.Seq.{sets, sets-eq}
 use borrow.Author.Tests.{eq-eqb, ne-eqb, eqb-true, leb-true}
 use Rattle.limits.specs.Limits.{mostRequests}
+use Rattle.request.specs.Input.{firstRefused}
 use Rattle.request.proofs.Tests.{both-left, both-right}
 use Rattle.practice.specs.declared.FileLegs.{FileLegs}
 use Rattle.practice.specs.File.{legsAllowed}
 use Rattle.practice.specs.Requests.{requestsOf}
-use Rattle.practice.specs.Practice.{encoded}
 use Rattle.practice.proofs.Requests.{count}
 use Rattle.practice.proofs.ReadBack.{size}
 use Rattle.text.specs.Buffer.{put, Put}
 use Rattle.text.proofs.Texts.{put-fits}
 use Rattle.writer.specs.declared.Writing.{Writing}
-use Rattle.writer.specs.Writer.{fileOf, listAllowed, firstOffence, hasRoom, firstNumber, writingNumber, writingOf, bufferAfter}
+use Rattle.writer.specs.Writer.{fileOf, listAllowed, firstOffence, hasRoom, writingNumber, writingOf, bufferAfter}
 
 -- the file's length, from how many bytes were lent
 pub file-size : (legs : FileLegs) (bytes : List ℕ) → length (fileOf legs bytes) ≡ 34 + 6 * (length bytes / 6)
 file-size legs bytes = size legs (requestsOf bytes) ∙ ap (λ (n : ℕ). 34 + 6 * n) (count bytes)
 
--- the number, from what the four tests gave
+-- the order of the numbers, from what the four tests gave
+abbrev pub firstNumber : Bool → Bool → ℕ → Bool → ℕ
+firstNumber legs list offence room = firstRefused ((7, legs) ∷ (5, list) ∷ (offence, eqb offence 0) ∷ (28, room) ∷ [])
+
 pub numbered : (legs : FileLegs) (bytes : List ℕ) (room : ℕ) {r o : ℕ} {a l f : Bool} → r ≡ firstNumber a l o f → a ≡ legsAllowed legs
     → l ≡ (eqb (length bytes % 6) 0 && leb (length bytes / 6) mostRequests) → o ≡ firstOffence (requestsOf bytes) → f ≡ leb (34 + 6 * (length bytes / 6)) room
     → r ≡ writingNumber legs bytes room

@@ -6,11 +6,30 @@ use Prim.Native.Nat.{ℕ, zero, suc, _+_, _≤_, _<_}
 use native.Mathlib.Numerals.{add-one}
 use native.Mathlib.Omega.{arith}
 use lib.Dec.{eqb}
-use lib.ListN.{length, drop, drop-of-length-le}
+use lib.ListN.{length, take, drop, drop-of-length-le}
 use borrow.Author.Tests.{eq-eqb, ne-eqb, eqb-true}
 use Rattle.request.specs.declared.Request.{Request}
+use Rattle.request.specs.Input.{inputNumber}
+use Rattle.practice.specs.declared.Reading.{Reading}
+use Rattle.practice.specs.declared.Reading.the-variants.{One, End}
 use Rattle.practice.specs.Requests.{readingAt}
-use Rattle.writer.specs.Writer.{firstOffence, offenceOf}
+use Rattle.writer.specs.Writer.{firstOffence}
+
+-- the number of one reading of the list; 0 past its end
+abbrev pub offenceOf : Reading → ℕ
+offenceOf (One r) = inputNumber r
+offenceOf End = 0
+
+-- it is the first number of a list of at most one
+pub one-offence : (rs : List Request) (i : ℕ) → offenceOf (readingAt rs i) ≡ firstOffence (take 1 (drop i rs))
+one-offence [] zero = refl
+one-offence [] (suc i) = refl
+one-offence (r ∷ rest) zero = go (eqb (inputNumber r) 0) refl
+  where
+    go : (t : Bool) → eqb (inputNumber r) 0 ≡ t → inputNumber r ≡ cond t 0 (inputNumber r)
+    go true t = eqb-true (inputNumber r) 0 t
+    go false t = refl
+one-offence (r ∷ rest) (suc i) = one-offence rest i
 
 -- after i requests: the number that was found, or 0, and then that of the rest, is the number of the list
 pub record Found (rs : List Request) (number i : ℕ) : Type 0 where
@@ -27,8 +46,9 @@ here (r ∷ rest) zero h = refl
 here (r ∷ rest) (suc i) h = here rest i (omega arith)
 
 -- the number is still 0
-pub found-first : {rs : List Request} {number i n : ℕ} → i < length rs → n ≡ offenceOf (readingAt rs i) → number ≡ 0 → Found rs number i → Found rs n (i + 1)
-found-first {rs} {number} {i} {n} h e z f =
+pub found-first : {rs : List Request} {number i n : ℕ} → i < length rs → n ≡ firstOffence (take 1 (drop i rs)) → number ≡ 0 → Found rs number i → Found rs n (i + 1)
+found-first {rs} {number} {i} {n} h o z f =
+    let e : n ≡ offenceOf (readingAt rs i) = o ∙ sym (one-offence rs i) in
     record {
       within = omega arith;
       whole =

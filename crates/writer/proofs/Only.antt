@@ -1,8 +1,8 @@
 -- The reader takes one file alone as given legs and requests: a file that holds them is the encoded one. Assumes nothing.
-use mathlib.Core.Path.{_≡_, refl, sym, ap, _∙_}
+use mathlib.Core.Path.{_≡_, sym, ap, _∙_}
 use mathlib.Core.List.{List, _∷_, _++_}
 use mathlib.Core.Bool.{Bool, true, cond, _&&_}
-use Prim.Native.Nat.{ℕ, _+_, _*_, _/_, _%_, _^_, _≤_, _<_}
+use Prim.Native.Nat.{ℕ, _+_, _*_, _/_, _%_, _≤_, _<_}
 use native.Mathlib.Omega.{arith}
 use lib.Dec.{eqb, leb}
 use lib.ListN.{length, getD, take, drop, take-append-drop, length-drop}
@@ -118,7 +118,8 @@ module _ (file : List ℕ) (known : AreBytes file) where
       sym (take-append-drop 4 file)
       ∙ (λ i. same-true (take 4 file) letters (both-right (within 26 24610 (length file)) (same (take 4 file) letters) (a .opening)) i ++ from4 i)
 
-  read-as : fileNumber file ≡ 0 → practiceOf file ≡ holds legs requests
+  -- what it is read as
+  pub read-as : fileNumber file ≡ 0 → practiceOf file ≡ holds legs requests
   unfolding practiceOf
   read-as z = ap (λ (t : Bool). cond t (holds legs requests) (refused (fileNumber file))) (eq-eqb (fileNumber file) 0 z)
 

@@ -8,8 +8,6 @@ use Rattle.limits.specs.Limits.{mostRequests}
 use Rattle.request.specs.declared.Request.{Request}
 use Rattle.request.specs.Input.{firstRefused, inputNumber}
 use Rattle.practice.specs.declared.FileLegs.{FileLegs}
-use Rattle.practice.specs.declared.Reading.{Reading}
-use Rattle.practice.specs.declared.Reading.the-variants.{One, End}
 use Rattle.practice.specs.File.{legsAllowed}
 use Rattle.practice.specs.Requests.{requestsOf}
 use Rattle.practice.specs.Practice.{encoded}
@@ -28,22 +26,19 @@ abbrev pub firstOffence : List Request → ℕ
 firstOffence [] = 0
 firstOffence (r ∷ rest) = cond (eqb (inputNumber r) 0) (firstOffence rest) (inputNumber r)
 
--- the same number of one reading of the list; 0 past its end
-abbrev pub offenceOf : Reading → ℕ
-offenceOf (One r) = inputNumber r
-offenceOf End = 0
-
 -- 28: the file fits into a buffer of this many bytes
 abbrev pub hasRoom : FileLegs → List ℕ → ℕ → Bool
 hasRoom legs bytes room = leb (length (fileOf legs bytes)) room
 
--- the order of the numbers: 7, then 5, then the number of the first offender, then 28
-abbrev pub firstNumber : Bool → Bool → ℕ → Bool → ℕ
-firstNumber legs list offence room = firstRefused ((7, legs) ∷ (5, list) ∷ (offence, eqb offence 0) ∷ (28, room) ∷ [])
-
--- the number of a writing; 0 where the file is written
+-- the number of a writing: 7, then 5, then the number of the first offender, then 28; 0 where the file is written
 unfoldable pub writingNumber : FileLegs → List ℕ → ℕ → ℕ
-writingNumber legs bytes room = firstNumber (legsAllowed legs) (listAllowed bytes) (firstOffence (requestsOf bytes)) (hasRoom legs bytes room)
+writingNumber legs bytes room =
+    firstRefused
+    ((7, legsAllowed legs)
+    ∷ (5, listAllowed bytes)
+    ∷ (firstOffence (requestsOf bytes), eqb (firstOffence (requestsOf bytes)) 0)
+    ∷ (28, hasRoom legs bytes room)
+    ∷ [])
 
 -- the answer: the number, and the file's length, 0 where it is refused
 abbrev pub writingOf : FileLegs → List ℕ → ℕ → Writing

@@ -12,13 +12,14 @@ ghost use mathlib.Core.List.{[], _∷_, _++_};
 ghost use mathlib.Core.Bool.{_&&_};
 ghost use Prim.Native.Nat.{_+_, _*_, _%_, _/_, _≤_};
 ghost use lib.Dec.{eqb, leb};
-ghost use lib.ListN.{length};
+ghost use lib.ListN.{length, take, drop};
 ghost use Rattle.limits.specs.Limits.{mostRequests};
+ghost use Rattle.request.specs.Input.{firstRefused};
 ghost use Rattle.practice.specs.File.{letters};
-ghost use Rattle.practice.specs.Requests.{requestsOf, requestAt};
+ghost use Rattle.practice.specs.Requests.{requestsOf};
 ghost use Rattle.practice.specs.Practice.{bytes16, bytes32, entryBytes, legBytes};
 ghost use Rattle.text.specs.Buffer.{Put};
-ghost use Rattle.writer.specs.Writer.{firstOffence, offenceOf, firstNumber, writingNumber, writingOf, bufferAfter};
+ghost use Rattle.writer.specs.Writer.{firstOffence, writingNumber, writingOf, bufferAfter};
 
 // What writing answers: its number, 0 where the file is written, and the file's length, 0 where it is refused.
 pub struct Writing {
@@ -48,7 +49,7 @@ fn has_room(n: usize, room: usize) -> bool
 
 // The number of the input rule that the i-th request breaks first; 0 where it keeps them all, or where there is no such request.
 fn offence_at(requests: &[u8], i: usize) -> u16
-    ensures { λ r. ⌜ r ≡ offenceOf (requestAt (now (requests .entry)) i) ⌝ }
+    ensures { λ r. ⌜ r ≡ firstOffence (take 1 (drop i (requestsOf (now (requests .entry))))) ⌝ }
 {
     let reading = request_at(requests, i);
     match reading {
@@ -76,7 +77,7 @@ pub fn first_offence(requests: &[u8]) -> u16
 
 // The first number that applies, in document 02's order; 0 where none does.
 fn first_number(legs: bool, list: bool, offence: u16, room: bool) -> u16
-    ensures { λ r. ⌜ r ≡ firstNumber legs list offence room ⌝ }
+    ensures { λ r. ⌜ r ≡ firstRefused ((7, legs) ∷ (5, list) ∷ (offence, eqb offence 0) ∷ (28, room) ∷ []) ⌝ }
 {
     if !legs {
         return 7;

@@ -1,7 +1,8 @@
 //! Where the two programs differ, as readable sessions.
 
-use crate::library::{spacing_into, Library, ShortBuffer, BUTTON, PLAYERS, WEEK};
-use reference::{binder, PracticeFile, Request};
+use crate::lessons::Lesson;
+use crate::library::{spacing_into, write_into, Library, ShortBuffer, BUTTON, MARGIN, PLAYERS, WEEK};
+use reference::{binder, writer, PracticeFile, Request};
 
 /// The report that both programs give of a file, the library judging the fields or not, or how they differ.
 pub fn same_report(library: &mut Library, file: &[u8]) -> Result<Vec<u8>, String> {
@@ -22,6 +23,37 @@ pub fn same_button(library: &mut Library, file: &[u8]) -> Result<Vec<u8>, String
 pub fn same_spacing(library: &mut Library, file: &[u8], spacing: u16) -> Result<Vec<u8>, String> {
     let player = |file: &[u8], out: &mut ShortBuffer| spacing_into(file, spacing, out);
     same(library, &[("the library", player)], file, reference::spacing(file, spacing))
+}
+
+/// The number that both give of a writing, or how they differ: in the number, in the length, in a byte of the buffer, or beside
+/// it. A file that is written is read as its legs and requests, and both play it to the same report.
+pub fn same_writing(library: &mut Library, lesson: &Lesson) -> Result<u16, String> {
+    let Lesson { legs_64ths, requests, room } = lesson;
+    // Neighbours differ, so that a byte that is moved is seen.
+    let lent: Vec<u8> = (0..MARGIN + room + MARGIN).map(|at| (at * 37 + at / 251) as u8).collect();
+    let (mut wanted, mut got) = (lent.clone(), lent);
+    let outcome = writer::write(*legs_64ths, requests, &mut wanted[MARGIN..MARGIN + room]);
+    let expected = outcome.map_or_else(|refusal| (refusal.number().into(), 0), |length| (0, length));
+    let answered = write_into(*legs_64ths, requests, &mut got[MARGIN..MARGIN + room]);
+    if answered != expected {
+        return Err(format!(
+            "the reference answers number and length {expected:?}, the library {answered:?}"
+        ));
+    }
+    if let Some(at) = (0..wanted.len()).find(|&at| wanted[at] != got[at]) {
+        let (place, wanted, got) = (at as isize - MARGIN as isize, wanted[at], got[at]);
+        return Err(format!("byte {place} of the buffer is {wanted} by the reference, {got} by the library"));
+    }
+    if let (0, length) = answered {
+        let file = &got[MARGIN..MARGIN + length];
+        let list = requests.chunks(6).map(|bytes| Request::from_bytes(bytes.try_into().expect("six bytes")));
+        let expected = PracticeFile { legs_64ths: *legs_64ths, requests: list.collect() };
+        if PracticeFile::read(file) != Ok(expected) {
+            return Err(String::from("the file is read as something else"));
+        }
+        same_report(library, file)?;
+    }
+    Ok(answered.0)
 }
 
 fn same<const N: usize>(
@@ -85,6 +117,16 @@ pub fn readable_binder(library: &mut Library, binder: &[u8]) -> String {
     let how = same_week(library, &binder::to_bytes(&files)).err().unwrap_or_default();
     let texts: Vec<String> = files.iter().map(|file| text(file)).collect();
     format!("{how}\n{}", texts.join("# the next file\n"))
+}
+
+/// How the two differ on a writing, and what it is of, without the requests that do not matter.
+pub fn readable_lesson(library: &mut Library, lesson: &Lesson) -> String {
+    let with = |list: &[&[u8]]| Lesson { requests: list.concat(), ..lesson.clone() };
+    let all: Vec<&[u8]> = lesson.requests.chunks(6).collect();
+    let lesson = with(&fewer(all, |list| same_writing(library, &with(list)).is_err()));
+    let how = same_writing(library, &lesson).err().unwrap_or_default();
+    let Lesson { legs_64ths, requests, room } = lesson;
+    format!("{how}\n# legs {legs_64ths:?}, a buffer of {room} bytes, requests:\n{}", hexadecimal(&requests))
 }
 
 /// A file that plays, and differs, with fewer requests: the shortest beginning

@@ -7,6 +7,18 @@ extern "C" {
     fn baguymo_week(binder: *const u8, length: usize, out: *mut u8) -> usize;
     fn baguymo_button(file: *const u8, length: usize, out: *mut u8) -> usize;
     fn baguymo_spacing(file: *const u8, length: usize, spacing: u16, out: *mut u8) -> usize;
+    /// Two slices, and a number that is lent.
+    fn baguymo_write(
+        base: u16,
+        intermediate: u16,
+        last: u16,
+        missed: u16,
+        requests: *const u8,
+        length: usize,
+        out: *mut u8,
+        room: usize,
+        size: *mut usize,
+    ) -> u16;
 }
 
 /// Bytes of the buffer that the library is lent for the report of a file, of a binder or of the button.
@@ -55,8 +67,35 @@ pub fn spacing_into(file: &[u8], spacing: u16, out: &mut ShortBuffer) -> usize {
     unsafe { baguymo_spacing(file.as_ptr(), file.len(), spacing, out.as_mut_ptr()) }
 }
 
+/// Writes a practice file to the start of a buffer, and yields its number and its length.
+pub fn write_into(
+    [base, intermediate, last, missed]: [u16; 4],
+    requests: &[u8],
+    out: &mut [u8],
+) -> (u16, usize) {
+    // What the library does not write stays as it is, and is no length.
+    let mut sizes = [usize::MAX; 3];
+    let (length, room) = (requests.len(), out.len());
+    // SAFETY: as above; the three stretches do not overlap, and no pointer is null.
+    let number = unsafe {
+        baguymo_write(
+            base,
+            intermediate,
+            last,
+            missed,
+            requests.as_ptr(),
+            length,
+            out.as_mut_ptr(),
+            room,
+            &mut sizes[1],
+        )
+    };
+    assert_eq!([sizes[0], sizes[2]], [usize::MAX; 2], "the library wrote beside the length");
+    (number, sizes[1])
+}
+
 /// Bytes before and after the buffer that must stay as they are.
-const MARGIN: usize = 4096;
+pub const MARGIN: usize = 4096;
 
 /// A buffer with a margin on both sides.
 pub struct Library {

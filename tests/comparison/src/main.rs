@@ -1,15 +1,20 @@
 //! Plays many practice files by the proved library, with the fields judged
 //! and not, and by the reference, many binders by both, and many files after
-//! which the button is held down, and after which the spacing is asked for:
-//! comparison [SEED [COUNT]], COUNT random sessions, a tenth as many random
-//! binders, a tenth as many for the button, and a quarter for the spacing. The
-//! last line says how many of them were compared, and the verdict.
+//! which the button is held down, and after which the spacing is asked for, and
+//! has both write practice files: comparison [SEED [COUNT]], COUNT random
+//! sessions, a tenth as many random binders, a tenth as many for the button, a
+//! quarter for the spacing, and a quarter to be written. The last line says how
+//! many of them were compared, and the verdict.
 
 use comparison::dice::Dice;
-use comparison::difference::{readable, readable_binder, same_button, same_report, same_spacing, same_week};
+use comparison::difference::{
+    readable, readable_binder, readable_lesson, same_button, same_report, same_spacing, same_week,
+    same_writing,
+};
+use comparison::lessons::Lesson;
 use comparison::library::Library;
-use comparison::table::{Gaps, Presses, Table, Weeks};
-use comparison::{binders, damaged, fields, sessions};
+use comparison::table::{Gaps, Presses, Table, Weeks, Writings};
+use comparison::{binders, damaged, fields, lessons, sessions};
 use reference::binder::to_bytes;
 use reference::PracticeFile;
 use std::path::Path;
@@ -25,6 +30,8 @@ const A_PRESSED: usize = 10;
 const AN_EDGE: usize = 100;
 /// Random sessions for each after which the spacing is asked for.
 const A_SPACED: usize = 4;
+/// Random sessions for each list that is to be written.
+const A_WRITTEN: usize = 4;
 /// Damaged files that play for each after which the button is held down.
 const A_DAMAGED: usize = 16;
 
@@ -43,6 +50,9 @@ struct Comparison {
     /// Files after which the spacing was asked for.
     spaced: usize,
     gaps: Gaps,
+    /// Lists that were written or refused.
+    written: usize,
+    writings: Writings,
 }
 
 impl Comparison {
@@ -129,6 +139,21 @@ impl Comparison {
         println!("the spacing after {what}: {} files", self.spaced - before);
         Ok(())
     }
+
+    /// Legs and requests that are to be written.
+    fn written(&mut self, what: &str, lessons: impl IntoIterator<Item = Lesson>) -> Result<(), String> {
+        let before = self.written;
+        for lesson in lessons {
+            self.written += 1;
+            let Ok(number) = same_writing(&mut self.library, &lesson) else {
+                let how = readable_lesson(&mut self.library, &lesson);
+                return Err(format!("writing {} differs: {how}", self.written));
+            };
+            self.writings.count(&lesson, number);
+        }
+        println!("writing {what}: {} lists", self.written - before);
+        Ok(())
+    }
 }
 
 fn none_of(faults: Vec<String>) -> Result<(), String> {
@@ -166,7 +191,8 @@ fn all(comparison: &mut Comparison, seed: u64, count: usize) -> Result<(), Strin
     }
     all_binders(comparison, &mut dice, count / A_BINDER)?;
     all_pressed(comparison, &mut dice, count)?;
-    all_spaced(comparison, &mut dice, count)
+    all_spaced(comparison, &mut dice, count)?;
+    all_written(comparison, &mut dice, count)
 }
 
 fn all_binders(comparison: &mut Comparison, dice: &mut Dice, count: usize) -> Result<(), String> {
@@ -230,6 +256,18 @@ fn all_spaced(comparison: &mut Comparison, dice: &mut Dice, count: usize) -> Res
     none_of(comparison.gaps.faults())
 }
 
+fn all_written(comparison: &mut Comparison, dice: &mut Dice, count: usize) -> Result<(), String> {
+    comparison.written("short lists, in buffers of each length", lessons::every_room(dice))?;
+    comparison.written("edge legs, before each other fault", lessons::edge_legs(dice))?;
+    comparison.written("lengths about none and 4,096 requests", lessons::lengths(dice))?;
+    comparison.written("one offender and two, at each place", lessons::offenders(dice))?;
+    comparison.written("each byte of a list with each value", lessons::damaged(dice))?;
+    comparison.written("4,096 requests, all kept or one offender", lessons::longest(dice))?;
+    comparison.written("random lists", (0..count / A_WRITTEN).map(|_| lessons::random(dice)))?;
+    println!("{}", comparison.writings);
+    none_of(comparison.writings.faults())
+}
+
 fn argument<T: std::str::FromStr>(place: usize, default: T) -> T {
     match env::args().nth(place) {
         Some(word) => word.parse().unwrap_or_else(|_| panic!("not a number: {word}")),
@@ -241,15 +279,15 @@ fn main() -> ExitCode {
     let (seed, count) = (argument(1, SEED), argument(2, COUNT));
     let mut comparison = Comparison::default();
     let outcome = all(&mut comparison, seed, count);
-    let Comparison { compared, binders, pressed, spaced, .. } = comparison;
+    let Comparison { compared, binders, pressed, spaced, written, .. } = comparison;
     match outcome {
         Ok(()) => {
-            println!("compare: {compared} files compared (seed {seed}), fields judged and not, {binders} binders, the button after {pressed} files and the spacing after {spaced}: every report the same");
+            println!("compare: {compared} files compared (seed {seed}), fields judged and not, {binders} binders, the button after {pressed} files and the spacing after {spaced}, {written} lists written or refused: every report, file and number the same");
             ExitCode::SUCCESS
         }
         Err(fault) => {
             print!("{fault}");
-            println!("compare: FAILED after {compared} files, {binders} binders, the button after {pressed} files and the spacing after {spaced} (seed {seed})");
+            println!("compare: FAILED after {compared} files, {binders} binders, the button after {pressed} files, the spacing after {spaced} and {written} lists to be written (seed {seed})");
             ExitCode::FAILURE
         }
     }

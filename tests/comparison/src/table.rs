@@ -1,6 +1,9 @@
-//! How often each number was answered for each kind, what the button proposed, and which gaps came.
+//! How often each number was answered for each kind, what the button proposed, which gaps came, and how often each number was
+//! answered to a writing.
 
+use crate::lessons::Lesson;
 use reference::binder::NUMBERS;
+use reference::file::MOST_REQUESTS;
 use reference::PracticeFile;
 use std::fmt;
 
@@ -299,5 +302,66 @@ impl fmt::Display for Gaps {
         )?;
         write!(f, "{fractions} were fractions; 0, 1, 2 and 3 pairs came {pairs:?} times, ")?;
         write!(f, "{spacing} spacings and {file} files were refused")
+    }
+}
+
+/// Every number that a writing can be answered with, in the order in which they are judged; 0 where the file is written.
+const WRITING_NUMBERS: [u16; 8] = [0, 7, 5, 1, 2, 3, 4, 28];
+
+/// What came of writings.
+#[derive(Default)]
+pub struct Writings {
+    /// By the place in [`WRITING_NUMBERS`], how often each number came.
+    counts: [usize; WRITING_NUMBERS.len()],
+    /// Those that came and should not.
+    others: Vec<u16>,
+    /// Files in a buffer of just their length, in a longer one, and of the most requests.
+    exact: usize,
+    longer: usize,
+    longest: usize,
+    /// Refusals of an empty buffer, and of one that has room for the file.
+    empty: usize,
+    roomy: usize,
+}
+
+impl Writings {
+    pub fn count(&mut self, lesson: &Lesson, number: u16) {
+        let file = 34 + lesson.requests.len();
+        match WRITING_NUMBERS.into_iter().position(|other| other == number) {
+            Some(place) => self.counts[place] += 1,
+            None => self.others.push(number),
+        }
+        if number == 0 {
+            self.exact += usize::from(lesson.room == file);
+            self.longer += usize::from(lesson.room > file);
+            self.longest += usize::from(lesson.requests.len() == 6 * MOST_REQUESTS);
+        } else {
+            self.empty += usize::from(lesson.room == 0);
+            self.roomy += usize::from(lesson.room >= file);
+        }
+    }
+
+    /// What should have come and did not, and what came and should not.
+    pub fn faults(&self) -> Vec<String> {
+        let Writings { counts, others, exact, longer, longest, empty, roomy } = self;
+        let mut faults: Vec<String> =
+            others.iter().map(|number| format!("a writing was answered {number}")).collect();
+        if counts.iter().chain([exact, longer, longest, empty, roomy]).any(|&count| count == 0) {
+            faults.push(String::from("one of these never came"));
+        }
+        faults
+    }
+}
+
+impl fmt::Display for Writings {
+    fn fmt(&self, f: &mut fmt::Formatter) -> fmt::Result {
+        let Writings { counts, exact, longer, longest, empty, roomy, .. } = self;
+        write!(f, "number")?;
+        WRITING_NUMBERS.into_iter().try_for_each(|number| write!(f, "{number:>9}"))?;
+        write!(f, "\n      ")?;
+        counts.iter().try_for_each(|count| write!(f, "{count:>9}"))?;
+        write!(f, "\n{exact} files had a buffer of just their length and {longer} a longer one, ")?;
+        write!(f, "{longest} had {MOST_REQUESTS} requests; ")?;
+        write!(f, "{empty} refusals had an empty buffer, {roomy} one with room for the file")
     }
 }
