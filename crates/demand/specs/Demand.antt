@@ -48,5 +48,5 @@ pub record Demand3 (legs : Legs) (rs : List Request) : Type 0 where
   pub balance : letIn (played (emptyField legs) rs) ≡ taxiedOff (played (emptyField legs) rs) + exitedFrom (played (emptyField legs) rs) + presentOn (fieldAfter (emptyField legs) rs)
   -- "then, if anyone is present, there is a request of kinds 3 to 8 or 11 that is accepted on that field"
   pub never-stuck : 0 < presentOn (fieldAfter (emptyField legs) rs) → T (allFlownOut (fieldAfter (emptyField legs) rs)) → MovesOn (fieldAfter (emptyField legs) rs)
-  -- "The 29 holds for every list that goes on from there without an accepted request of kind 1, 2 or 10."
+  -- at most 27 moves for every list that goes on from there without an accepted request of kind 1, 2 or 10 (02, 2.14, of document 01's 29)
   pub few-moves : (more : List Request) → accepted addsMoves (played (fieldAfter (emptyField legs) rs) more) ≡ 0 → moves (played (fieldAfter (emptyField legs) rs) more) ≤ mostMoves
