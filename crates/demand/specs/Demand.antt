@@ -34,6 +34,10 @@ pub record MovesOn (f : Field) : Type 0 where
   pub kind : T (movesOn (request .kind))
   pub accepted : stepOf f request .answer .number ≡ 0
 
+-- in every list that goes on from the field without an accepted request of kind 1, 2 or 10, at most n moves are accepted
+abbrev pub AtMostMoves : ℕ → Field → Type 0
+AtMostMoves n f = (more : List Request) → accepted addsMoves (played f more) ≡ 0 → moves (played f more) ≤ n
+
 -- what holds of the field and the answers after a list of requests from the empty field with these legs
 pub record Demand3 (legs : Legs) (rs : List Request) : Type 0 where
   -- "refusals 10 and 25 never come"
@@ -48,5 +52,5 @@ pub record Demand3 (legs : Legs) (rs : List Request) : Type 0 where
   pub balance : letIn (played (emptyField legs) rs) ≡ taxiedOff (played (emptyField legs) rs) + exitedFrom (played (emptyField legs) rs) + presentOn (fieldAfter (emptyField legs) rs)
   -- "then, if anyone is present, there is a request of kinds 3 to 8 or 11 that is accepted on that field"
   pub never-stuck : 0 < presentOn (fieldAfter (emptyField legs) rs) → T (allFlownOut (fieldAfter (emptyField legs) rs)) → MovesOn (fieldAfter (emptyField legs) rs)
-  -- at most 27 moves for every list that goes on from there without an accepted request of kind 1, 2 or 10 (02, 2.14, of document 01's 29)
-  pub few-moves : (more : List Request) → accepted addsMoves (played (fieldAfter (emptyField legs) rs) more) ≡ 0 → moves (played (fieldAfter (emptyField legs) rs) more) ≤ mostMoves
+  -- at most 27 moves are accepted before the next entry or miss (02, 2.14, in place of the last sentence of "Any list of requests")
+  pub few-moves : AtMostMoves mostMoves (fieldAfter (emptyField legs) rs)

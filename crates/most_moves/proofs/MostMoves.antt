@@ -34,7 +34,7 @@ all-used = record { legal = tt; none-added = refl; all-accepted = refl }
 pub twenty-seven : TwentySeven
 twenty-seven =
     record {
-      at-most = λ legs l rs more h. demand-3 legs l rs .few-moves more h;
+      at-most = λ legs l rs. demand-3 legs l rs .few-moves;
       reached = all-used;
       no-smaller = λ n few. subst (λ (m : ℕ). m ≤ n) (all-used .all-accepted) (few sessionLegs (all-used .legal) sessionBefore sessionMoves (all-used .none-added));
     }

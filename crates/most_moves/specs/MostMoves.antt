@@ -10,13 +10,12 @@ use Rattle.field.specs.declared.Legs.{Legs}
 use Rattle.field.specs.Boxes.{emptyField}
 use Rattle.bounds.specs.Bounds.{legalLegs}
 use Rattle.rules.specs.Play.{fieldAfter, played, accepted, addsMoves, moves}
+use Rattle.demand.specs.Demand.{AtMostMoves}
 use Rattle.most_moves.specs.Session.{sessionLegs, sessionBefore, sessionMoves}
 
--- at most n moves are accepted in every list that goes on from a field reached from an empty one, without an accepted entry or miss in it
+-- from every field reached from an empty one with legal legs, at most n moves are accepted before the next entry or miss
 abbrev pub AtMost : ℕ → Type 0
-AtMost n =
-    (legs : Legs) → T (legalLegs legs) → (rs more : List Request)
-    → accepted addsMoves (played (fieldAfter (emptyField legs) rs) more) ≡ 0 → moves (played (fieldAfter (emptyField legs) rs) more) ≤ n
+AtMost n = (legs : Legs) → T (legalLegs legs) → (rs : List Request) → AtMostMoves n (fieldAfter (emptyField legs) rs)
 
 -- the requests rs lead from an empty field to one from which `more` goes on with exactly n moves, and without an accepted entry or miss
 pub record Uses (legs : Legs) (rs more : List Request) (n : ℕ) : Type 0 where
