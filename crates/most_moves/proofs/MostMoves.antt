@@ -28,7 +28,7 @@ unfolding
     outOfSequence fixTaken entered madeRoom enteredAbove approached landed exited fixAfterMiss missedApproach held numberAt3000 checksOf effectOf numberOf numberAndZeros acceptance
     answerOf stepOf
     neg add sub mul div ofInt round lt le eq
-all-used = record { legal = tt; none-added = refl; all-accepted = refl }
+all-used = record { legal = tt; none-added = refl; exactly = refl }
 
 -- 27 moves are the most, and 26 would not do
 pub twenty-seven : TwentySeven
@@ -36,5 +36,5 @@ twenty-seven =
     record {
       at-most = λ legs l rs. demand-3 legs l rs .few-moves;
       reached = all-used;
-      no-smaller = λ n few. subst (λ (m : ℕ). m ≤ n) (all-used .all-accepted) (few sessionLegs (all-used .legal) sessionBefore sessionMoves (all-used .none-added));
+      no-smaller = λ n few. subst (λ (m : ℕ). m ≤ n) (all-used .exactly) (few sessionLegs (all-used .legal) sessionBefore sessionMoves (all-used .none-added));
     }

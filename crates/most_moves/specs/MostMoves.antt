@@ -21,7 +21,7 @@ AtMost n = (legs : Legs) → T (legalLegs legs) → (rs : List Request) → AtMo
 pub record Uses (legs : Legs) (rs more : List Request) (n : ℕ) : Type 0 where
   pub legal : T (legalLegs legs)
   pub none-added : accepted addsMoves (played (fieldAfter (emptyField legs) rs) more) ≡ 0
-  pub all-accepted : moves (played (fieldAfter (emptyField legs) rs) more) ≡ n
+  pub exactly : moves (played (fieldAfter (emptyField legs) rs) more) ≡ n
 
 -- the session uses all of them
 abbrev pub AllUsed : Type 0
