@@ -4,8 +4,9 @@ use crate::field::{Answer, Field, Zone};
 use crate::refusal::Refusal;
 use crate::request::{Request, LONGEST_TICK};
 
-/// The most moves from a field that was reached from the empty one, and the most ticks before each of them.
-pub const MOST_MOVES: usize = 29;
+/// The most moves from a field that was reached from the empty one, before the next entry or miss (2.14), and the most
+/// ticks before each of them.
+pub const MOST_MOVES: usize = 27;
 pub const MOST_TICKS: usize = 8192;
 /// How often the button is pressed at the most while it is held down.
 pub const MOST_PRESSES: usize = MOST_MOVES * (MOST_TICKS + 1);

@@ -174,8 +174,8 @@ fn held(field: &mut Field, most: usize) -> Result<(usize, Ending), Refusal> {
 
 #[test]
 fn the_bound() {
-    assert_eq!((MOST_MOVES, MOST_TICKS), (29, 8192));
-    assert_eq!(MOST_PRESSES, 237_597);
+    assert_eq!((MOST_MOVES, MOST_TICKS), (27, 8192));
+    assert_eq!(MOST_PRESSES, 221_211);
 }
 
 /// The last allowed press may empty the field; one less leaves somebody.
@@ -206,7 +206,7 @@ fn spent() {
     let before = stuck.clone();
     let mut moves = 0;
     let held = hold_down(&mut stuck, MOST_PRESSES, |_, request, _| moves += usize::from(request.kind != 12));
-    assert_eq!((held, moves), (Ok((237_597, Ending::Spent)), 0));
+    assert_eq!((held, moves), (Ok((221_211, Ending::Spent)), 0));
     assert_eq!(stuck, before);
 }
 

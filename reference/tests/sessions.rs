@@ -6,6 +6,9 @@ mod common;
 use std::fs;
 use std::path::{Path, PathBuf};
 
+use reference::button::MOST_MOVES;
+use reference::{Field, PracticeFile};
+
 fn sessions(extension: &str) -> Vec<PathBuf> {
     let directory = Path::new(env!("CARGO_MANIFEST_DIR")).join("../crates/cases/data");
     let mut paths: Vec<PathBuf> =
@@ -68,4 +71,22 @@ fn files_in_hexadecimal() {
         let file = bytes(&fs::read_to_string(&path).expect("text"));
         assert_eq!(common::report(&file), expected(&path), "{}", path.display());
     }
+}
+
+/// The session `most-moves` ends with as many moves as there can be before the next entry or miss (2.14).
+#[test]
+fn most_moves() {
+    let path = Path::new(env!("CARGO_MANIFEST_DIR")).join("../crates/cases/data/most-moves.txt");
+    let (file, _) = read(&fs::read_to_string(path).expect("text"));
+    let practice = PracticeFile::read(&file).expect("a practice file");
+    let (mut field, mut moves) = (Field::empty(practice.legs()), 0);
+    for request in &practice.requests {
+        field.step(request).expect("accepted");
+        match request.kind {
+            1 | 2 | 10 => moves = 0,
+            12 => (),
+            _ => moves += 1,
+        }
+    }
+    assert_eq!(moves, MOST_MOVES);
 }

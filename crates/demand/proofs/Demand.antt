@@ -3,7 +3,6 @@ use mathlib.Core.Path.{_≡_, sym, ap, _∙_, subst}
 use mathlib.Core.Bool.{_&&_}
 use mathlib.Core.List.{List, []}
 use Prim.Native.Nat.{ℕ, _+_, _≤_, _<_}
-use native.Mathlib.Nat.{le-trans}
 use native.Mathlib.Omega.{arith}
 use lib.Dec.{T, leb, leb→le}
 use lib.ListN.{length}
@@ -121,6 +120,10 @@ module _ (legs : Legs) (l : T (legalLegs legs)) (rs : List Request) where
             carry (λ (g : Field). 0 < presentOn g → T (allFlownOut g) → MovesOn g)
             (λ p t. unstuck f line runway legs o (subst (λ (n : ℕ). 0 < n) present p) t);
         few-moves =
-            carry (λ (g : Field). (more : List Request) → accepted addsMoves (played g more) ≡ 0 → moves (played g more) ≤ mostMoves)
-            (λ more h. le-trans (runs legs more f line runway o .few h) (light f line runway legs o));
+            λ more h.
+            let few =
+            carry (λ (g : Field). accepted addsMoves (played g more) ≡ 0 → moves (played g more) ≤ weightOf line runway)
+            (runs legs more f line runway o .few) h in
+            let most = light f line runway legs o in
+            omega arith;
       }

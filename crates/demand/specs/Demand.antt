@@ -34,6 +34,10 @@ pub record MovesOn (f : Field) : Type 0 where
   pub kind : T (movesOn (request .kind))
   pub accepted : stepOf f request .answer .number ≡ 0
 
+-- in every list that goes on from the field without an accepted request of kind 1, 2 or 10, at most n moves are accepted
+abbrev pub AtMostMoves : ℕ → Field → Type 0
+AtMostMoves n f = (more : List Request) → accepted addsMoves (played f more) ≡ 0 → moves (played f more) ≤ n
+
 -- what holds of the answers to a list of requests and of the field f after it
 pub record Demand3Of (answers : List (Request × Answer)) (f : Field) : Type 0 where
   -- "refusals 10 and 25 never come"
@@ -48,8 +52,8 @@ pub record Demand3Of (answers : List (Request × Answer)) (f : Field) : Type 0 w
   pub balance : letIn answers ≡ taxiedOff answers + exitedFrom answers + presentOn f
   -- "then, if anyone is present, there is a request of kinds 3 to 8 or 11 that is accepted on that field"
   pub never-stuck : 0 < presentOn f → T (allFlownOut f) → MovesOn f
-  -- "The 29 holds for every list that goes on from there without an accepted request of kind 1, 2 or 10."
-  pub few-moves : (more : List Request) → accepted addsMoves (played f more) ≡ 0 → moves (played f more) ≤ mostMoves
+  -- at most 27 moves are accepted before the next entry or miss (02, 2.14, in place of the last sentence of "Any list of requests")
+  pub few-moves : AtMostMoves mostMoves f
 
 -- that, after a list of requests from the empty field with these legs
 abbrev pub Demand3 : Legs → List Request → Type 0

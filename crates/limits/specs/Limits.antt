@@ -25,9 +25,9 @@ longestOwnLegMiles = 128
 abbrev pub mostRequests : ℕ
 mostRequests = 4096
 
--- "The 29 holds for every list that goes on from there" ("Any list of requests"): the most moves without an accepted request of kind 1, 2 or 10
+-- the most moves that are accepted before the next entry or miss, ticks not counted (02, 2.14)
 abbrev pub mostMoves : ℕ
-mostMoves = 29
+mostMoves = 27
 
 -- the most miles past the ends of legs that are added up of an aircraft (02, 2.2)
 abbrev pub mostWaited : ℕ
@@ -37,6 +37,6 @@ mostWaited = 4096
 abbrev pub mostTicks : ℕ
 mostTicks = 8192
 
--- the presses by which the button empties every field that requests reach: as many moves as there can be, each after as many ticks (02, 2.6 and 2.7)
+-- the presses by which the button empties every field that requests reach: as many moves as there can be, each after as many ticks (02, 2.6, 2.7 and 2.14)
 abbrev pub mostPresses : ℕ
 mostPresses = mostMoves * (mostTicks + 1)

@@ -16,7 +16,7 @@ pub const LONGEST_OWN_LEG: f64 = 128.0;
 pub const MOST_WAITED: f64 = 4096.0;
 
 // The most moves without an entry or a missed approach between them.
-pub const MOST_MOVES: usize = 29;
+pub const MOST_MOVES: usize = 27;
 
 // The most ticks of the longest kind after which every leg is flown out.
 pub const MOST_TICKS: usize = 8192;

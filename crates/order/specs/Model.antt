@@ -3,7 +3,7 @@
 -- The tests of the moves are those of document 01, "The requests", said of such a list.
 use mathlib.Core.Bool.{Bool, true, false, cond, not, _&&_, _||_}
 use mathlib.Core.List.{List, [], _∷_, _++_}
-use Prim.Native.Nat.{ℕ, suc, _+_, _*_, _/_, _%_}
+use Prim.Native.Nat.{ℕ, suc, _+_, _-_, _*_, _/_, _%_}
 use lib.Dec.{leb, ltb, eqb}
 use lib.ListN.{length, getD}
 use Rattle.request.specs.Input.{within}
@@ -172,11 +172,20 @@ okay f zs = leb (length zs) 4 && chain f zs && roomToMiss 0 f zs
 abbrev movesFrom : ℕ → ℕ
 movesFrom z = getD (0 ∷ 6 ∷ 6 ∷ 5 ∷ 5 ∷ 6 ∷ 6 ∷ 7 ∷ 7 ∷ 4 ∷ 4 ∷ 3 ∷ 2 ∷ []) z 0
 
+-- so many for those in the sequence, each by itself
+abbrev movesEach : List ℕ → ℕ
+movesEach [] = 0
+movesEach (z ∷ zs) = movesFrom z + movesEach zs
+
+-- one less for side s where its missed zone is occupied while both its holdings are empty: the first of that zone holds at 2000, and does
+-- not come by 3000
+abbrev oneLess : List ℕ → ℕ → ℕ
+oneLess zs s = one (not (free zs (missed s)) && free zs (at3000 s) && free zs (at2000 s))
+
 -- at most so many moves are left for those in the sequence, as long as nobody enters or misses its approach
 unfoldable pub weight : List ℕ → ℕ
-weight [] = 0
-weight (z ∷ zs) = movesFrom z + weight zs
+weight zs = movesEach zs - (oneLess zs 1 + oneLess zs 2)
 
--- the weight of an okay sequence at the most: with one move more, for the one on the runway, document 01's 29
+-- the weight of an okay sequence at the most, 13 for each side: with one move more, for the one on the runway, the 27 of document 02, 2.14
 abbrev pub heaviest : ℕ
-heaviest = 28
+heaviest = 26
