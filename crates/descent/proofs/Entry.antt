@@ -21,10 +21,10 @@ use Rattle.questions.specs.declared.Place.{Place}
 use Rattle.field.specs.Boxes.{at3000, at2000, lateral, missed, nobody, inZone}
 use Rattle.field.specs.Lists.{every}
 use Rattle.questions.specs.Counts.{howMany, isEmpty, countedFor, approachHolds, potentialOf}
-use Rattle.questions.specs.Find.{aircraftAt}
+use Rattle.questions.specs.Find.{placeOf, aircraftAt}
 use Rattle.bounds.specs.Bounds.{withinBounds}
 use Rattle.rules.specs.declared.Answer.{Answer}
-use Rattle.rules.specs.Kinds.{placeBefore, zoneBefore, absentChecks, headChecks, presenceChecks, verticalNeeds, lateralNeeds, descendNeeds, approachNeeds, mergeNeeds, flownOutNeeds, landNeeds, exitNeeds, descended, entered, numberAt3000}
+use Rattle.rules.specs.Kinds.{placeBefore, zoneBefore, zoneAhead, absentChecks, headChecks, presenceChecks, verticalNeeds, lateralNeeds, descendNeeds, approachNeeds, mergeNeeds, flownOutNeeds, landNeeds, exitNeeds, descended, entered, numberAt3000}
 use Rattle.rules.specs.Step.{needsFor, checksOf, effectOf, numberOf, numberAndZeros, acceptance, alongFor, answerOf, stepOf}
 use Rattle.rules.specs.Reason.{hasPlaces}
 use Rattle.rules.proofs.Checks.{refused-append, by-kind, presence-refuses, checks-refuse, input-numbered, checks-at}
@@ -87,13 +87,13 @@ vertical-20 f side l h e =
 checks-20 : (f : Field) (r : Request) → inputNumber r ≡ 0 → Not20 (checksOf f r)
 unfolding checksOf
 checks-20 f r i =
-    append-20 (presenceChecks (r .kind) at) (needsFor (r .kind) f r at) (presence-refuses (r .kind) at) presence
+    append-20 (presenceChecks (r .kind) at) (needsFor (r .kind) f r at ahead) (presence-refuses (r .kind) at) presence
     (by-kind Not20 (r .kind) (
       (λ k. let known = entry-known r i (kind-known r i .low) (omega arith) in vertical-20 f (r .side) (known .side-low) (known .side-high)),
       (λ k. without-20 (lateralNeeds f (r .side)) tt),
       (λ k. without-20 (descendNeeds f (at .zone)) tt),
-      (λ k. without-20 (approachNeeds f (r .number) (at .zone)) tt),
-      (λ k. without-20 (mergeNeeds f (r .number) (at .zone)) tt),
+      (λ k. without-20 (approachNeeds f (r .number) (at .zone) ahead) tt),
+      (λ k. without-20 (mergeNeeds f (r .number) (at .zone) ahead) tt),
       (λ k. without-20 (flownOutNeeds f (at .zone)) tt),
       (λ k. without-20 (landNeeds f (at .zone)) tt),
       (λ k. without-20 [] tt),
@@ -105,6 +105,9 @@ checks-20 f r i =
   where
     at : Place
     at = placeBefore f r
+
+    ahead : ℕ
+    ahead = zoneAhead f r
 
     presence : Not20 (presenceChecks (r .kind) at)
     presence =
@@ -217,9 +220,9 @@ module _ (f : Field) (h : T (hasPlaces f)) (r : Request) (k : r .kind ≡ 1) (ac
   then-0 = accepts g r then-passes
 
   -- the answer of an entry on a field
-  answer-is : (q : Field) → numberOf q r ≡ 0 → stepOf q r .answer ≡ acceptance (effectOf q r) (r .number) (numberAt3000 q side)
+  answer-is : (q : Field) → numberOf q r ≡ 0 → stepOf q r .answer ≡ acceptance (effectOf q r) (placeOf (effectOf q r) (r .number)) (r .number) (numberAt3000 q side)
   unfolding answerOf
-  answer-is q e = answer-accepted q r e ∙ ap (λ (j : ℕ). cond (eqb j 12) (numberAndZeros 0) (acceptance (effectOf q r) (r .number) (alongFor j q r (zoneBefore q r)))) k
+  answer-is q e = answer-accepted q r e ∙ ap (λ (j : ℕ). cond (eqb j 12) (numberAndZeros 0) (acceptance (effectOf q r) (placeOf (effectOf q r) (r .number)) (r .number) (alongFor j q r (zoneBefore q r)))) k
 
   -- Document 02, 2.5: it is the descend of the one at 3000 and then the entry.
   pub in-two-steps : InTwoSteps f r
@@ -230,7 +233,7 @@ module _ (f : Field) (h : T (hasPlaces f)) (r : Request) (k : r .kind ≡ 1) (ac
         same-field = field-accepted f r number-0 ∙ sym same-effect ∙ sym (field-accepted g r then-0) ∙ ap (λ (q : Field). stepOf q r .field) (sym first-step);
         same-answer =
             ap butAlong (answer-is f number-0)
-            ∙ ap (λ (q : Field). butAlong (acceptance q (r .number) 0)) (sym same-effect)
+            ∙ ap (λ (q : Field). butAlong (acceptance q (placeOf q (r .number)) (r .number) 0)) (sym same-effect)
             ∙ sym (ap butAlong (answer-is g then-0))
             ∙ ap (λ (q : Field). butAlong (stepOf q r .answer)) (sym first-step);
         along = ap (λ (a : Answer). a .along) (answer-is f number-0);

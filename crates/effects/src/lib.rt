@@ -122,10 +122,11 @@ fn entered_above(f: Field, r: Request) -> Field
 }
 
 // Kind 4: the zone that an approach from a lateral zone leads to: base, or 2000 where a need is not met.
-fn approach_zone(f: Field, number: u16, side: u8) -> usize
-    ensures { λ z. ⌜ z ≡ cond (mayApproach f number && baseFree f side) (base side) (at2000 side) ⌝ }
+fn approach_zone(f: Field, number: u16, side: u8, ahead: usize) -> usize
+    ensures { λ z. ⌜ z ≡ cond (mayApproach (f .sequence) number ahead && baseFree f side) (base side) (at2000 side) ⌝ }
 {
-    if !may_approach(f, number) {
+    let s = f.sequence;
+    if !may_approach(s, number, ahead) {
         return AT_2000 + side as usize;
     }
     if !base_free(f, side) {
@@ -135,12 +136,12 @@ fn approach_zone(f: Field, number: u16, side: u8) -> usize
 }
 
 // Kind 4: the field with the head of a zone moved to base, or from a lateral zone to 2000 where a need of the approach is not met.
-fn approached(f: Field, number: u16, zone: usize) -> Field
-    ensures { λ g. ⌜ g ≡ approached f number zone ⌝ }
+fn approached(f: Field, number: u16, zone: usize, ahead: usize) -> Field
+    ensures { λ g. ⌜ g ≡ approached f number zone ahead ⌝ }
 {
     let side = side_of(zone);
     if in_range(Range(5, 6), zone) {
-        return moved(f, zone, approach_zone(f, number, side));
+        return moved(f, zone, approach_zone(f, number, side, ahead));
     }
     moved(f, zone, BASE + side as usize)
 }
@@ -204,9 +205,10 @@ pub fn number_at_3000(f: Field, side: u8) -> u16
     a.number
 }
 
-// The field after a request whose needs are met and whose aircraft is in a zone, by its kind; any other number than 1 to 11 is a tick.
-pub fn effect(f: Field, r: Request, zone: u8) -> Field
-    ensures { λ g. ⌜ g ≡ effectFor (r .kind) f r zone ⌝ }
+// The field after a request whose needs are met, its aircraft in a zone and its leader in zone `ahead`, by its kind; any other number than 1
+// to 11 is a tick.
+pub fn effect(f: Field, r: Request, zone: u8, ahead: usize) -> Field
+    ensures { λ g. ⌜ g ≡ effectFor (r .kind) f r zone ahead ⌝ }
 {
     let kind = r.kind;
     let z = zone as usize;
@@ -214,7 +216,7 @@ pub fn effect(f: Field, r: Request, zone: u8) -> Field
         1 => entered_above(f, r),
         2 => entered(f, r, LATERAL + r.side as usize),
         3 => descended(f, zone),
-        4 => approached(f, r.number, z),
+        4 => approached(f, r.number, z, ahead),
         5 => moved(f, z, INTERMEDIATE),
         6 => moved(f, INTERMEDIATE, FINAL),
         7 => landed(f, r),

@@ -20,7 +20,7 @@ use Rattle.questions.specs.Find.{placeOf, isFirst, leaderZone}
 use Rattle.order.specs.Model as model
 use Rattle.order.specs.Model.{Side, count, free, isNil, lastOr, descend, approaching, merge, final, hold}
 use Rattle.order.proofs.Facts.{okay-zones}
-use Rattle.rules.specs.Kinds.{startsFrom, zoneBefore, mayApproach, mayMerge, baseFree, moved, approached, held}
+use Rattle.rules.specs.Kinds.{startsFrom, zoneBefore, zoneAhead, mayApproach, mayMerge, baseFree, moved, approached, held}
 use Rattle.field.proofs.Tests.{passed, pass, if-true, zones-imply}
 use Rattle.line.proofs.Lists.{map-append, every-left}
 use Rattle.line.proofs.Line.{Placed, zonesIn, numbersOf, fieldOf}
@@ -139,7 +139,7 @@ module _ (f : Side) (a : List Placed) (e : Placed) (b : List Placed) (runway : L
       (subst (λ (k : ℕ). T (staysOn k)) (sym h) tt) (λ u. let n : 12 ≡ r .kind = sym u in omega arith) named
 
   -- kind 4
-  may-is : T (within 1 12 (base (opposite (sideOf z)))) → (mayApproach F (r .number) && baseFree F (sideOf z)) ≡ model.mayApproach zs₁ z zs₂
+  may-is : T (within 1 12 (base (opposite (sideOf z)))) → (mayApproach (F .sequence) (r .number) (zoneAhead F r) && baseFree F (sideOf z)) ≡ model.mayApproach zs₁ z zs₂
   unfolding mayApproach baseFree
   may-is t = ap (λ (c : Bool). c && baseFree F (sideOf z)) (led 9 12) ∙ ap (λ (n : ℕ). (isNil zs₁ || within 9 12 (lastOr 0 zs₁)) && leb n 1) (many (base (opposite (sideOf z))) t)
 
@@ -150,14 +150,14 @@ module _ (f : Side) (a : List Placed) (e : Placed) (b : List Placed) (runway : L
       let q₁ = and-l (within 3 6 z) (within 1 12 (base (opposite (sideOf z)))) q in
       let q₂ = and-r (within 3 6 z) (within 1 12 (base (opposite (sideOf z)))) q in
       let p = input.passed (besides F r 4) (tt, (tt, tt)) c in
-      let t₁ : (within 5 6 z || mayApproach F (r .number)) ≡ true = ap (λ (w : ℕ). within 5 6 w || mayApproach F (r .number)) (sym zone-before) ∙ p .0 in
+      let t₁ : (within 5 6 z || mayApproach (F .sequence) (r .number) (zoneAhead F r)) ≡ true = ap (λ (w : ℕ). within 5 6 w || mayApproach (F .sequence) (r .number) (zoneAhead F r)) (sym zone-before) ∙ p .0 in
       let t₂ : (within 5 6 z || baseFree F (sideOf z)) ≡ true = ap (λ (w : ℕ). within 5 6 w || baseFree F (sideOf w)) (sym zone-before) ∙ p .1 .0 in
       line-move f a e b runway legs o approaching r heads
       (and-i (within 3 6 z) (within 5 6 z || model.mayApproach zs₁ z zs₂) q₁
-      (pass (ap (λ (t : Bool). within 5 6 z || t) (sym (may-is q₂)) ∙ excused (within 5 6 z) (mayApproach F (r .number)) (baseFree F (sideOf z)) t₁ t₂)))
+      (pass (ap (λ (t : Bool). within 5 6 z || t) (sym (may-is q₂)) ∙ excused (within 5 6 z) (mayApproach (F .sequence) (r .number) (zoneAhead F r)) (baseFree F (sideOf z)) t₁ t₂)))
       (effect-at F r h
-      ∙ ap (λ (w : ℕ). cond (within 5 6 w) (cond (mayApproach F (r .number) && baseFree F (sideOf w)) (moved F w (base (sideOf w))) (moved F w (at2000 (sideOf w)))) (moved F w (base (sideOf w)))) zone-before
-      ∙ from-lateral (within 5 6 z) (mayApproach F (r .number)) (baseFree F (sideOf z)) _ _ t₁ t₂
+      ∙ ap (λ (w : ℕ). cond (within 5 6 w) (cond (mayApproach (F .sequence) (r .number) (zoneAhead F r) && baseFree F (sideOf w)) (moved F w (base (sideOf w))) (moved F w (at2000 (sideOf w)))) (moved F w (base (sideOf w)))) zone-before
+      ∙ from-lateral (within 5 6 z) (mayApproach (F .sequence) (r .number) (zoneAhead F r)) (baseFree F (sideOf z)) _ _ t₁ t₂
       ∙ ap (λ (t : Bool). cond t (moved F z (base (sideOf z))) (moved F z (at2000 (sideOf z)))) (may-is q₂)
       ∙ either-zone F z (base (sideOf z)) (at2000 (sideOf z)) (model.mayApproach zs₁ z zs₂))
       (subst (λ (k : ℕ). T (staysOn k)) (sym h) tt) (λ u. let n : 12 ≡ r .kind = sym u in omega arith) named

@@ -1,5 +1,6 @@
 // Document 01, "Turned away by the field": what each kind of request needs, in order (rules' specs/Kinds.antt).
 use field::Field;
+use field::Sequence;
 use field::boxes::leg_flown_out;
 use field::boxes::opposite;
 use field::boxes::side_of;
@@ -15,7 +16,6 @@ use questions::counts::is_empty;
 use questions::counts::potential_of;
 use questions::find::aircraft_at;
 use questions::find::is_first;
-use questions::find::leader_zone;
 use request::Range;
 use request::Request;
 use request::in_range;
@@ -79,15 +79,14 @@ fn presence_number(kind: u8, at: Place) -> u16
     head_number(kind, at)
 }
 
-// Whether the aircraft with a number is first in sequence, or its leader is on the approach.
-pub fn may_approach(f: Field, number: u16) -> bool
-    ensures { λ r. ⌜ r ≡ mayApproach f number ⌝ }
+// Whether the aircraft with a number is first in a sequence, or its leader, who is in zone `ahead`, is on the approach.
+pub fn may_approach(s: Sequence, number: u16, ahead: usize) -> bool
+    ensures { λ r. ⌜ r ≡ mayApproach s number ahead ⌝ }
 {
-    let s = f.sequence;
     if is_first(s, number) {
         return true;
     }
-    match leader_zone(f, number) {
+    match ahead {
         9..=12 => true,
         _ => false,
     }
@@ -100,15 +99,14 @@ pub fn base_free(f: Field, side: u8) -> bool
     how_many(f, BASE + opposite(side) as usize) <= 1
 }
 
-// Whether the aircraft with a number is first in sequence, or its leader is in intermediate or final.
-fn may_merge(f: Field, number: u16) -> bool
-    ensures { λ r. ⌜ r ≡ mayMerge f number ⌝ }
+// Whether the aircraft with a number is first in a sequence, or its leader, who is in zone `ahead`, is in intermediate or final.
+fn may_merge(s: Sequence, number: u16, ahead: usize) -> bool
+    ensures { λ r. ⌜ r ≡ mayMerge s number ahead ⌝ }
 {
-    let s = f.sequence;
     if is_first(s, number) {
         return true;
     }
-    match leader_zone(f, number) {
+    match ahead {
         11..=12 => true,
         _ => false,
     }
@@ -169,13 +167,14 @@ fn is_lateral(zone: u8) -> bool
 }
 
 // Kind 4: the first need of an approach from a zone that is not met; 0 where both are, and from a lateral zone.
-fn approach_number(f: Field, number: u16, zone: u8) -> u16
-    ensures { λ n. ⌜ n ≡ firstRefused (approachNeeds f number zone) ⌝ }
+fn approach_number(f: Field, number: u16, zone: u8, ahead: usize) -> u16
+    ensures { λ n. ⌜ n ≡ firstRefused (approachNeeds f number zone ahead) ⌝ }
 {
     if is_lateral(zone) {
         return 0;
     }
-    if !may_approach(f, number) {
+    let s = f.sequence;
+    if !may_approach(s, number, ahead) {
         return 22;
     }
     with_need(0, 23, base_free(f, side_of(zone as usize)))
@@ -196,10 +195,11 @@ fn flown_out_number(f: Field, zone: u8) -> u16
 }
 
 // Kind 5: the first need of a merge that is not met, the leg flown out and then the sequence; 0 where both are.
-fn merge_number(f: Field, number: u16, zone: u8) -> u16
-    ensures { λ n. ⌜ n ≡ firstRefused (mergeNeeds f number zone) ⌝ }
+fn merge_number(f: Field, number: u16, zone: u8, ahead: usize) -> u16
+    ensures { λ n. ⌜ n ≡ firstRefused (mergeNeeds f number zone ahead) ⌝ }
 {
-    with_need(flown_out_number(f, zone), 22, may_merge(f, number))
+    let s = f.sequence;
+    with_need(flown_out_number(f, zone), 22, may_merge(s, number, ahead))
 }
 
 // Kind 7: the first need of a landing that is not met, the leg flown out and then the runway; 0 where both are.
@@ -219,17 +219,18 @@ fn exit_number(f: Field, number: u16, zone: u8) -> u16
     with_need(with_need(0, 15, flown), 22, first)
 }
 
-// The first need that a kind has besides and the field does not meet, of a request whose aircraft is at a place; 0 where all are met.
-fn needs_number(f: Field, r: Request, at: Place) -> u16
-    ensures { λ n. ⌜ n ≡ firstRefused (needsFor (r .kind) f r at) ⌝ }
+// The first need that a kind has besides and the field does not meet, of a request whose aircraft is at a place and its leader in zone
+// `ahead`; 0 where all are met.
+fn needs_number(f: Field, r: Request, at: Place, ahead: usize) -> u16
+    ensures { λ n. ⌜ n ≡ firstRefused (needsFor (r .kind) f r at ahead) ⌝ }
 {
     let kind = r.kind;
     match kind {
         1 => vertical_number(f, r.side),
         2 => lateral_number(f, r.side),
         3 => descend_number(f, at.zone),
-        4 => approach_number(f, r.number, at.zone),
-        5 => merge_number(f, r.number, at.zone),
+        4 => approach_number(f, r.number, at.zone, ahead),
+        5 => merge_number(f, r.number, at.zone, ahead),
         6 | 11 => flown_out_number(f, at.zone),
         7 => land_number(f, at.zone),
         9 => exit_number(f, r.number, at.zone),
@@ -237,13 +238,13 @@ fn needs_number(f: Field, r: Request, at: Place) -> u16
     }
 }
 
-// The first need of a request whose aircraft is at a place that the field does not meet; 0 where all are met.
-pub fn check_number(f: Field, r: Request, at: Place) -> u16
-    ensures { λ n. ⌜ n ≡ firstRefused (checksFor (r .kind) f r at) ⌝ }
+// The first need of a request whose aircraft is at a place, and its leader in zone `ahead`, that the field does not meet; 0 where all are met.
+pub fn check_number(f: Field, r: Request, at: Place, ahead: usize) -> u16
+    ensures { λ n. ⌜ n ≡ firstRefused (checksFor (r .kind) f r at ahead) ⌝ }
 {
     let n = presence_number(r.kind, at);
     if n != 0 {
         return n;
     }
-    needs_number(f, r, at)
+    needs_number(f, r, at, ahead)
 }

@@ -106,8 +106,8 @@ short-zeros : (n : ℕ) → n ≤ 25 → Short (numberAndZeros n)
 unfolding numberAndZeros
 short-zeros n h = record { number = h; zone = omega arith; fix = omega arith }
 
-short-acceptance : (f : Field) (n along : ℕ) → T (withinBounds f) → Short (acceptance f n along)
-unfolding acceptance
+short-acceptance : (f : Field) (n along : ℕ) → T (withinBounds f) → Short (acceptance f (placeOf f n) n along)
+unfolding acceptance fixOf
 short-acceptance f n along t = record { number = omega arith; zone = place-within f n; fix = fix-low f n t }
 
 module _ (f : Field) (r : Request) where
@@ -119,7 +119,7 @@ module _ (f : Field) (r : Request) where
   unfolding answerOf
   short-accepted t = told (eqb (r .kind) 12)
     where
-      told : (b : Bool) → Short (cond b (numberAndZeros 0) (acceptance (effectOf f r) (r .number) (alongFor (r .kind) f r (zoneBefore f r))))
+      told : (b : Bool) → Short (cond b (numberAndZeros 0) (acceptance (effectOf f r) (placeOf (effectOf f r) (r .number)) (r .number) (alongFor (r .kind) f r (zoneBefore f r))))
       told true = short-zeros 0 (omega arith)
       told false = short-acceptance (effectOf f r) (r .number) (alongFor (r .kind) f r (zoneBefore f r)) t
 

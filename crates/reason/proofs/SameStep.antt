@@ -22,7 +22,7 @@ use Rattle.questions.specs.declared.Place.{Place}
 use Rattle.questions.specs.Counts.{total, haveFix, howMany, howManyWithFix, isEmpty, approachHolds, countedFor, potentialOf}
 use Rattle.questions.specs.Find.{placeOf, aircraftAt, fixOf, isFirst, leaderOf, leaderZone}
 use Rattle.bounds.specs.Bounds.{withinBounds}
-use Rattle.rules.specs.Kinds.{placeBefore, zoneBefore, presenceChecks, mayApproach, baseFree, mayMerge, verticalNeeds, approachNeeds, mergeNeeds, flownOutCheck, landNeeds, headGone, tailPut, moved, outOfSequence, fixTaken, entered, madeRoom, enteredAbove, approached, landed, exited, fixAfterMiss, missedApproach, held}
+use Rattle.rules.specs.Kinds.{placeBefore, zoneBefore, zoneAhead, presenceChecks, mayApproach, baseFree, mayMerge, verticalNeeds, approachNeeds, mergeNeeds, flownOutCheck, landNeeds, headGone, tailPut, moved, outOfSequence, fixTaken, entered, madeRoom, enteredAbove, approached, landed, exited, fixAfterMiss, missedApproach, held}
 use Rattle.rules.specs.Step.{byKind, needsFor, effectFor, checksFor, checksOf, effectOf, numberOf, stepOf}
 use Rattle.rules.specs.Reason.{Listed, listed, along, those, isInZone, isInArea, neverFalls, eachAmong, fromLanding, heightIn, hasRoom, lateralFree, approachOrder, areaOrder, roomToMiss, lateralEntry, Reason, hasPlaces, Sound, KeptBy}
 use Rattle.field.proofs.Tests.{pass, passed, decided}
@@ -104,13 +104,11 @@ module _ (f g : Field) (s : Same f g) where
       ap (λ (q : Sequence). cond (eqb (leaderOf q n) 0) 0 (placeOf f (leaderOf q n) .zone)) (s .sequence)
       ∙ ap (λ (p : Place). cond (eqb (leaderOf (g .sequence) n) 0) 0 (p .zone)) (place-same (leaderOf (g .sequence) n))
 
-  may-approach-same : (n : ℕ) → mayApproach f n ≡ mayApproach g n
-  unfolding mayApproach
-  may-approach-same n = ap (λ (q : Sequence). isFirst q n || within 9 12 (leaderZone f n)) (s .sequence) ∙ ap (λ (z : ℕ). isFirst (g .sequence) n || within 9 12 z) (leader-same n)
+  may-approach-same : (n ahead : ℕ) → mayApproach (f .sequence) n ahead ≡ mayApproach (g .sequence) n ahead
+  may-approach-same n ahead = ap (λ (q : Sequence). mayApproach q n ahead) (s .sequence)
 
-  may-merge-same : (n : ℕ) → mayMerge f n ≡ mayMerge g n
-  unfolding mayMerge
-  may-merge-same n = ap (λ (q : Sequence). isFirst q n || within 11 12 (leaderZone f n)) (s .sequence) ∙ ap (λ (z : ℕ). isFirst (g .sequence) n || within 11 12 z) (leader-same n)
+  may-merge-same : (n ahead : ℕ) → mayMerge (f .sequence) n ahead ≡ mayMerge (g .sequence) n ahead
+  may-merge-same n ahead = ap (λ (q : Sequence). mayMerge q n ahead) (s .sequence)
 
   base-same : (side : ℕ) → baseFree f side ≡ baseFree g side
   unfolding baseFree
@@ -120,14 +118,14 @@ module _ (f g : Field) (s : Same f g) where
   flown-same z = ap (λ (a : Aircraft). (15, legFlownOut a)) (at-same z 1)
 
   -- the checks of every request
-  needs-same : (r : Request) (at : Place) → needsFor (r .kind) f r at ≡ needsFor (r .kind) g r at
-  needs-same r at =
+  needs-same : (r : Request) (at : Place) (ahead : ℕ) → needsFor (r .kind) f r at ahead ≡ needsFor (r .kind) g r at ahead
+  needs-same r at ahead =
       by-kinds (λ (x y : List (ℕ × Bool)). x ≡ y) (r .kind) (
         vertical (r .side),
         ap (λ (n : ℕ). (16, eqb n 0) ∷ []) (potential-same (r .side)),
         ap (λ (b : Bool). (21, b) ∷ []) (empty-same (at2000 (at .zone))),
-        approaching (r .number) (at .zone),
-        merging (r .number) (at .zone),
+        approaching (r .number) (at .zone) ahead,
+        merging (r .number) (at .zone) ahead,
         ap (λ (c : ℕ × Bool). c ∷ []) (flown-same (at .zone)),
         landing (at .zone),
         refl,
@@ -147,18 +145,21 @@ module _ (f g : Field) (s : Same f g) where
           let d = empty-same (at2000 side) in
           cc (p, h, a, b, c, d)
 
-      approaching : (n z : ℕ) → approachNeeds f n z ≡ approachNeeds g n z
-      approaching n z = let a = may-approach-same n in let b = base-same (sideOf z) in cc (a, b)
+      approaching : (n z ahead : ℕ) → approachNeeds f n z ahead ≡ approachNeeds g n z ahead
+      approaching n z ahead = let a = may-approach-same n ahead in let b = base-same (sideOf z) in cc (a, b)
 
-      merging : (n z : ℕ) → mergeNeeds f n z ≡ mergeNeeds g n z
-      merging n z = let a = flown-same z in let b = may-merge-same n in cc (a, b)
+      merging : (n z ahead : ℕ) → mergeNeeds f n z ahead ≡ mergeNeeds g n z ahead
+      merging n z ahead = let a = flown-same z in let b = may-merge-same n ahead in cc (a, b)
 
       landing : (z : ℕ) → landNeeds f z ≡ landNeeds g z
       landing z = let a = flown-same z in let b = empty-same runway in cc (a, b)
 
   checks-same : (r : Request) → checksOf f r ≡ checksOf g r
   unfolding checksOf
-  checks-same r = ap (λ (at : Place). checksFor (r .kind) f r at) (place-same (r .number)) ∙ ap (λ (l : List (ℕ × Bool)). presenceChecks (r .kind) (placeBefore g r) ++ l) (needs-same r (placeBefore g r))
+  checks-same r =
+      ap (λ (at : Place). checksFor (r .kind) f r at (zoneAhead f r)) (place-same (r .number))
+      ∙ ap (checksFor (r .kind) f r (placeBefore g r)) (leader-same (r .number))
+      ∙ ap (λ (l : List (ℕ × Bool)). presenceChecks (r .kind) (placeBefore g r) ++ l) (needs-same r (placeBefore g r) (zoneAhead g r))
 
   -- ---- what the requests do
   gone-same : (z : ℕ) → Same (headGone f z) (headGone g z)
@@ -192,12 +193,12 @@ module _ (f g : Field) (s : Same f g) (r : Request) where
   unfolding enteredAbove
   above-same = entered-same _ _ (room-same (r .side)) r (at3000 (r .side))
 
-  approached-same : (z : ℕ) → Same (approached f (r .number) z) (approached g (r .number) z)
+  approached-same : (z ahead : ℕ) → Same (approached f (r .number) z ahead) (approached g (r .number) z ahead)
   unfolding approached
-  approached-same z =
-      let a = may-approach-same f g s (r .number) in
+  approached-same z ahead =
+      let a = may-approach-same f g s (r .number) ahead in
       let b = base-same f g s (sideOf z) in
-      let test : (mayApproach f (r .number) && baseFree f (sideOf z)) ≡ (mayApproach g (r .number) && baseFree g (sideOf z)) = cc (a, b) in
+      let test : (mayApproach (f .sequence) (r .number) ahead && baseFree f (sideOf z)) ≡ (mayApproach (g .sequence) (r .number) ahead && baseFree g (sideOf z)) = cc (a, b) in
       either-same (within 5 6 z) (within 5 6 z) refl (either-same _ _ test (moved-same f g s z (base (sideOf z))) (moved-same f g s z (at2000 (sideOf z)))) (moved-same f g s z (base (sideOf z)))
 
   landed-same : Same (landed f r) (landed g r)
@@ -235,12 +236,13 @@ module _ (f g : Field) (s : Same f g) (r : Request) where
   effect-same : Same (effectOf f r) (effectOf g r)
   unfolding effectOf
   effect-same =
-      subst (λ (z : ℕ). Same (effectFor (r .kind) f r (zoneBefore f r)) (effectFor (r .kind) g r z)) (ap (λ (p : Place). p .zone) (place-same f g s (r .number))) (each (zoneBefore f r))
+      subst (λ (z : ℕ). Same (effectFor (r .kind) f r (zoneBefore f r) (zoneAhead f r)) (effectFor (r .kind) g r z (zoneAhead g r))) (ap (λ (p : Place). p .zone) (place-same f g s (r .number)))
+      (subst (λ (l : ℕ). Same (effectFor (r .kind) f r (zoneBefore f r) (zoneAhead f r)) (effectFor (r .kind) g r (zoneBefore f r) l)) (leader-same f g s (r .number)) (each (zoneBefore f r) (zoneAhead f r)))
     where
-      each : (z : ℕ) → Same (effectFor (r .kind) f r z) (effectFor (r .kind) g r z)
-      each z =
+      each : (z ahead : ℕ) → Same (effectFor (r .kind) f r z ahead) (effectFor (r .kind) g r z ahead)
+      each z ahead =
           by-kinds Same (r .kind)
-          (above-same, entered-same f g s r (lateral (r .side)), moved-same f g s z (at2000 z), approached-same z, moved-same f g s z intermediate, moved-same f g s intermediate finalApproach, landed-same, gone-same f g s runway, exited-same, missed-same, held-same z, same-ticked f g (r .amount) s)
+          (above-same, entered-same f g s r (lateral (r .side)), moved-same f g s z (at2000 z), approached-same z ahead, moved-same f g s z intermediate, moved-same f g s intermediate finalApproach, landed-same, gone-same f g s runway, exited-same, missed-same, held-same z, same-ticked f g (r .amount) s)
 
 -- ---- the step
 both-ways : (a b : Bool) → (T a → T b) → (T b → T a) → a ≡ b

@@ -1,7 +1,7 @@
 -- The checks of each kind: what is known where none of them refuses, and which numbers they can answer. Assumes nothing.
-use mathlib.Core.Path.{_≡_, refl, sym, ap}
+use mathlib.Core.Path.{_≡_, refl, sym, ap, _∙_}
 use mathlib.Core.Logic.{_⊎_, inl, inr}
-use mathlib.Core.Bool.{Bool, true, false, cond, not, _&&_}
+use mathlib.Core.Bool.{Bool, true, false, cond, not, _&&_, true≢false}
 use mathlib.Core.List.{List, [], _∷_, _++_}
 use Prim.Native.Nat.{ℕ, _≤_}
 use native.Mathlib.Nat.{ne-of-gt}
@@ -9,28 +9,28 @@ use native.Mathlib.Omega.{arith}
 use lib.Dec.{T, leb, eqb, leb→le, le→leb}
 use lib.Ieee.Fits.{and-i, and-l, and-r}
 use borrow.Author.Tests.{ne-eqb, eqb-true}
-use Rattle.request.specs.Input.{isEntry, isTick, firstRefused, kindAllowed, sideAllowed, numberAllowed, amountAllowed, inputNumber}
+use Rattle.request.specs.Input.{within, isEntry, isTick, firstRefused, kindAllowed, sideAllowed, numberAllowed, amountAllowed, inputNumber}
 use Rattle.request.specs.declared.Request.{Request}
 use Rattle.request.proofs.Tests.{Numbered}
 use Rattle.field.specs.declared.Field.{Field}
 use Rattle.questions.specs.declared.Place.{Place}
 use Rattle.field.specs.Lists.{every}
 use Rattle.field.proofs.Tests.{if-false, either-way}
-use Rattle.rules.specs.Kinds.{placeBefore, zoneBefore, startsFrom, absentChecks, headChecks, presenceChecks}
+use Rattle.rules.specs.Kinds.{placeBefore, zoneBefore, zoneAhead, startsFrom, absentChecks, headChecks, presenceChecks}
 use Rattle.rules.specs.Step.{byKind, needsFor, checksFor, effectFor, checksOf, effectOf}
 
 -- what a kind needs besides, of a request on a field
 abbrev pub besides : Field → Request → ℕ → List (ℕ × Bool)
-besides f r k = needsFor k f r (placeBefore f r)
+besides f r k = needsFor k f r (placeBefore f r) (zoneAhead f r)
 
 -- ---- the kind by its number
 pub checks-at : (f : Field) (r : Request) {k : ℕ} → r .kind ≡ k → checksOf f r ≡ presenceChecks k (placeBefore f r) ++ besides f r k
 unfolding checksOf
-checks-at f r h = ap (λ (k : ℕ). checksFor k f r (placeBefore f r)) h
+checks-at f r h = ap (λ (k : ℕ). checksFor k f r (placeBefore f r) (zoneAhead f r)) h
 
-pub effect-at : (f : Field) (r : Request) {k : ℕ} → r .kind ≡ k → effectOf f r ≡ effectFor k f r (zoneBefore f r)
+pub effect-at : (f : Field) (r : Request) {k : ℕ} → r .kind ≡ k → effectOf f r ≡ effectFor k f r (zoneBefore f r) (zoneAhead f r)
 unfolding effectOf
-effect-at f r h = ap (λ (k : ℕ). effectFor k f r (zoneBefore f r)) h
+effect-at f r h = ap (λ (k : ℕ). effectFor k f r (zoneBefore f r) (zoneAhead f r)) h
 
 -- ---- 12 to 14, and what a kind needs besides
 pub record HeadPassed (kind : ℕ) (at : Place) (rest : List (ℕ × Bool)) : Type 0 where
@@ -122,3 +122,27 @@ checks-refuse f r = numbered-refuses (checksOf f r) (checks-numbered f r)
 pub input-numbered : (r : Request) → (inputNumber r ≡ 0) ⊎ T (leb 1 (inputNumber r) && leb (inputNumber r) 4)
 unfolding inputNumber
 input-numbered r = refused-in 1 4 ((1, kindAllowed r) ∷ (2, sideAllowed r) ∷ (3, numberAllowed r) ∷ (4, amountAllowed r) ∷ []) tt
+
+-- ---- the zone of the leader
+
+-- Where a kind is neither 4 nor 5, its table has the same entry whatever stands for these two.
+neither : {A : Type 0} (k : ℕ) → within 4 5 k ≡ false → (k1 k2 k3 k4 k5 k6 k7 k8 k9 k10 k11 k12 j4 j5 : A)
+    → byKind k k1 k2 k3 k4 k5 k6 k7 k8 k9 k10 k11 k12 ≡ byKind k k1 k2 k3 j4 j5 k6 k7 k8 k9 k10 k11 k12
+neither k h k1 k2 k3 k4 k5 k6 k7 k8 k9 k10 k11 k12 j4 j5 =
+    simp (ne-eqb k 4 (λ e. true≢false (sym (ap (within 4 5) e) ∙ h)), ne-eqb k 5 (λ e. true≢false (sym (ap (within 4 5) e) ∙ h)))
+
+-- Only kinds 4 and 5 ask for it: for every other kind any number may stand in its place.
+module _ (k : ℕ) (f : Field) (r : Request) (ahead : ℕ) where
+  pub checks-ahead : (at : Place) → checksFor k f r at (cond (within 4 5 k) ahead 0) ≡ checksFor k f r at ahead
+  checks-ahead at = go (within 4 5 k) refl
+    where
+      go : (b : Bool) → within 4 5 k ≡ b → checksFor k f r at (cond b ahead 0) ≡ checksFor k f r at ahead
+      go true h = refl
+      go false h = ap (λ (l : List (ℕ × Bool)). presenceChecks k at ++ l) (neither k h _ _ _ _ _ _ _ _ _ _ _ _ _ _)
+
+  pub effect-ahead : (z : ℕ) → effectFor k f r z (cond (within 4 5 k) ahead 0) ≡ effectFor k f r z ahead
+  effect-ahead z = go (within 4 5 k) refl
+    where
+      go : (b : Bool) → within 4 5 k ≡ b → effectFor k f r z (cond b ahead 0) ≡ effectFor k f r z ahead
+      go true h = refl
+      go false h = neither k h _ _ _ _ _ _ _ _ _ _ _ _ _ _

@@ -26,7 +26,7 @@ use Rattle.tick.proofs.Tick.{tickedIn}
 use Rattle.laws.proofs.BoundLaws.{within-e}
 use Rattle.laws.proofs.TickLaws.{tickedAt, places-ticked, length-kept, zone-ticked}
 use Rattle.rules.specs.Step.{effectFor, effectOf, stepOf}
-use Rattle.rules.specs.Kinds.{zoneBefore}
+use Rattle.rules.specs.Kinds.{zoneBefore, zoneAhead}
 use Rattle.rules.specs.Ticking.{atPlace, isFlying, OwnAdvance}
 use Rattle.rules.proofs.StepLaws.{number-is, field-accepted}
 use Rattle.rules.proofs.Refusals.{accepted-from-within}
@@ -116,7 +116,7 @@ module _ (f : Field) (amount : ℕ) where
 -- what a tick does, by its kind
 tick-effect : (f : Field) (r : Request) → r .kind ≡ 12 → effectOf f r ≡ ticked f (r .amount)
 unfolding effectOf
-tick-effect f r e = ap (λ (kind : ℕ). effectFor kind f r (zoneBefore f r)) e
+tick-effect f r e = ap (λ (kind : ℕ). effectFor kind f r (zoneBefore f r) (zoneAhead f r)) e
 
 pub own-advance : (f : Field) (r : Request) → r .kind ≡ 12 → stepOf f r .answer .number ≡ 0 → OwnAdvance f (r .amount) (stepOf f r .field)
 own-advance f r e n =

@@ -7,6 +7,7 @@ use lib.ListN.{length}
 use Rattle.request.specs.Input.{within, inRange, isEntry, isTick, ruleOf}
 use Rattle.request.specs.declared.Request.{Request}
 use Rattle.field.specs.declared.Aircraft.{Aircraft}
+use Rattle.field.specs.declared.Sequence.{Sequence}
 use Rattle.field.specs.declared.Field.{Field}
 use Rattle.field.specs.Boxes.{opposite, sideOf, at3000, at2000, lateral, missed, base, intermediate, finalApproach, runway, zoneOf, orderOf, entering, arrived, turnedAway, withFix, legFlownOut}
 use Rattle.questions.specs.declared.Place.{Place}
@@ -22,6 +23,10 @@ placeBefore f r = placeOf f (r .number)
 
 abbrev pub zoneBefore : Field → Request → ℕ
 zoneBefore f r = placeBefore f r .zone
+
+-- the zone of the leader of a request's aircraft; 0 where it has none
+abbrev pub zoneAhead : Field → Request → ℕ
+zoneAhead f r = leaderZone f (r .number)
 
 -- a zone that the kind starts from, by the rule of the kind
 unfoldable pub startsFrom : ℕ → ℕ → Bool
@@ -45,17 +50,17 @@ presenceChecks kind at = cond (isEntry kind) (absentChecks at) (cond (isTick kin
 abbrev pub flownOutCheck : Field → ℕ → ℕ × Bool
 flownOutCheck f z = (15, legFlownOut (aircraftAt f z 1))
 
--- "first in sequence or leader on the approach"
-unfoldable pub mayApproach : Field → ℕ → Bool
-mayApproach f number = isFirst (f .sequence) number || within 9 12 (leaderZone f number)
+-- "first in sequence or leader on the approach", with the leader in zone `ahead`
+unfoldable pub mayApproach : Sequence → ℕ → ℕ → Bool
+mayApproach s number ahead = isFirst s number || within 9 12 ahead
 
 -- "at most one aircraft on the opposite base"
 unfoldable pub baseFree : Field → ℕ → Bool
 baseFree f side = leb (howMany f (base (opposite side))) 1
 
--- "first in sequence, or leader in 11 or 12"
-unfoldable pub mayMerge : Field → ℕ → Bool
-mayMerge f number = isFirst (f .sequence) number || within 11 12 (leaderZone f number)
+-- "first in sequence, or leader in 11 or 12", with the leader in zone `ahead`
+unfoldable pub mayMerge : Sequence → ℕ → ℕ → Bool
+mayMerge s number ahead = isFirst s number || within 11 12 ahead
 
 -- "1 vertical entry to 3000. Needs, in order: potential under 2; nobody on the approach with that fix; missed, lateral and 3000
 -- zones of the side empty." Since (02, 2.5) 3000 may be occupied where 2000 below it is empty.
@@ -78,12 +83,12 @@ descendNeeds f z = (21, isEmpty f (at2000 z)) ∷ []
 
 -- "4 approach, from 2000 or lateral to base of the same side. Needs: first in sequence or leader on the approach; then at most one
 -- aircraft on the opposite base. From lateral, an unmet need is no refusal"
-abbrev pub approachNeeds : Field → ℕ → ℕ → List (ℕ × Bool)
-approachNeeds f number z = (22, within 5 6 z || mayApproach f number) ∷ (23, within 5 6 z || baseFree f (sideOf z)) ∷ []
+abbrev pub approachNeeds : Field → ℕ → ℕ → ℕ → List (ℕ × Bool)
+approachNeeds f number z ahead = (22, within 5 6 z || mayApproach (f .sequence) number ahead) ∷ (23, within 5 6 z || baseFree f (sideOf z)) ∷ []
 
 -- "5 merge, base to intermediate", the leg flown out: "first in sequence, or leader in 11 or 12"
-abbrev pub mergeNeeds : Field → ℕ → ℕ → List (ℕ × Bool)
-mergeNeeds f number z = flownOutCheck f z ∷ (22, mayMerge f number) ∷ []
+abbrev pub mergeNeeds : Field → ℕ → ℕ → ℕ → List (ℕ × Bool)
+mergeNeeds f number z ahead = flownOutCheck f z ∷ (22, mayMerge (f .sequence) number ahead) ∷ []
 
 -- "6 intermediate to final"; "11 hold, from the missed zone": they need the leg flown out
 abbrev pub flownOutNeeds : Field → ℕ → List (ℕ × Bool)
@@ -139,10 +144,10 @@ unfoldable pub enteredAbove : Field → Request → Field
 enteredAbove f r = entered (madeRoom f (r .side)) r (at3000 (r .side))
 
 -- kind 4, from zone z: to base; "From lateral, an unmet need is no refusal: the aircraft goes to 2000 of its side and is accepted."
-unfoldable pub approached : Field → ℕ → ℕ → Field
-approached f number z =
+unfoldable pub approached : Field → ℕ → ℕ → ℕ → Field
+approached f number z ahead =
     cond (within 5 6 z)
-    (cond (mayApproach f number && baseFree f (sideOf z)) (moved f z (base (sideOf z))) (moved f z (at2000 (sideOf z))))
+    (cond (mayApproach (f .sequence) number ahead && baseFree f (sideOf z)) (moved f z (base (sideOf z))) (moved f z (at2000 (sideOf z))))
     (moved f z (base (sideOf z)))
 
 -- kind 7: "It leaves the sequence, keeps its fix, and has no leader."

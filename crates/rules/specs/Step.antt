@@ -9,12 +9,12 @@ use Rattle.request.specs.declared.Request.{Request}
 use Rattle.field.specs.declared.Field.{Field}
 use Rattle.field.specs.Boxes.{sideOf, lateral, intermediate, finalApproach, runway}
 use Rattle.questions.specs.declared.Place.{Place}
-use Rattle.questions.specs.Find.{placeOf, fixOf, leaderOf}
+use Rattle.questions.specs.Find.{placeOf, aircraftAt, leaderOf}
 use Rattle.bounds.specs.Bounds.{withinBounds}
 use Rattle.tick.specs.Tick.{ticked}
 use Rattle.rules.specs.declared.Answer.{Answer}
 use Rattle.rules.specs.declared.Stepped.{Stepped}
-use Rattle.rules.specs.Kinds.{placeBefore, zoneBefore, presenceChecks, verticalNeeds, lateralNeeds, descendNeeds, approachNeeds, mergeNeeds, flownOutNeeds, landNeeds, exitNeeds, moved, descended, headGone, entered, enteredAbove, approached, landed, exited, missedApproach, held, numberAt3000}
+use Rattle.rules.specs.Kinds.{placeBefore, zoneBefore, zoneAhead, presenceChecks, verticalNeeds, lateralNeeds, descendNeeds, approachNeeds, mergeNeeds, flownOutNeeds, landNeeds, exitNeeds, moved, descended, headGone, entered, enteredAbove, approached, landed, exited, missedApproach, held, numberAt3000}
 
 -- the entry of the twelve, for kinds 1 to 12, that belongs to the kind; the last for any other number
 abbrev pub byKind {ℓ} : {A : Type ℓ} → ℕ → A → A → A → A → A → A → A → A → A → A → A → A → A
@@ -22,15 +22,15 @@ byKind kind k1 k2 k3 k4 k5 k6 k7 k8 k9 k10 k11 k12 =
     cond (eqb kind 1) k1 (cond (eqb kind 2) k2 (cond (eqb kind 3) k3 (cond (eqb kind 4) k4 (cond (eqb kind 5) k5 (cond (eqb kind 6) k6
     (cond (eqb kind 7) k7 (cond (eqb kind 8) k8 (cond (eqb kind 9) k9 (cond (eqb kind 10) k10 (cond (eqb kind 11) k11 k12))))))))))
 
--- what each kind needs of the field besides, in order, of a request whose aircraft is at the place
-abbrev pub needsFor : ℕ → Field → Request → Place → List (ℕ × Bool)
-needsFor kind f r at =
+-- what each kind needs of the field besides, in order, of a request whose aircraft is at the place and its leader in zone `ahead`
+abbrev pub needsFor : ℕ → Field → Request → Place → ℕ → List (ℕ × Bool)
+needsFor kind f r at ahead =
     byKind kind
     (verticalNeeds f (r .side))
     (lateralNeeds f (r .side))
     (descendNeeds f (at .zone))
-    (approachNeeds f (r .number) (at .zone))
-    (mergeNeeds f (r .number) (at .zone))
+    (approachNeeds f (r .number) (at .zone) ahead)
+    (mergeNeeds f (r .number) (at .zone) ahead)
     (flownOutNeeds f (at .zone))
     (landNeeds f (at .zone))
     []
@@ -40,17 +40,17 @@ needsFor kind f r at =
     []
 
 -- all that a kind needs of the field, in order
-abbrev pub checksFor : ℕ → Field → Request → Place → List (ℕ × Bool)
-checksFor kind f r at = presenceChecks kind at ++ needsFor kind f r at
+abbrev pub checksFor : ℕ → Field → Request → Place → ℕ → List (ℕ × Bool)
+checksFor kind f r at ahead = presenceChecks kind at ++ needsFor kind f r at ahead
 
--- what each kind does to the field, of a request whose aircraft is in zone z
-abbrev pub effectFor : ℕ → Field → Request → ℕ → Field
-effectFor kind f r z =
+-- what each kind does to the field, of a request whose aircraft is in zone z and its leader in zone `ahead`
+abbrev pub effectFor : ℕ → Field → Request → ℕ → ℕ → Field
+effectFor kind f r z ahead =
     byKind kind
     (enteredAbove f r)
     (entered f r (lateral (r .side)))
     (descended f z)
-    (approached f (r .number) z)
+    (approached f (r .number) z ahead)
     (moved f z intermediate)
     (moved f intermediate finalApproach)
     (landed f r)
@@ -60,12 +60,12 @@ effectFor kind f r z =
     (held f z)
     (ticked f (r .amount))
 
--- the same of a request on a field, its aircraft where it is
+-- the same of a request on a field, its aircraft and its leader where they are
 unfoldable pub checksOf : Field → Request → List (ℕ × Bool)
-checksOf f r = checksFor (r .kind) f r (placeBefore f r)
+checksOf f r = checksFor (r .kind) f r (placeBefore f r) (zoneAhead f r)
 
 unfoldable pub effectOf : Field → Request → Field
-effectOf f r = effectFor (r .kind) f r (zoneBefore f r)
+effectOf f r = effectFor (r .kind) f r (zoneBefore f r) (zoneAhead f r)
 
 -- the number of a request on a field: 0 where it is accepted, else the first of "Turned away by the request" and then of "Turned away
 -- by the field", in order: "10 the field handed in breaks a bound", what the kind needs, "25 the field after the step would break a bound"
@@ -80,14 +80,14 @@ unfoldable pub numberAndZeros : ℕ → Answer
 numberAndZeros number = record { number = number; aircraft = 0; zone = 0; fix = 0; leader = 0; along = 0 }
 
 -- "An accepted answer has number 0, then the aircraft, its zone, fix and leader after the step (0 if none), and in `along` the other
--- aircraft that a hold moved (0 if none)", or an entry (02, 2.5): of an aircraft on the field after the step
-unfoldable pub acceptance : Field → ℕ → ℕ → Answer
-acceptance f number along =
+-- aircraft that a hold moved (0 if none)", or an entry (02, 2.5): of an aircraft that is at the place, on the field after the step
+unfoldable pub acceptance : Field → Place → ℕ → ℕ → Answer
+acceptance f at number along =
     record {
       number = 0;
       aircraft = number;
-      zone = placeOf f number .zone;
-      fix = fixOf f number;
+      zone = at .zone;
+      fix = aircraftAt f (at .zone) (at .place) .fix;
       leader = leaderOf (f .sequence) number;
       along = along;
     }
@@ -100,7 +100,7 @@ alongFor kind f r z = cond (eqb kind 1) (numberAt3000 f (r .side)) (cond (eqb ki
 unfoldable pub answerOf : Field → Request → Answer
 answerOf f r =
     cond (eqb (r .kind) 12) (numberAndZeros 0)
-    (acceptance (effectOf f r) (r .number) (alongFor (r .kind) f r (zoneBefore f r)))
+    (acceptance (effectOf f r) (placeOf (effectOf f r) (r .number)) (r .number) (alongFor (r .kind) f r (zoneBefore f r)))
 
 -- the step: "A refusal answers its number and zeros; the field is the one handed in."
 unfoldable pub stepOf : Field → Request → Stepped

@@ -5,8 +5,10 @@ use effects::number_at_3000;
 use field::Field;
 use field::boxes::side_of;
 use needs::check_number;
+use questions::Place;
 use questions::find::aircraft_at;
 use questions::find::leader_of;
+use questions::find::leader_zone;
 use questions::find::place_of;
 use request::Request;
 use request::input_number;
@@ -15,12 +17,14 @@ use rules::Stepped;
 ghost use mathlib.Core.Path.{_≡_};
 ghost use mathlib.Core.Bool.{cond};
 ghost use lib.Dec.{T, eqb};
-ghost use Rattle.request.specs.Input.{firstRefused, inputNumber};
+ghost use Rattle.request.specs.Input.{within, firstRefused, inputNumber};
+ghost use Rattle.questions.specs.Find.{placeOf};
 ghost use Rattle.bounds.specs.Bounds.{withinBounds};
+ghost use Rattle.rules.specs.Kinds.{zoneAhead};
 ghost use Rattle.rules.specs.Step.{checksOf, effectOf, numberOf, numberAndZeros, acceptance, alongFor, answerOf, stepOf};
 
 // The answer that has a number, and zeros.
-fn number_and_zeros(number: u16) -> Answer
+pub fn number_and_zeros(number: u16) -> Answer
     ensures { λ a. ⌜ a ≡ numberAndZeros number ⌝ }
 {
     Answer {
@@ -33,11 +37,10 @@ fn number_and_zeros(number: u16) -> Answer
     }
 }
 
-// The answer that accepts a request for an aircraft, from the field after the step.
-fn acceptance(f: Field, number: u16, along: u16) -> Answer
-    ensures { λ a. ⌜ a ≡ acceptance f number along ⌝ }
+// The answer that accepts a request for an aircraft at a place, from the field after the step.
+pub fn acceptance(f: Field, at: Place, number: u16, along: u16) -> Answer
+    ensures { λ a. ⌜ a ≡ acceptance f at number along ⌝ }
 {
-    let at = place_of(f, number);
     let a = aircraft_at(f, at.zone as usize, at.place);
     let s = f.sequence;
     Answer {
@@ -50,16 +53,37 @@ fn acceptance(f: Field, number: u16, along: u16) -> Answer
     }
 }
 
-// The answer to an accepted request whose aircraft was in a zone, from the field before the step and the field `g` after it.
-fn answer(f: Field, r: Request, zone: u8, g: Field) -> Answer
-    ensures { λ a. ⌜ a ≡ cond (eqb (r .kind) 12) (numberAndZeros 0) (acceptance g (r .number) (alongFor (r .kind) f r zone)) ⌝ }
+// The other aircraft that a request moves, whose own was in a zone, from the field before the step; 0 where there is none.
+pub fn along_of(f: Field, r: Request, zone: u8) -> u16
+    ensures { λ n. ⌜ n ≡ alongFor (r .kind) f r zone ⌝ }
 {
     let kind = r.kind;
     match kind {
-        1 => acceptance(g, r.number, number_at_3000(f, r.side)),
-        11 => acceptance(g, r.number, number_at_3000(f, side_of(zone as usize))),
-        12 => number_and_zeros(0),
-        _ => acceptance(g, r.number, 0),
+        1 => number_at_3000(f, r.side),
+        11 => number_at_3000(f, side_of(zone as usize)),
+        _ => 0,
+    }
+}
+
+// The answer to an accepted request, from the field after the step.
+fn answer(g: Field, r: Request, along: u16) -> Answer
+    ensures { λ a. ⌜ a ≡ cond (eqb (r .kind) 12) (numberAndZeros 0) (acceptance g (placeOf g (r .number)) (r .number) along) ⌝ }
+{
+    if r.kind == 12 {
+        return number_and_zeros(0);
+    }
+    let number = r.number;
+    acceptance(g, place_of(g, number), number, along)
+}
+
+// The zone of the leader of a request's aircraft, where its kind asks for it; else 0.
+fn zone_ahead(f: Field, r: Request) -> usize
+    ensures { λ z. ⌜ z ≡ cond (within 4 5 (r .kind)) (zoneAhead f r) 0 ⌝ }
+{
+    let kind = r.kind;
+    match kind {
+        4..=5 => leader_zone(f, r.number),
+        _ => 0,
     }
 }
 
@@ -78,14 +102,16 @@ fn unjudged(f: Field, r: Request) -> Stepped
     ensures { λ s. ⌜ s ≡ cond (eqb (firstRefused (checksOf f r)) 0) (record { answer = answerOf f r; field = effectOf f r }) (record { answer = numberAndZeros (firstRefused (checksOf f r)); field = f }) ⌝ }
 {
     let at = place_of(f, r.number);
-    let need = check_number(f, r, at);
+    let ahead = zone_ahead(f, r);
+    let need = check_number(f, r, at, ahead);
     if need != 0 {
         return turned_away(f, need);
     }
     let zone = at.zone;
-    let g = effect(f, r, zone);
+    let along = along_of(f, r, zone);
+    let g = effect(f, r, zone, ahead);
     Stepped {
-        answer: answer(f, r, zone, g),
+        answer: answer(g, r, along),
         field: g,
     }
 }

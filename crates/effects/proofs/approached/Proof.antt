@@ -16,8 +16,8 @@ chosen f z x y true = refl
 chosen f z x y false = refl
 
 -- the zone that the needs of the approach choose on a side
-abbrev chosenZone : Field → ℕ → ℕ → ℕ
-chosenZone f number side = cond (mayApproach f number && baseFree f side) (base side) (at2000 side)
+abbrev chosenZone : Field → ℕ → ℕ → ℕ → ℕ
+chosenZone f number ahead side = cond (mayApproach (f .sequence) number ahead && baseFree f side) (base side) (at2000 side)
 
 side-of-requires : tie.Need-side-of-requires
 side-of-requires c κs = search needs
@@ -39,8 +39,8 @@ returns c =
     let side = r .before .side-of .ensures in
     let lateral = sym (r .in-range .ensures) ∙ c .before .before .if1 .taken in
     c .moved .ensures
-    ∙ ap (moved (a .f) (a .zone)) (c .before .approach-zone .ensures ∙ ap (chosenZone (a .f) (a .number)) side)
-    ∙ chosen (a .f) (a .zone) _ _ (mayApproach (a .f) (a .number) && baseFree (a .f) (sideOf (a .zone)))
+    ∙ ap (moved (a .f) (a .zone)) (c .before .approach-zone .ensures ∙ ap (chosenZone (a .f) (a .number) (a .ahead)) side)
+    ∙ chosen (a .f) (a .zone) _ _ (mayApproach (a .f .sequence) (a .number) (a .ahead) && baseFree (a .f) (sideOf (a .zone)))
     ∙ sym (if-true _ _ lateral)
 
 cast-moved : tie.Need-cast-moved

@@ -26,7 +26,7 @@ may-approach-requires : tie.Need-may-approach-requires
 may-approach-requires c κs = search needs
 
 returns-2 : tie.Need-returns-2
-returns-2 c = sym (if-false _ _ (or-else (elsewhere (c .before .before)) (fails (c .before .may-approach .ensures) (c .if2 .taken))))
+returns-2 c = sym (if-false _ _ (or-else (elsewhere (c .before .before .before)) (fails (c .before .may-approach .ensures) (c .if2 .taken))))
 
 side-of-requires : tie.Need-side-of-requires
 side-of-requires c κs = search needs
@@ -40,9 +40,9 @@ with-need-requires c κs = search needs
 returns-3 : tie.Need-returns-3
 returns-3 c =
     let b = c .before .before .before in
-    let first = or-else (elsewhere (b .before .before)) (holds (b .before .may-approach .ensures) (b .if2 .left)) in
-    let free = c .before .base-free .ensures ∙ ap (baseFree (b .before .before .before .before .args .f)) (c .before .before .side-of .ensures) in
-    one-need 23 (c .with-need .ensures) (free ∙ sym (or-else (elsewhere (b .before .before)) refl)) ∙ sym (if-true _ _ first)
+    let first = or-else (elsewhere (b .before .before .before)) (holds (b .before .may-approach .ensures) (b .if2 .left)) in
+    let free = c .before .base-free .ensures ∙ ap (baseFree (b .before .before .before .before .before .args .f)) (c .before .before .side-of .ensures) in
+    one-need 23 (c .with-need .ensures) (free ∙ sym (or-else (elsewhere (b .before .before .before)) refl)) ∙ sym (if-true _ _ first)
 
 pub approach-number-spec : {M : Type 1} → statement M
 approach-number-spec =

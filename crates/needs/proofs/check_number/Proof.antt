@@ -17,11 +17,11 @@ use Rattle.needs.proofs.check_number.Statement.{statement}
 use Rattle.needs.proofs.check_number.Tie as tie
 
 -- the first number that refuses, by that of what stands first
-split : (f : Field) (r : Request) (at : Place) {n : ℕ} → n ≡ firstRefused (presenceChecks (r .kind) at)
-    → firstRefused (checksFor (r .kind) f r at) ≡ cond (eqb n 0) (firstRefused (needsFor (r .kind) f r at)) n
-split f r at e =
-    refused-append (presenceChecks (r .kind) at) (needsFor (r .kind) f r at) (presence-refuses (r .kind) at)
-    ∙ ap (λ (n : ℕ). cond (eqb n 0) (firstRefused (needsFor (r .kind) f r at)) n) (sym e)
+split : (f : Field) (r : Request) (at : Place) (ahead : ℕ) {n : ℕ} → n ≡ firstRefused (presenceChecks (r .kind) at)
+    → firstRefused (checksFor (r .kind) f r at ahead) ≡ cond (eqb n 0) (firstRefused (needsFor (r .kind) f r at ahead)) n
+split f r at ahead e =
+    refused-append (presenceChecks (r .kind) at) (needsFor (r .kind) f r at ahead) (presence-refuses (r .kind) at)
+    ∙ ap (λ (n : ℕ). cond (eqb n 0) (firstRefused (needsFor (r .kind) f r at ahead)) n) (sym e)
 
 presence-number-requires : tie.Need-presence-number-requires
 presence-number-requires c κs = search needs
@@ -29,7 +29,7 @@ presence-number-requires c κs = search needs
 returns : tie.Need-returns
 returns c =
     let a = c .before .before .args in
-    sym (split (a .f) (a .r) (a .at) (c .before .presence-number .ensures) ∙ if-false _ _ (ne-eqb _ _ (c .if1 .taken)))
+    sym (split (a .f) (a .r) (a .at) (a .ahead) (c .before .presence-number .ensures) ∙ if-false _ _ (ne-eqb _ _ (c .if1 .taken)))
 
 needs-number-requires : tie.Need-needs-number-requires
 needs-number-requires c κs = search needs
@@ -38,7 +38,7 @@ returns-2 : tie.Need-returns-2
 returns-2 c =
     let a = c .before .before .before .args in
     c .needs-number .ensures
-    ∙ sym (split (a .f) (a .r) (a .at) (c .before .before .presence-number .ensures) ∙ if-true _ _ (eq-eqb _ _ (c .before .if1 .left)))
+    ∙ sym (split (a .f) (a .r) (a .at) (a .ahead) (c .before .before .presence-number .ensures) ∙ if-true _ _ (eq-eqb _ _ (c .before .if1 .left)))
 
 pub check-number-spec : {M : Type 1} → statement M
 check-number-spec =

@@ -17,7 +17,7 @@ with-need-requires c κs = search needs
 
 returns : tie.Need-returns
 returns c =
-    let a = c .before .before .before .args in
+    let a = c .before .before .before .before .args in
     two-needs 15 22 (flownOutCheck (a .f) (a .zone) .1) refl (c .with-need .ensures) (c .before .before .flown-out-number .ensures) (c .before .may-merge .ensures)
 
 pub merge-number-spec : {M : Type 1} → statement M

@@ -3,7 +3,7 @@ use mathlib.Core.Path.{_≡_, sym, ap, _∙_}
 use mathlib.Core.Bool.{cond}
 use Prim.Native.Nat.{ℕ}
 use lib.Dec.{eqb}
-use Rattle.request.specs.Input.{firstRefused}
+use Rattle.request.specs.Input.{within, firstRefused}
 use Rattle.request.specs.declared.Request.{Request}
 use Rattle.field.specs.declared.Field.{Field}
 use Rattle.field.proofs.Parts.{is, is-not}
@@ -11,35 +11,58 @@ use Rattle.field.proofs.Tests.{if-true, if-false}
 use Rattle.questions.specs.declared.Place.{Place}
 use Rattle.rules.specs.declared.Answer.{Answer}
 use Rattle.rules.specs.declared.Stepped.{Stepped}
-use Rattle.rules.specs.Kinds.{placeBefore}
+use Rattle.questions.specs.Find.{placeOf}
+use Rattle.rules.specs.Kinds.{placeBefore, zoneBefore, zoneAhead}
 use Rattle.rules.specs.Step.{checksFor, effectFor, checksOf, effectOf, numberAndZeros, acceptance, alongFor, answerOf}
+use Rattle.rules.proofs.Checks.{checks-ahead, effect-ahead}
 use borrow.Author.Needs.{needs}
 use Rattle.step.proofs.unjudged.Statement.{statement}
 use Rattle.step.proofs.unjudged.Tie as tie
 
--- the number of the checks, by the place that was found
-checked : (f : Field) (r : Request) {at : Place} {n : ℕ} → at ≡ placeBefore f r → n ≡ firstRefused (checksFor (r .kind) f r at) → n ≡ firstRefused (checksOf f r)
+-- the leader's zone, where the kind asks for it
+abbrev asked : Field → Request → ℕ
+asked f r = cond (within 4 5 (r .kind)) (zoneAhead f r) 0
+
+-- the number of the checks, by the place and the leader's zone that were found
+checked : (f : Field) (r : Request) {at : Place} {ahead n : ℕ} → at ≡ placeBefore f r → ahead ≡ asked f r → n ≡ firstRefused (checksFor (r .kind) f r at ahead)
+    → n ≡ firstRefused (checksOf f r)
 unfolding checksOf
-checked f r p e = e ∙ ap (λ (at : Place). firstRefused (checksFor (r .kind) f r at)) p
+checked f r {at} {ahead} p q e =
+    e
+    ∙ ap (λ (a : Place). firstRefused (checksFor (r .kind) f r a ahead)) p
+    ∙ ap (λ (a : ℕ). firstRefused (checksFor (r .kind) f r (placeBefore f r) a)) q
+    ∙ ap firstRefused (checks-ahead (r .kind) f r (zoneAhead f r) (placeBefore f r))
+
+-- the field after it
+effected : (f : Field) (r : Request) {at : Place} {ahead : ℕ} {g : Field} → at ≡ placeBefore f r → ahead ≡ asked f r → g ≡ effectFor (r .kind) f r (at .zone) ahead → g ≡ effectOf f r
+unfolding effectOf
+effected f r {at} {ahead} p q e =
+    e
+    ∙ ap (λ (a : Place). effectFor (r .kind) f r (a .zone) ahead) p
+    ∙ ap (effectFor (r .kind) f r (zoneBefore f r)) q
+    ∙ effect-ahead (r .kind) f r (zoneAhead f r) (zoneBefore f r)
 
 -- the step by the field after it and the answer
-made : (f : Field) (r : Request) {at : Place} {g : Field} {a : Answer} → at ≡ placeBefore f r → g ≡ effectFor (r .kind) f r (at .zone)
-    → a ≡ cond (eqb (r .kind) 12) (numberAndZeros 0) (acceptance g (r .number) (alongFor (r .kind) f r (at .zone)))
+made : (f : Field) (r : Request) {at : Place} {along : ℕ} {g : Field} {a : Answer} → at ≡ placeBefore f r → along ≡ alongFor (r .kind) f r (at .zone) → g ≡ effectOf f r
+    → a ≡ cond (eqb (r .kind) 12) (numberAndZeros 0) (acceptance g (placeOf g (r .number)) (r .number) along)
     → _≡_ {A = Stepped} (record { answer = a; field = g }) (record { answer = answerOf f r; field = effectOf f r })
-unfolding answerOf effectOf
-made f r {at} {g} {a} p eg ea =
+unfolding answerOf
+made f r {at} {along} {g} {a} p el eg ea =
     ap (λ (b : Answer). stepped b g) ea
-    ∙ ap (λ (h : Field). stepped (answered h at) h) eg
-    ∙ ap (λ (q : Place). stepped (answered (effectFor (r .kind) f r (q .zone)) q) (effectFor (r .kind) f r (q .zone))) p
+    ∙ ap (λ (h : Field). stepped (answered h along) h) eg
+    ∙ ap (λ (n : ℕ). stepped (answered (effectOf f r) n) (effectOf f r)) (el ∙ ap (λ (q : Place). alongFor (r .kind) f r (q .zone)) p)
   where
     stepped : Answer → Field → Stepped
     stepped b h = record { answer = b; field = h }
 
-    answered : Field → Place → Answer
-    answered h q = cond (eqb (r .kind) 12) (numberAndZeros 0) (acceptance h (r .number) (alongFor (r .kind) f r (q .zone)))
+    answered : Field → ℕ → Answer
+    answered h n = cond (eqb (r .kind) 12) (numberAndZeros 0) (acceptance h (placeOf h (r .number)) (r .number) n)
 
 place-of-requires : tie.Need-place-of-requires
 place-of-requires c κs = search needs
+
+zone-ahead-requires : tie.Need-zone-ahead-requires
+zone-ahead-requires c κs = search needs
 
 check-number-requires : tie.Need-check-number-requires
 check-number-requires c κs = search needs
@@ -50,11 +73,15 @@ turned-away-requires c κs = search needs
 returns : tie.Need-returns
 returns c =
     let k = c .before .before in
-    let a = k .before .before .args in
-    let need = checked (a .f) (a .r) (k .before .place-of .ensures) (k .check-number .ensures) in
+    let z = k .before in
+    let a = z .before .before .args in
+    let need = checked (a .f) (a .r) (z .before .place-of .ensures) (z .zone-ahead .ensures) (k .check-number .ensures) in
     c .turned-away .ensures
     ∙ ap (λ (n : ℕ). record { answer = numberAndZeros n; field = a .f }) need
     ∙ sym (if-false _ _ (is-not need (c .before .if1 .taken)))
+
+along-of-requires : tie.Need-along-of-requires
+along-of-requires c κs = search needs
 
 effect-requires : tie.Need-effect-requires
 effect-requires c κs = search needs
@@ -64,21 +91,26 @@ answer-requires c κs = search needs
 
 returns-2 : tie.Need-returns-2
 returns-2 c =
-    let k = c .before .before .before in
-    let a = k .before .before .args in
-    let placed = k .before .place-of .ensures in
-    let need = checked (a .f) (a .r) placed (k .check-number .ensures) in
-    made (a .f) (a .r) placed (c .before .effect .ensures) (c .answer .ensures)
-    ∙ sym (if-true _ _ (is need (c .before .before .if1 .left)))
+    let l = c .before .before in
+    let k = l .before .before in
+    let z = k .before in
+    let a = z .before .before .args in
+    let placed = z .before .place-of .ensures in
+    let led = z .zone-ahead .ensures in
+    let need = checked (a .f) (a .r) placed led (k .check-number .ensures) in
+    made (a .f) (a .r) placed (l .along-of .ensures) (effected (a .f) (a .r) placed led (c .before .effect .ensures)) (c .answer .ensures)
+    ∙ sym (if-true _ _ (is need (l .before .if1 .left)))
 
 pub unjudged-spec : {M : Type 1} → statement M
 unjudged-spec =
     tie.close
     (tie.spec
     place-of-requires
+    zone-ahead-requires
     check-number-requires
     turned-away-requires
     returns
+    along-of-requires
     effect-requires
     answer-requires
     returns-2)
