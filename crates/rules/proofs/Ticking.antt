@@ -114,7 +114,7 @@ module _ (f : Field) (amount : ℕ) where
         }
 
 -- what a tick does, by its kind
-tick-effect : (f : Field) (r : Request) → r .kind ≡ 12 → effectOf f r ≡ ticked f (r .amount)
+pub tick-effect : (f : Field) (r : Request) → r .kind ≡ 12 → effectOf f r ≡ ticked f (r .amount)
 unfolding effectOf
 tick-effect f r e = ap (λ (kind : ℕ). effectFor kind f r (zoneBefore f r) (zoneAhead f r)) e
 

@@ -6,15 +6,17 @@ use mathlib.Core.Bool.{true, cond}
 use Prim.Native.Nat.{ℕ}
 use lib.Dec.{eqb}
 use borrow.Author.Tests.{eq-eqb, ne-eqb, eqb-true, eqb-false}
-use Rattle.request.specs.Input.{firstRefused, inputNumber}
+use Rattle.request.specs.Input.{within, firstRefused, inputNumber}
 use Rattle.request.specs.declared.Request.{Request}
 use Rattle.field.specs.declared.Field.{Field}
 use Rattle.bounds.specs.Bounds.{withinBounds}
-use Rattle.rules.specs.Step.{checksOf, effectOf, numberOf, numberAndZeros, answerOf, stepOf}
+use Rattle.questions.specs.declared.Place.{Place}
+use Rattle.rules.specs.Kinds.{placeBefore, zoneBefore, zoneAhead}
+use Rattle.rules.specs.Step.{checksFor, effectFor, checksOf, effectOf, numberOf, numberAndZeros, answerOf, stepOf}
 use Rattle.field.proofs.Tests.{decided, if-true, if-false, either-way}
 use Rattle.rules.specs.declared.Stepped.{Stepped}
 use Rattle.rules.proofs.StepLaws.{answer-number}
-use Rattle.rules.proofs.Checks.{refused-append, checks-refuse}
+use Rattle.rules.proofs.Checks.{refused-append, checks-refuse, checks-ahead, effect-ahead}
 
 module _ (f : Field) (r : Request) where
   -- the number, test by test
@@ -89,3 +91,28 @@ module _ (f : Field) (r : Request) where
 
     pub neither-is-step : unjudgedStep ≡ stepOf f r
     neither-is-step = unjudged-is-step i within-before within-after
+
+-- ---- what is found once and handed on
+
+-- the leader's zone, where the kind asks for it
+abbrev pub asked : Field → Request → ℕ
+asked f r = cond (within 4 5 (r .kind)) (zoneAhead f r) 0
+
+-- the number of the checks, by the place and the leader's zone that were found
+pub checked : (f : Field) (r : Request) {at : Place} {ahead n : ℕ} → at ≡ placeBefore f r → ahead ≡ asked f r → n ≡ firstRefused (checksFor (r .kind) f r at ahead)
+    → n ≡ firstRefused (checksOf f r)
+unfolding checksOf
+checked f r {at} {ahead} p q e =
+    e
+    ∙ ap (λ (a : Place). firstRefused (checksFor (r .kind) f r a ahead)) p
+    ∙ ap (λ (a : ℕ). firstRefused (checksFor (r .kind) f r (placeBefore f r) a)) q
+    ∙ ap firstRefused (checks-ahead (r .kind) f r (zoneAhead f r) (placeBefore f r))
+
+-- the field after it
+pub effected : (f : Field) (r : Request) {at : Place} {ahead : ℕ} {g : Field} → at ≡ placeBefore f r → ahead ≡ asked f r → g ≡ effectFor (r .kind) f r (at .zone) ahead → g ≡ effectOf f r
+unfolding effectOf
+effected f r {at} {ahead} p q e =
+    e
+    ∙ ap (λ (a : Place). effectFor (r .kind) f r (a .zone) ahead) p
+    ∙ ap (effectFor (r .kind) f r (zoneBefore f r)) q
+    ∙ effect-ahead (r .kind) f r (zoneAhead f r) (zoneBefore f r)

@@ -3,7 +3,6 @@ use mathlib.Core.Path.{_≡_, sym, ap, _∙_}
 use mathlib.Core.Bool.{cond}
 use Prim.Native.Nat.{ℕ}
 use lib.Dec.{eqb}
-use Rattle.request.specs.Input.{within, firstRefused}
 use Rattle.request.specs.declared.Request.{Request}
 use Rattle.field.specs.declared.Field.{Field}
 use Rattle.field.proofs.Parts.{is, is-not}
@@ -12,35 +11,12 @@ use Rattle.questions.specs.declared.Place.{Place}
 use Rattle.rules.specs.declared.Answer.{Answer}
 use Rattle.rules.specs.declared.Stepped.{Stepped}
 use Rattle.questions.specs.Find.{placeOf}
-use Rattle.rules.specs.Kinds.{placeBefore, zoneBefore, zoneAhead}
-use Rattle.rules.specs.Step.{checksFor, effectFor, checksOf, effectOf, numberAndZeros, acceptance, alongFor, answerOf}
-use Rattle.rules.proofs.Checks.{checks-ahead, effect-ahead}
+use Rattle.rules.specs.Kinds.{placeBefore}
+use Rattle.rules.specs.Step.{effectOf, numberAndZeros, acceptance, alongFor, answerOf}
+use Rattle.step.proofs.Steps.{checked, effected}
 use borrow.Author.Needs.{needs}
 use Rattle.step.proofs.unjudged.Statement.{statement}
 use Rattle.step.proofs.unjudged.Tie as tie
-
--- the leader's zone, where the kind asks for it
-abbrev asked : Field → Request → ℕ
-asked f r = cond (within 4 5 (r .kind)) (zoneAhead f r) 0
-
--- the number of the checks, by the place and the leader's zone that were found
-checked : (f : Field) (r : Request) {at : Place} {ahead n : ℕ} → at ≡ placeBefore f r → ahead ≡ asked f r → n ≡ firstRefused (checksFor (r .kind) f r at ahead)
-    → n ≡ firstRefused (checksOf f r)
-unfolding checksOf
-checked f r {at} {ahead} p q e =
-    e
-    ∙ ap (λ (a : Place). firstRefused (checksFor (r .kind) f r a ahead)) p
-    ∙ ap (λ (a : ℕ). firstRefused (checksFor (r .kind) f r (placeBefore f r) a)) q
-    ∙ ap firstRefused (checks-ahead (r .kind) f r (zoneAhead f r) (placeBefore f r))
-
--- the field after it
-effected : (f : Field) (r : Request) {at : Place} {ahead : ℕ} {g : Field} → at ≡ placeBefore f r → ahead ≡ asked f r → g ≡ effectFor (r .kind) f r (at .zone) ahead → g ≡ effectOf f r
-unfolding effectOf
-effected f r {at} {ahead} p q e =
-    e
-    ∙ ap (λ (a : Place). effectFor (r .kind) f r (a .zone) ahead) p
-    ∙ ap (effectFor (r .kind) f r (zoneBefore f r)) q
-    ∙ effect-ahead (r .kind) f r (zoneAhead f r) (zoneBefore f r)
 
 -- the step by the field after it and the answer
 made : (f : Field) (r : Request) {at : Place} {along : ℕ} {g : Field} {a : Answer} → at ≡ placeBefore f r → along ≡ alongFor (r .kind) f r (at .zone) → g ≡ effectOf f r

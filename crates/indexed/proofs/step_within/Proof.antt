@@ -1,0 +1,169 @@
+-- `indexed::step_within` meets its contract: within the bounds the index finds what a look through the queues finds. Assumes nothing.
+use mathlib.Core.Path.{_≡_, sym, ap, _∙_, subst⁻¹}
+use mathlib.Core.Logic.{inl, inr, ⊎-elim}
+use mathlib.Core.Bool.{true, cond}
+use Prim.Native.Nat.{ℕ}
+use native.Mathlib.Omega.{arith}
+use lib.Dec.{T, eqb}
+use borrow.Author.Tests.{eq-eqb}
+use Rattle.request.specs.Input.{firstRefused}
+use Rattle.request.specs.declared.Request.{Request}
+use Rattle.field.specs.declared.Field.{Field}
+use Rattle.field.proofs.Parts.{is-not, holds, fails}
+use Rattle.field.proofs.Tests.{decided, pass, passed, if-true, if-false}
+use Rattle.questions.specs.declared.Place.{Place}
+use Rattle.questions.specs.Find.{placeOf}
+use Rattle.bounds.specs.Bounds.{withinBounds}
+use Rattle.finder.specs.Finder.{indexOf}
+use Rattle.finder.proofs.Theorems.{indexed-as-looked}
+use Rattle.rules.specs.Kinds.{placeBefore}
+use Rattle.rules.specs.Step.{checksOf, effectOf, numberOf, numberAndZeros, acceptance, alongFor, answerOf}
+use Rattle.step.proofs.Steps.{number-by, checked, effected}
+use borrow.Author.Needs.{needs}
+use Rattle.indexed.specs.declared.SteppedIndexed.{SteppedIndexed}
+use Rattle.indexed.specs.Indexed.{withIndex, numberIndexed}
+use Rattle.indexed.proofs.Steps.{turned-away, let-through, number-within, field-within, asked-found, tick-leaves}
+use Rattle.indexed.proofs.step_within.Statement.{statement}
+use Rattle.indexed.proofs.step_within.Tie as tie
+
+-- the step by the field after it
+made : (f : Field) (r : Request) {at : Place} {along : ℕ} {g : Field} → at ≡ placeBefore f r → along ≡ alongFor (r .kind) f r (at .zone) → g ≡ effectOf f r
+    → _≡_ {A = SteppedIndexed} (record { answer = cond (eqb (r .kind) 12) (numberAndZeros 0) (acceptance g (placeOf g (r .number)) (r .number) along); after = withIndex g })
+    (record { answer = answerOf f r; after = withIndex (effectOf f r) })
+unfolding answerOf
+made f r {at} {along} {g} p el eg =
+    ap (λ (h : Field). stepped h along) eg ∙ ap (stepped (effectOf f r)) (el ∙ ap (λ (q : Place). alongFor (r .kind) f r (q .zone)) p)
+  where
+    stepped : Field → ℕ → SteppedIndexed
+    stepped h n = record { answer = cond (eqb (r .kind) 12) (numberAndZeros 0) (acceptance h (placeOf h (r .number)) (r .number) n); after = withIndex h }
+
+-- ---- the way back to the start
+abbrev start : tie.After-check-number → tie.Start
+start c = c .before .before .before .before .before
+
+-- where the aircraft was found
+found : (c : tie.After-check-number) → c .before .before .find .result ≡ placeBefore (start c .args .x .field) (start c .args .r)
+found c =
+    let s = start c in
+    c .before .before .find .ensures ∙ indexed-as-looked (s .args .x) (s .pre .0 .1) (s .args .r .number)
+
+-- the number of the needs
+need : (c : tie.After-check-number) → c .check-number .result ≡ firstRefused (checksOf (start c .args .x .field) (start c .args .r))
+need c =
+    let s = start c in
+    checked (s .args .x .field) (s .args .r) (found c) (asked-found (s .args .x) (s .pre .0 .1) (s .args .r) (c .before .zone-ahead .ensures)) (c .check-number .ensures)
+
+-- the number of the step, as far as the needs
+number : (c : tie.After-check-number) → let s = start c in let f = s .args .x .field in let r = s .args .r in
+    numberOf f r ≡ cond (eqb (firstRefused (checksOf f r)) 0) (cond (withinBounds (effectOf f r)) 0 25) (firstRefused (checksOf f r))
+number c =
+    let s = start c in
+    number-by (s .args .x .field) (s .args .r) ∙ if-true _ _ (eq-eqb _ _ (s .pre .0 .0)) ∙ if-true _ _ (field-within (s .args .x) (s .pre .0 .1))
+
+same-number : (c : tie.After-check-number) → numberIndexed (start c .args .x) (start c .args .r) ≡ numberOf (start c .args .x .field) (start c .args .r)
+same-number c = let s = start c in number-within (s .args .x) (s .args .r) (s .pre .0 .0) (passed (s .pre .0 .1))
+
+-- the needs are met
+met : (c : tie.Else1) → firstRefused (checksOf (start (c .before) .args .x .field) (start (c .before) .args .r)) ≡ 0
+met c = sym (need (c .before)) ∙ c .if1 .left
+
+-- the field after it
+after : (c : tie.After-effect) → let s = start (c .before .before .before) in c .effect .result ≡ effectOf (s .args .x .field) (s .args .r)
+after c =
+    let k = c .before .before .before in
+    let s = start k in
+    effected (s .args .x .field) (s .args .r) (found k) (asked-found (s .args .x) (s .pre .0 .1) (s .args .r) (k .before .zone-ahead .ensures)) (c .effect .ensures)
+
+-- it is within the bounds: it was judged, or 25 is not the number
+bounded : (c : tie.Joined2) → let s = start (c .before .before .before .before) in withinBounds (effectOf (s .args .x .field) (s .args .r)) ≡ true
+bounded c =
+    let e = c .before .before .before in
+    let k = e .before in
+    let s = start k in
+    ⊎-elim (λ j. holds (j .1 .ensures ∙ ap withinBounds (after (c .before))) (j .2 .left))
+    (λ j.
+    elim (decided (withinBounds (effectOf (s .args .x .field) (s .args .r)))) [
+      | inl t ↦ t
+      | inr t ↦ absurd (s .pre .1 (j .left) (number k ∙ if-true _ _ (eq-eqb _ _ (met e)) ∙ if-false _ _ t))
+    ])
+    (c .if2 .came)
+
+find-requires : tie.Need-find-requires
+find-requires c κs = search needs
+
+zone-ahead-requires : tie.Need-zone-ahead-requires
+zone-ahead-requires c κs = search needs
+
+check-number-requires : tie.Need-check-number-requires
+check-number-requires c κs = search needs
+
+turned-away-requires : tie.Need-turned-away-requires
+turned-away-requires c κs = search needs
+
+returns : tie.Need-returns
+returns c =
+    let k = c .before .before in
+    let s = start k in
+    let t = c .before .if1 .taken in
+    let first = same-number k ∙ number k ∙ if-false _ _ (is-not (need k) t) ∙ sym (need k) in
+    c .turned-away .ensures ∙ turned-away (s .args .x) (s .args .r) first t
+
+along-of-requires : tie.Need-along-of-requires
+along-of-requires c κs = search needs
+
+effect-requires : tie.Need-effect-requires
+effect-requires c κs = search needs
+
+within-bounds-requires : tie.Need-within-bounds-requires
+within-bounds-requires c κs = search needs
+
+turned-away-requires-2 : tie.Need-turned-away-requires-2
+turned-away-requires-2 c κs = search needs
+
+returns-2 : tie.Need-returns-2
+returns-2 c =
+    let w = c .before .before in
+    let e = w .before .before in
+    let l = e .before .before in
+    let k = l .before in
+    let s = start k in
+    let broken = fails (w .within-bounds .ensures ∙ ap withinBounds (after e)) (c .before .if3 .taken) in
+    let first = same-number k ∙ number k ∙ if-true _ _ (eq-eqb _ _ (met l)) ∙ if-false _ _ broken in
+    c .turned-away2 .ensures ∙ turned-away (s .args .x) (s .args .r) first (λ z. omega arith)
+
+accepted-requires : tie.Need-accepted-requires
+accepted-requires c κs =
+    let s = start (c .before .before .before .before) in
+    (
+      subst⁻¹ (λ (g : Field). T (withinBounds g)) (after (c .before)) (pass (bounded c)),
+      (λ k. tick-leaves (s .args .x) (s .pre .0 .1) (s .args .r) k ∙ sym (ap indexOf (after (c .before)))),
+    )
+
+returns-3 : tie.Need-returns-3
+returns-3 c =
+    let j = c .before in
+    let l = j .before .before in
+    let e = l .before in
+    let k = e .before in
+    let s = start k in
+    let zero = number k ∙ if-true _ _ (eq-eqb _ _ (met e)) ∙ if-true _ _ (bounded j) in
+    c .accepted .ensures
+    ∙ made (s .args .x .field) (s .args .r) (found k) (l .along-of .ensures) (after (j .before))
+    ∙ let-through (s .args .x) (s .args .r) (same-number k ∙ zero) zero
+
+pub step-within-spec : {M : Type 1} → statement M
+step-within-spec =
+    tie.close
+    (tie.spec
+    find-requires
+    zone-ahead-requires
+    check-number-requires
+    turned-away-requires
+    returns
+    along-of-requires
+    effect-requires
+    within-bounds-requires
+    turned-away-requires-2
+    returns-2
+    accepted-requires
+    returns-3)
