@@ -13,11 +13,14 @@ use Rattle.field.specs.declared.Field.{Field}
 use Rattle.field.specs.declared.Legs.{Legs}
 use Rattle.field.specs.Boxes.{emptyField}
 use Rattle.rules.specs.declared.Answer.{Answer}
-use Rattle.rules.specs.declared.Stepped.{Stepped}
-use Rattle.rules.specs.Step.{stepOf}
+use Rattle.finder.specs.declared.Indexed.{Indexed}
+use Rattle.indexed.specs.declared.SteppedIndexed.{SteppedIndexed}
+use Rattle.indexed.specs.Indexed.{withIndex, numberIndexed, stepIndexed}
+use Rattle.indexed.proofs.Own.{number-own, step-own}
+use Rattle.rules.specs.Step.{numberOf, stepOf}
 use Rattle.rules.specs.Play.{fieldAfter, played}
 use Rattle.rules.specs.Reason.{Sound}
-use Rattle.reason.proofs.Reason.{reason-kept}
+use Rattle.reason.proofs.Reason.{reason-kept, neither-10-nor-25}
 use Rattle.playing.specs.Playing.{answersFrom}
 use Rattle.playing.specs.Log.{entryOf, logOf}
 use Rattle.playing.proofs.Logs.{sets-append}
@@ -39,31 +42,57 @@ module _ where
   rest-none (q ∷ rs) zero e = absurd (let z : _≡_ {A = ℕ} 0 1 = cc in omega arith)
   rest-none (q ∷ rs) (suc i) e = rest-none rs i e
 
+-- a field that was made with its index beside it has its own
+pub made-own : (f : Field) {x : Indexed} → x ≡ withIndex f → x ≡ withIndex (x .field)
+unfolding withIndex
+made-own f e = e ∙ sym (ap (λ (y : Indexed). withIndex (y .field)) e)
+
 -- ---- the file
 none-left : (rs : List Request) (i : ℕ) → readingAt rs i ≡ End → length rs ≤ i
 none-left [] i e = omega arith
 none-left (q ∷ rs) zero e = absurd (let z : _≡_ {A = ℕ} 0 1 = cc in omega arith)
 none-left (q ∷ rs) (suc i) e = let h = none-left rs i e in omega arith
 
-pub record Playing (rs : List Request) (f₀ : Field) (log₀ : List ℕ) (log : List ℕ) (f : Field) (i : ℕ) : Type 0 where
+-- x is the field that is reached, with its index
+pub record Playing (rs : List Request) (x₀ : Indexed) (log₀ : List ℕ) (log : List ℕ) (x : Indexed) (i : ℕ) : Type 0 where
   pub within : i ≤ length rs
   pub same : length log ≡ length log₀
-  pub logged : sets log (7 * i) (logOf (played f (drop i rs))) ≡ sets log₀ 0 (logOf (played f₀ rs))
-  pub fields : fieldAfter f (drop i rs) ≡ fieldAfter f₀ rs
-  pub sound : Sound f
+  pub logged : sets log (7 * i) (logOf (played (x .field) (drop i rs))) ≡ sets log₀ 0 (logOf (played (x₀ .field) rs))
+  pub fields : fieldAfter (x .field) (drop i rs) ≡ fieldAfter (x₀ .field) rs
+  pub sound : Sound (x .field)
+  pub own : x ≡ withIndex (x .field)
 
-pub playing-none : (rs : List Request) (f : Field) (log : List ℕ) → Sound f → Playing rs f log log f 0
-playing-none rs f log s = record { within = omega arith; same = refl; logged = refl; fields = refl; sound = s }
+pub playing-none : (rs : List Request) (x : Indexed) (log : List ℕ) → Sound (x .field) → x ≡ withIndex (x .field) → Playing rs x log log x 0
+playing-none rs x log s o = record { within = omega arith; same = refl; logged = refl; fields = refl; sound = s; own = o }
 
-module _ (rs : List Request) {f₀ : Field} {log₀ log : List ℕ} {f : Field} {i : ℕ} (p : Playing rs f₀ log₀ log f i) where
+module _ (rs : List Request) {x₀ : Indexed} {log₀ log : List ℕ} {x : Indexed} {i : ℕ} (p : Playing rs x₀ log₀ log x i) where
+  abbrev f₀ : Field
+  f₀ = x₀ .field
+
+  abbrev f : Field
+  f = x .field
+
+  -- the step of the field that is reached
+  pub stepped-own : (r : Request) → stepIndexed x r ≡ record { answer = stepOf f r .answer; after = withIndex (stepOf f r .field) }
+  stepped-own r = ap (λ (y : Indexed). stepIndexed y r) (p .own) ∙ step-own f r
+
+  -- neither 10 nor 25 is answered
+  pub neither : (r : Request) → (numberIndexed x r ≡ 10 → ⊥) × (numberIndexed x r ≡ 25 → ⊥)
+  neither r =
+      let e : numberIndexed x r ≡ numberOf f r = ap (λ (y : Indexed). numberIndexed y r) (p .own) ∙ number-own f r in
+      let n = neither-10-nor-25 f (p .sound) r in
+      ((λ h. n .0 (sym e ∙ h)), (λ h. n .1 (sym e ∙ h)))
+
   -- one request more
-  pub playing-more : (r : Request) (s : Stepped) {log' : List ℕ} → readingAt rs i ≡ One r → s ≡ stepOf f r → log' ≡ sets log (7 * i) (entryOf (r, s .answer))
-      → Playing rs f₀ log₀ log' (s .field) (i + 1)
-  playing-more r s {log'} e q w =
+  pub playing-more : (r : Request) (s : SteppedIndexed) {log' : List ℕ} → readingAt rs i ≡ One r → s ≡ stepIndexed x r → log' ≡ sets log (7 * i) (entryOf (r, s .answer))
+      → Playing rs x₀ log₀ log' (s .after) (i + 1)
+  unfolding withIndex
+  playing-more r s {log'} e q' w =
+      let q : s ≡ record { answer = stepOf f r .answer; after = withIndex (stepOf f r .field) } = q' ∙ stepped-own r in
       let d : drop i rs ≡ r ∷ drop (i + 1) rs = rw (add-one) (rest-here rs i r e) in
-      let rest = logOf (played (s .field) (drop (i + 1) rs)) in
+      let rest = logOf (played (s .after .field) (drop (i + 1) rs)) in
       let ps : logOf (played f (drop i rs)) ≡ entryOf (r, s .answer) ++ rest =
-      ap (λ (l : List Request). logOf (played f l)) d ∙ ap (λ (x : Stepped). entryOf (r, x .answer) ++ logOf (played (x .field) (drop (i + 1) rs))) (sym q) in
+      ap (λ (l : List Request). logOf (played f l)) d ∙ ap (λ (t : SteppedIndexed). entryOf (r, t .answer) ++ logOf (played (t .after .field) (drop (i + 1) rs))) (sym q) in
       let n : 7 * (i + 1) ≡ 7 * i + 7 = omega arith in
       let h = here rs i r e in
       record {
@@ -71,14 +100,15 @@ module _ (rs : List Request) {f₀ : Field} {log₀ log : List ℕ} {f : Field} 
         same = ap length w ∙ length-sets log (7 * i) (entryOf (r, s .answer)) ∙ p .same;
         logged = ap (λ (l : List ℕ). sets l (7 * (i + 1)) rest) w ∙ ap (λ (k : ℕ). sets (sets log (7 * i) (entryOf (r, s .answer))) k rest) n
             ∙ sym (sets-append log (7 * i) (entryOf (r, s .answer)) rest) ∙ sym (ap (sets log (7 * i)) ps) ∙ p .logged;
-        fields = ap (λ (x : Stepped). fieldAfter (x .field) (drop (i + 1) rs)) q ∙ sym (ap (fieldAfter f) d) ∙ p .fields;
-        sound = subst⁻¹ (λ (x : Stepped). Sound (x .field)) q (reason-kept f (p .sound) r .sound);
+        fields = ap (λ (t : SteppedIndexed). fieldAfter (t .after .field) (drop (i + 1) rs)) q ∙ sym (ap (fieldAfter f) d) ∙ p .fields;
+        sound = subst⁻¹ (λ (t : SteppedIndexed). Sound (t .after .field)) q (reason-kept f (p .sound) r .sound);
+        own = subst⁻¹ (λ (t : SteppedIndexed). t .after ≡ withIndex (t .after .field)) q refl;
       }
 
   -- where the field reached is put into one of two, at i % 2, it is read there
-  pub playing-turn : (fields : List Field) → length fields ≡ 2 → (d : Field) → Playing rs f₀ log₀ log (getD (set fields (i % 2) f) (i % 2) d) i
+  pub playing-turn : (fields : List Indexed) → length fields ≡ 2 → (d : Indexed) → Playing rs x₀ log₀ log (getD (set fields (i % 2) x) (i % 2) d) i
   playing-turn fields e d =
-      subst⁻¹ (λ (g : Field). Playing rs f₀ log₀ log g i) (getD-set-same fields (i % 2) f d (let h : i % 2 < 2 = omega arith in omega arith)) p
+      subst⁻¹ (λ (y : Indexed). Playing rs x₀ log₀ log y i) (getD-set-same fields (i % 2) x d (let h : i % 2 < 2 = omega arith in omega arith)) p
 
   -- none is left: all is in the log, and the field is the last
   module _ (z : readingAt rs i ≡ End) where

@@ -2,6 +2,11 @@
 use field::Field;
 use field::Legs;
 use field::boxes::empty_field;
+use finder::Indexed;
+use indexed::SteppedIndexed;
+use indexed::step_indexed;
+use indexed::step_indexed_unjudged;
+use indexed::with_index;
 use leg::of_sixty_fourths;
 use practice::FileLegs;
 use practice::Reading;
@@ -11,9 +16,6 @@ use practice::request_at;
 use questions::counts::present_on;
 use request::Request;
 use rules::Answer;
-use rules::Stepped;
-use step::step;
-use step::step_unjudged;
 ghost use mathlib.Core.Path.{_≡_};
 ghost use mathlib.Core.List.{_++_};
 ghost use Prim.Native.Nat.{_+_, _*_, _≤_, _<_};
@@ -25,7 +27,7 @@ ghost use Rattle.practice.specs.Requests.{requestsOf};
 ghost use Rattle.practice.specs.Practice.{practiceOf};
 ghost use Rattle.field.specs.Boxes.{emptyField};
 ghost use Rattle.bounds.specs.Bounds.{legalLegs};
-ghost use Rattle.rules.specs.Step.{numberOf, stepOf};
+ghost use Rattle.indexed.specs.Indexed.{numberIndexed, stepIndexed};
 ghost use Rattle.playing.specs.Playing.{legsInMiles, noLegs, answersFrom, presentFrom, fieldFrom, answersOf, playedOf};
 ghost use Rattle.playing.specs.Log.{entryOf, logOf};
 
@@ -53,15 +55,15 @@ fn legs_in_miles(legs: FileLegs) -> Legs
     }
 }
 
-// The step of a request whose number is neither 10 nor 25, with the field judged before and after, or not.
-fn stepped(f: Field, r: Request, judged: bool) -> Stepped
-    requires { ⌜ (numberOf f r ≡ 10 → ⊥) × (numberOf f r ≡ 25 → ⊥) ⌝ }
-    ensures { λ s. ⌜ s ≡ stepOf f r ⌝ }
+// The step of a request whose number is neither 10 nor 25, with the field and its index judged before and the field after, or nothing.
+fn stepped(x: Indexed, r: Request, judged: bool) -> SteppedIndexed
+    requires { ⌜ (numberIndexed x r ≡ 10 → ⊥) × (numberIndexed x r ≡ 25 → ⊥) ⌝ }
+    ensures { λ s. ⌜ s ≡ stepIndexed x r ⌝ }
 {
     if judged {
-        return step(f, r);
+        return step_indexed(x, r);
     }
-    step_unjudged(f, r)
+    step_indexed_unjudged(x, r)
 }
 
 // Writes what the log holds of a request and its answer, from a place on.
@@ -80,30 +82,31 @@ fn put_entry(log: &mut [u16], at: usize, r: Request, a: Answer)
 }
 
 // Plays the requests of a body from the empty field into the log.
-// Two fields take turns, the one before a request and the one after it. They need not be judged, since from an empty field with legal
-// legs neither 10 nor 25 is answered.
+// Two fields take turns, each with its index: the one before a request and the one after it. They need not be judged, since from an empty field
+// with legal legs neither 10 nor 25 is answered.
 fn play_body(body: &[u8], legs: Legs, judged: bool, log: &mut [u16]) -> Played
     requires { ⌜ (length (requestsOf (now body)) ≤ mostRequests) × (7 * mostRequests ≤ length (now log)) ⌝ }
     requires { ⌜ T (legalLegs legs) ⌝ }
     ensures { λ r. ⌜ r ≡ record { number = 0; requests = length (requestsOf (now (body .entry))); present = presentFrom legs (requestsOf (now (body .entry))); field = fieldFrom legs (requestsOf (now (body .entry))) } ⌝ }
     ensures { λ r. ⌜ now (log .exit) ≡ sets (now (log .entry)) 0 (logOf (answersFrom legs (requestsOf (now (body .entry))))) ⌝ }
 {
-    let empty = empty_field(legs);
+    let empty = with_index(empty_field(legs));
     let mut fields = [empty; 2];
     let mut i = 0;
     loop {
         let Reading::One(r) = request_at(body, i) else {
             break;
         };
-        let f = fields[i % 2];
-        let s = stepped(f, r, judged);
+        let x = fields[i % 2];
+        let s = stepped(x, r, judged);
         let a = s.answer;
         put_entry(log, 7 * i, r, a);
-        let g = s.field;
+        let next = s.after;
         i += 1;
-        fields[i % 2] = g;
+        fields[i % 2] = next;
     }
-    let last = fields[i % 2];
+    let reached = fields[i % 2];
+    let last = reached.field;
     Played {
         number: 0,
         requests: i,

@@ -13,22 +13,25 @@ use Rattle.request.specs.declared.Request.{Request}
 use Rattle.practice.specs.declared.Reading.the-variants.{One, End}
 use Rattle.practice.specs.Requests.{requestsOf, readingAt}
 use Rattle.field.specs.declared.Field.{Field}
+use Rattle.field.specs.Boxes.{emptyField}
+use Rattle.finder.specs.declared.Indexed.{Indexed}
 use Rattle.questions.specs.Counts.{presentOn}
-use Rattle.rules.specs.declared.Stepped.{Stepped}
+use Rattle.indexed.specs.declared.SteppedIndexed.{SteppedIndexed}
+use Rattle.indexed.specs.Indexed.{withIndex}
 use Rattle.rules.specs.Play.{fieldAfter, played}
 use Rattle.rules.specs.Reason.{Sound}
-use Rattle.reason.proofs.Reason.{empty-sound, neither-10-nor-25}
+use Rattle.reason.proofs.Reason.{empty-sound}
 use Rattle.playing.specs.Playing.{answersFrom, presentFrom, fieldFrom}
 use Rattle.playing.specs.Log.{logOf}
 use Rattle.playing.proofs.Answers.{Short, short-step}
-use Rattle.playing.proofs.Playing.{Playing, playing-none, playing-more, playing-turn, all-logged, last-field, all-played, here}
+use Rattle.playing.proofs.Playing.{Playing, made-own, playing-none, stepped-own, neither, playing-more, playing-turn, all-logged, last-field, all-played, here}
 use Rattle.playing.proofs.play_body.Statement.{statement}
 use Rattle.playing.proofs.play_body.Tie as tie
 
 -- of the two fields, the one at i % 2 is the field before request i
 abbrev Inv-loop : tie.InvT-loop
 Inv-loop body judged log₀ fields₀ i₀ log fields i =
-    (length fields ≡ 2) × ((d : Field) → Playing (requestsOf body) (getD fields₀ 0 d) log₀ log (getD fields (i % 2) d) i)
+    (length fields ≡ 2) × ((d : Indexed) → Playing (requestsOf body) (getD fields₀ 0 d) log₀ log (getD fields (i % 2) d) i)
 
 abbrev μ-loop : tie.MeasureT-loop
 μ-loop body judged log₀ fields₀ i₀ log fields i = length (requestsOf body) - i
@@ -41,7 +44,7 @@ abbrev head : tie.After-r Inv-loop μ-loop → tie.At-loop Inv-loop μ-loop
 head c = c .before .before .before
 
 abbrev start : tie.At-loop Inv-loop μ-loop → tie.Start Inv-loop μ-loop
-start c = c .before .before .before .before
+start c = c .before .before .before .before .before
 
 -- the requests, and the i-th of them where one was read
 abbrev requests : tie.At-loop Inv-loop μ-loop → List Request
@@ -50,9 +53,14 @@ requests c = requestsOf (now (start c .args .body))
 abbrev request : tie.After-r Inv-loop μ-loop → Request
 request c = c .r .given .0 .0
 
--- the empty field
-abbrev empty : tie.At-loop Inv-loop μ-loop → Field
-empty c = c .before .empty-field .result
+-- the empty field with its index
+abbrev empty : tie.At-loop Inv-loop μ-loop → Indexed
+empty c = c .before .with-index .result
+
+-- the field in it
+empty-is : (c : tie.After-with-index Inv-loop μ-loop) → c .with-index .result .field ≡ emptyField (c .before .before .before .before .args .legs)
+unfolding withIndex
+empty-is c = ap (λ (x : Indexed). x .field) (c .with-index .ensures) ∙ c .before .empty-field .ensures
 
 -- what the i-th reading finds: a request, or none
 reading : (c : tie.After-r Inv-loop μ-loop) → readingAt (requests (head c)) (head c .loop .i) ≡ One (request c)
@@ -68,11 +76,14 @@ below c = let h = here (requests (head c)) (head c .loop .i) (request c) (readin
 empty-field-requires : tie.Need-empty-field-requires Inv-loop μ-loop
 empty-field-requires c κs = search needs
 
+with-index-requires : tie.Need-with-index-requires Inv-loop μ-loop
+with-index-requires c κs = search needs
+
 loop-holds : tie.Need-loop-holds Inv-loop μ-loop
 loop-holds c =
-    let s = c .before .before .before in
-    let sound = subst⁻¹ Sound (c .empty-field .ensures) (empty-sound (s .args .legs) (s .pre .1)) in
-    (refl, λ d. playing-none (requestsOf (now (s .args .body))) (c .empty-field .result) (now (s .args .log)) sound)
+    let s = c .before .before .before .before in
+    let sound = subst⁻¹ Sound (empty-is c) (empty-sound (s .args .legs) (s .pre .1)) in
+    (refl, λ d. playing-none (requestsOf (now (s .args .body))) (c .with-index .result) (now (s .args .log)) sound (made-own (c .before .empty-field .result) (c .with-index .ensures)))
 
 request-at-requires : tie.Need-request-at-requires Inv-loop μ-loop
 request-at-requires c κs = search needs
@@ -83,15 +94,15 @@ enum-known-r c = search needs
 enum-told : tie.Need-enum-told Inv-loop μ-loop
 enum-told c = search needs
 
-mul-f : tie.Need-mul-f Inv-loop μ-loop
-mul-f c = search needs
+mul-x : tie.Need-mul-x Inv-loop μ-loop
+mul-x c = search needs
 
-array-copy-out-f : tie.Need-array-copy-out-f Inv-loop μ-loop
-array-copy-out-f c = search needs
+array-copy-out-x : tie.Need-array-copy-out-x Inv-loop μ-loop
+array-copy-out-x c = search needs
 
 -- from the field reached neither 10 nor 25 is answered
 stepped-requires : tie.Need-stepped-requires Inv-loop μ-loop
-stepped-requires c κs = neither-10-nor-25 _ (head (c .before .before) .loop .inv .1 _ .sound) _
+stepped-requires c κs = let l = head (c .before .before) in neither (requests l) (l .loop .inv .1 _) _
 
 mul-put-entry : tie.Need-mul-put-entry Inv-loop μ-loop
 mul-put-entry c = let h = below (read-at (c .before .before)) in omega arith
@@ -101,7 +112,7 @@ put-entry-requires c κs =
     let t = c .before .before in
     let k = read-at t in
     let l = head k in
-    let brief = subst⁻¹ (λ (x : Stepped). Short (x .answer)) (t .stepped .ensures) (short-step _ (request k)) in
+    let brief = subst⁻¹ (λ (s : SteppedIndexed). Short (s .answer)) (t .stepped .ensures ∙ stepped-own (requests l) (l .loop .inv .1 _) (request k)) (short-step _ (request k)) in
     let h = below k in
     let room = l .loop .inv .1 (empty l) .same in
     (omega (arith, start l .pre .0 .1), omega (arith, brief .zone))
@@ -130,29 +141,29 @@ loop-again c =
     let k = read-at t in
     let l = head k in
     let next = playing-more (requests l) (l .loop .inv .1 _) (request k) (t .stepped .result) (reading k) (t .stepped .ensures) (w .put-entry .ensures) in
-    (length-set (l .loop .fields) ((l .loop .i + 1) % 2) (t .stepped .result .field) ∙ l .loop .inv .0, playing-turn (requests l) next (l .loop .fields) (l .loop .inv .0))
+    (length-set (l .loop .fields) ((l .loop .i + 1) % 2) (t .stepped .result .after) ∙ l .loop .inv .0, playing-turn (requests l) next (l .loop .fields) (l .loop .inv .0))
 
-mul-last : tie.Need-mul-last Inv-loop μ-loop
-mul-last c = search needs
+mul-reached : tie.Need-mul-reached Inv-loop μ-loop
+mul-reached c = search needs
 
-array-copy-out-last : tie.Need-array-copy-out-last Inv-loop μ-loop
-array-copy-out-last c = search needs
+array-copy-out-reached : tie.Need-array-copy-out-reached Inv-loop μ-loop
+array-copy-out-reached c = search needs
 
 present-on-requires : tie.Need-present-on-requires Inv-loop μ-loop
 present-on-requires c κs = search needs
 
 same-length : tie.Need-same-length Inv-loop μ-loop
 same-length c =
-    let l = c .before .before .before .before .before in
+    let l = c .before .before .before .before .before .before in
     l .loop .inv .1 (empty l) .same
 
 returns : tie.Need-returns Inv-loop μ-loop
 unfolding answersFrom presentFrom fieldFrom
 returns c =
-    let k = c .before .before in
+    let k = c .before .before .before in
     let l = k .before .before .before in
     let rs = requests l in
-    let e = l .before .empty-field .ensures in
+    let e = empty-is (l .before) in
     let z = no-reading k in
     let count = all-played rs (l .loop .inv .1 (empty l)) z in
     let last = last-field rs (l .loop .inv .1 _) z ∙ ap (λ (f : Field). fieldAfter f rs) e in
@@ -168,12 +179,13 @@ play-body-spec =
     Inv-loop
     μ-loop
     empty-field-requires
+    with-index-requires
     loop-holds
     request-at-requires
     enum-known-r
     enum-told
-    mul-f
-    array-copy-out-f
+    mul-x
+    array-copy-out-x
     stepped-requires
     mul-put-entry
     put-entry-requires
@@ -182,8 +194,8 @@ play-body-spec =
     array-set-from-fields
     loop-less
     loop-again
-    mul-last
-    array-copy-out-last
+    mul-reached
+    array-copy-out-reached
     present-on-requires
     same-length
     returns)
