@@ -12,7 +12,7 @@ use Rattle.field.specs.declared.Field.{Field}
 use Rattle.field.specs.Boxes.{everywhere, nobody, emptyZone, zoneOf, queueOf, inZone, orderOf}
 use Rattle.questions.specs.declared.Place.{Place}
 use Rattle.questions.specs.Counts.{haveFix, howMany, howManyWithFix}
-use Rattle.questions.specs.Find.{numbersIn, placeFrom, nowhere, findIn, placeOf, aircraftAt, fixOf, isHead, isFirst, aheadOf, leaderOf, leaderZone}
+use Rattle.questions.specs.Find.{numbersIn, placeFrom, findIn, placeOf, aircraftAt, fixOf, isHead, isFirst, aheadOf, leaderOf, leaderZone}
 use Rattle.questions.proofs.Listed.{numberOf, numbersAt}
 use Rattle.questions.proofs.FindLaws.{at}
 use Rattle.renaming.specs.Renaming.{Renaming, renamedAircraft, renamedZone, renamedSequence, renamedField}
@@ -21,10 +21,10 @@ use Rattle.renaming.proofs.Lists.{take-map, same-renamed, zero-renamed,
 module _ {π : ℕ → ℕ} (p : Renaming π) where
   -- ---- zones and queues
   pub nobody-renamed : renamedAircraft π nobody ≡ nobody
-  nobody-renamed = ap (λ (n : ℕ). record { number = n; fix = nobody .fix; speed = nobody .speed; progress = nobody .progress; waited = nobody .waited; leg = nobody .leg }) (p .zero)
+  nobody-renamed = rw (p .zero) refl
 
-  pub empty-zone-renamed : renamedZone π emptyZone ≡ emptyZone
-  empty-zone-renamed = ap (λ (a : Aircraft). record { aircraft = a ∷ a ∷ a ∷ a ∷ []; length = 0 }) nobody-renamed
+  empty-zone-renamed : renamedZone π emptyZone ≡ emptyZone
+  empty-zone-renamed = rw (p .zero) refl
 
   pub order-renamed : (s : Sequence) → orderOf (renamedSequence π s) ≡ map π (orderOf s)
   unfolding orderOf

@@ -1,5 +1,5 @@
 -- The bounds on a field with its numbers renamed: they hold exactly where they held. They ask of numbers only which are 0, which are equal, and which the sequence names. Assumes nothing.
-use mathlib.Core.Path.{_≡_, refl, sym, ap, _∙_, fun-ext}
+use mathlib.Core.Path.{_≡_, refl, ap, _∙_, fun-ext}
 use mathlib.Core.Bool.{Bool, not, _&&_, _||_}
 use mathlib.Core.List.{List, [], _∷_, _++_, map, map-map}
 use Prim.Native.Nat.{ℕ}

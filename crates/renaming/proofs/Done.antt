@@ -1,23 +1,21 @@
 -- What a request does to a field with its numbers renamed: the field that it leaves, renamed. Assumes nothing.
-use mathlib.Core.Path.{_≡_, refl, sym, ap, _∙_}
-use mathlib.Core.Bool.{Bool, cond, _&&_}
+use mathlib.Core.Path.{_≡_, refl, ap, _∙_}
+use mathlib.Core.Bool.{cond, _&&_}
 use Prim.Native.Nat.{ℕ}
 use lib.Dec.{eqb}
-use lib.ListN.{length}
 use Rattle.request.specs.Input.{within}
 use Rattle.request.specs.declared.Request.{Request}
 use Rattle.field.specs.declared.Aircraft.{Aircraft}
 use Rattle.field.specs.declared.Zone.{Zone}
 use Rattle.field.specs.declared.Sequence.{Sequence}
 use Rattle.field.specs.declared.Field.{Field}
-use Rattle.field.specs.Boxes.{opposite, sideOf, at3000, at2000, lateral, missed, base, intermediate, finalApproach, runway, zoneOf, orderOf, entering, onLeg, arrived, turnedAway, withFix}
+use Rattle.field.specs.Boxes.{opposite, sideOf, at3000, at2000, lateral, missed, base, intermediate, finalApproach, runway, zoneOf, entering, onLeg, arrived, turnedAway, withFix}
 use Rattle.field.specs.Edits.{withoutHead, withTail, appended, removed, withZone, withSequence}
 use Rattle.questions.specs.declared.Place.{Place}
 use Rattle.questions.specs.Find.{aircraftAt}
-use Rattle.tick.specs.Tick.{ticked}
 use Rattle.rules.specs.Kinds.{zoneBefore, zoneAhead, headGone, tailPut, moved, descended, outOfSequence, fixTaken, entered, madeRoom, enteredAbove, mayApproach, baseFree, approached, landed, exited, fixAfterMiss, missedApproach, held}
 use Rattle.rules.specs.Step.{byKind, effectFor, effectOf}
-use Rattle.renaming.specs.Renaming.{Renaming, renamedAircraft, renamedZone, renamedSequence, renamedField, renamedRequest}
+use Rattle.renaming.specs.Renaming.{Renaming, renamedAircraft, renamedSequence, renamedField, renamedRequest}
 use Rattle.renaming.proofs.Lists.{either-made, by-test}
 use Rattle.renaming.proofs.Asked.{order-length, zone-renamed, at-renamed, place-renamed, leader-zone-renamed}
 use Rattle.renaming.proofs.Edited.{without-head-renamed, with-tail-renamed, appended-renamed, removed-renamed, with-zone-renamed, ticked-renamed}

@@ -1,5 +1,5 @@
 -- What a request needs on a field with its numbers renamed: the same checks, with the same outcomes. Assumes nothing.
-use mathlib.Core.Path.{_≡_, refl, ap, _∙_}
+use mathlib.Core.Path.{_≡_, ap, _∙_}
 use mathlib.Core.Bool.{Bool, cond, not, _||_}
 use mathlib.Core.List.{List, [], _∷_, _++_}
 use Prim.Native.Nat.{ℕ}
@@ -11,7 +11,7 @@ use Rattle.field.specs.declared.Field.{Field}
 use Rattle.field.specs.Boxes.{opposite, sideOf, at3000, at2000, lateral, missed, base, runway, area, approach, operation, legFlownOut}
 use Rattle.field.specs.Lists.{isIn}
 use Rattle.questions.specs.declared.Place.{Place}
-use Rattle.questions.specs.Counts.{total, howMany, howManyWithFix, isEmpty, approachHolds, countedFor, potentialOf}
+use Rattle.questions.specs.Counts.{total, isEmpty, approachHolds, countedFor, potentialOf}
 use Rattle.rules.specs.Kinds.{placeBefore, zoneAhead, presenceChecks, flownOutCheck, mayApproach, baseFree, mayMerge}
 use Rattle.rules.specs.Step.{byKind, needsFor, checksFor, checksOf}
 use Rattle.renaming.specs.Renaming.{Renaming, renamedField, renamedRequest}

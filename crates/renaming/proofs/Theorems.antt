@@ -2,30 +2,28 @@
 -- it said of the number. Assumes nothing.
 use mathlib.Core.Path.{_≡_, refl, sym, ap, _∙_, subst}
 use mathlib.Core.Bool.{cond}
-use mathlib.Core.List.{List, [], _∷_, _++_}
+use mathlib.Core.List.{List, [], _∷_, _++_, map}
 use Prim.Native.Nat.{ℕ}
 use lib.Dec.{T, eqb}
-use lib.ListN.{replicate}
-use Rattle.request.specs.Input.{firstRefused, inputNumber}
+use Rattle.request.specs.Input.{firstRefused}
 use Rattle.request.specs.declared.Request.{Request}
 use Rattle.field.specs.declared.Aircraft.{Aircraft}
-use Rattle.field.specs.declared.Zone.{Zone}
 use Rattle.field.specs.declared.Legs.{Legs}
 use Rattle.field.specs.declared.Field.{Field}
-use Rattle.field.specs.Boxes.{right, sideOf, at3000, emptyField}
+use Rattle.field.specs.Boxes.{sideOf, at3000, emptyField}
 use Rattle.questions.specs.declared.Place.{Place}
-use Rattle.questions.specs.Find.{placeOf, aircraftAt, leaderOf}
+use Rattle.questions.specs.Find.{placeOf}
 use Rattle.bounds.specs.Bounds.{withinBounds}
 use Rattle.finder.specs.Finder.{indexOf, foundIn}
 use Rattle.finder.proofs.Theorems.{found-as-looked}
 use Rattle.rules.specs.declared.Answer.{Answer}
 use Rattle.rules.specs.declared.Stepped.{Stepped}
 use Rattle.rules.specs.Kinds.{zoneBefore, numberAt3000}
-use Rattle.rules.specs.Step.{checksOf, effectOf, numberOf, numberAndZeros, acceptance, alongFor, answerOf, stepOf}
+use Rattle.rules.specs.Step.{effectOf, numberOf, numberAndZeros, acceptance, alongFor, answerOf, stepOf}
 use Rattle.rules.specs.Play.{fieldAfter, played}
-use Rattle.renaming.specs.Renaming.{Renaming, renamedAircraft, renamedField, renamedRequest, renamedAnswer, renamedStep, renamedRequests, renamedPair, renamedPlay}
+use Rattle.renaming.specs.Renaming.{Renaming, renamedField, renamedRequest, renamedAnswer, renamedStep, renamedPair}
 use Rattle.renaming.proofs.Lists.{either-made}
-use Rattle.renaming.proofs.Asked.{empty-zone-renamed, at-renamed, place-renamed, leader-renamed}
+use Rattle.renaming.proofs.Asked.{at-renamed, place-renamed, leader-renamed}
 use Rattle.renaming.proofs.Bounded.{within-renamed}
 use Rattle.renaming.proofs.Needed.{input-renamed, checks-renamed}
 use Rattle.renaming.proofs.Done.{effect-renamed}
@@ -34,7 +32,7 @@ module _ {π : ℕ → ℕ} (p : Renaming π) where
   -- ---- answers
   zeros-renamed : (number : ℕ) → numberAndZeros number ≡ renamedAnswer π (numberAndZeros number)
   unfolding numberAndZeros
-  zeros-renamed number = ap (λ (n : ℕ). record { number = number; aircraft = n; zone = 0; fix = 0; leader = n; along = n }) (sym (p .zero))
+  zeros-renamed number = rw (p .zero) refl
 
   acceptance-renamed : (f : Field) (at : Place) (number along : ℕ) → acceptance (renamedField π f) at (π number) (π along) ≡ renamedAnswer π (acceptance f at number along)
   unfolding acceptance
@@ -95,20 +93,20 @@ module _ {π : ℕ → ℕ} (p : Renaming π) where
         (ap (λ (a : Answer). record { answer = a; field = F }) (zeros-renamed (numberOf f r)))
 
   -- ---- any list of requests, from any field
-  pub played-renamed : (f : Field) (rs : List Request) → played (renamedField π f) (renamedRequests π rs) ≡ renamedPlay π (played f rs)
+  pub played-renamed : (f : Field) (rs : List Request) → played (renamedField π f) (map (renamedRequest π) rs) ≡ map (renamedPair π) (played f rs)
   played-renamed f [] = refl
   played-renamed f (r ∷ rs) =
-      ap (λ (s : Stepped). (renamedRequest π r, s .answer) ∷ played (s .field) (renamedRequests π rs)) (step-renamed f r)
+      ap (λ (s : Stepped). (renamedRequest π r, s .answer) ∷ played (s .field) (map (renamedRequest π) rs)) (step-renamed f r)
       ∙ ap (λ (l : List (Request × Answer)). renamedPair π (r, stepOf f r .answer) ∷ l) (played-renamed (stepOf f r .field) rs)
 
-  pub field-after-renamed : (f : Field) (rs : List Request) → fieldAfter (renamedField π f) (renamedRequests π rs) ≡ renamedField π (fieldAfter f rs)
+  pub field-after-renamed : (f : Field) (rs : List Request) → fieldAfter (renamedField π f) (map (renamedRequest π) rs) ≡ renamedField π (fieldAfter f rs)
   field-after-renamed f [] = refl
-  field-after-renamed f (r ∷ rs) = ap (λ (s : Stepped). fieldAfter (s .field) (renamedRequests π rs)) (step-renamed f r) ∙ field-after-renamed (stepOf f r .field) rs
+  field-after-renamed f (r ∷ rs) = ap (λ (s : Stepped). fieldAfter (s .field) (map (renamedRequest π) rs)) (step-renamed f r) ∙ field-after-renamed (stepOf f r .field) rs
 
   -- the empty field has nobody to rename
   pub empty-field-renamed : (legs : Legs) → renamedField π (emptyField legs) ≡ emptyField legs
   unfolding emptyField
-  empty-field-renamed legs = λ i. record { zones = replicate 13 (empty-zone-renamed p i); sequence = record { numbers = replicate 4 (p .zero i); length = 0 }; next = right; legs = legs }
+  empty-field-renamed legs = rw (p .zero) refl
 
   -- ---- the index put in order again
   pub found-renamed : (f : Field) → T (withinBounds f) → (n : ℕ) → foundIn (indexOf (renamedField π f)) (π n) ≡ foundIn (indexOf f) n
