@@ -4,9 +4,7 @@ use mathlib.Core.Bool.{Bool, not, _&&_, _||_}
 use mathlib.Core.List.{List, [], _∷_, _++_, map, map-map}
 use Prim.Native.Nat.{ℕ}
 use lib.Dec.{eqb, leb}
-use lib.Ieee.{eq}
 use lib.ListN.{drop}
-use Rattle.leg.specs.Progress.{whole}
 use Rattle.field.specs.declared.Aircraft.{Aircraft}
 use Rattle.field.specs.declared.Zone.{Zone}
 use Rattle.field.specs.declared.Sequence.{Sequence}
@@ -16,7 +14,7 @@ use Rattle.field.specs.Lists.{every, isIn, allDifferent}
 use Rattle.questions.specs.Counts.{total, howMany, inOperation, inArea, perFix}
 use Rattle.questions.specs.Find.{numbersIn, aircraftAt, fixOf, isFirst}
 use Rattle.numbers.specs.Numbers.{numbersDiffer, sequenceExact}
-use Rattle.bounds.specs.Bounds.{boundA, boundB, lateralRule, boundC, boundD, finalFirst, isWaiting, isNobody, zoneKept, sequenceKept, boundE, alternate, boundF, fitsZone, legalLegs, boundG, withinBounds}
+use Rattle.bounds.specs.Bounds.{boundA, boundB, lateralRule, boundC, boundD, finalFirst, isNobody, zoneKept, sequenceKept, boundE, alternate, boundF, fitsZone, legalLegs, boundG, withinBounds}
 use Rattle.renaming.specs.Renaming.{Renaming, renamedAircraft, renamedZone, renamedSequence, renamedField}
 use Rattle.renaming.proofs.Lists.{drop-map, every-map, zero-renamed, in-renamed, different-renamed}
 use Rattle.renaming.proofs.Asked.{order-renamed, zone-renamed, queue-renamed, at-renamed, many-renamed, with-fix-renamed, numbers-renamed, fix-renamed, first-renamed}
@@ -25,7 +23,7 @@ module _ {π : ℕ → ℕ} (p : Renaming π) where
   -- ---- places past a length
   nobody-kept : (a : Aircraft) → isNobody (renamedAircraft π a) ≡ isNobody a
   unfolding isNobody
-  nobody-kept a = ap (λ (b : Bool). b && eqb (a .fix) 0 && eqb (a .speed) 0 && eq (a .waited) (whole 0) && eq (a .leg) (whole 0) && isWaiting (a .progress)) (zero-renamed p (a .number))
+  nobody-kept a = rw (zero-renamed p (a .number)) refl
 
   zone-kept : (q : Zone) → zoneKept (renamedZone π q) ≡ zoneKept q
   unfolding zoneKept

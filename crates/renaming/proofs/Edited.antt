@@ -16,12 +16,15 @@ use Rattle.renaming.specs.Renaming.{Renaming, renamedAircraft, renamedZo
 use Rattle.renaming.proofs.Lists.{take-map, drop-map, set-map, set-one-map, either-made, before-renamed}
 use Rattle.renaming.proofs.Asked.{nobody-renamed, order-renamed, order-length}
 
--- a zone by its places and its length, and a sequence
+-- a zone by its places and its length, a sequence, and a field with other zones
 abbrev zoneWith : List Aircraft → ℕ → Zone
 zoneWith l n = record { aircraft = l; length = n }
 
 abbrev sequenceWith : List ℕ → ℕ → Sequence
 sequenceWith l n = record { numbers = l; length = n }
+
+abbrev fieldWith : Field → List Zone → Field
+fieldWith f l = record { zones = l; sequence = f .sequence; next = f .next; legs = f .legs }
 
 module _ {π : ℕ → ℕ} (p : Renaming π) where
   -- ---- a queue
@@ -65,7 +68,7 @@ module _ {π : ℕ → ℕ} (p : Renaming π) where
   -- ---- the field
   pub with-zone-renamed : (f : Field) (z : ℕ) (q : Zone) → withZone (renamedField π f) z (renamedZone π q) ≡ renamedField π (withZone f z q)
   unfolding withZone
-  with-zone-renamed f z q = ap (λ (l : List Zone). record { zones = l; sequence = renamedSequence π (f .sequence); next = f .next; legs = f .legs }) (set-one-map (renamedZone π) (f .zones) z q)
+  with-zone-renamed f z q = ap (fieldWith (renamedField π f)) (set-one-map (renamedZone π) (f .zones) z q)
 
   -- ---- a tick
   ticked-zone-renamed : (amount : ℕ) (q : Zone) → tickedZone amount (renamedZone π q) ≡ renamedZone π (tickedZone amount q)
@@ -80,4 +83,4 @@ module _ {π : ℕ → ℕ} (p : Renaming π) where
 
   pub ticked-renamed : (f : Field) (amount : ℕ) → ticked (renamedField π f) amount ≡ renamedField π (ticked f amount)
   unfolding ticked
-  ticked-renamed f amount = ap (λ (l : List Zone). record { zones = l; sequence = renamedSequence π (f .sequence); next = f .next; legs = f .legs }) (ticked-from-renamed amount 1 (f .zones))
+  ticked-renamed f amount = ap (fieldWith (renamedField π f)) (ticked-from-renamed amount 1 (f .zones))

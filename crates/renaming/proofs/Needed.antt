@@ -1,10 +1,10 @@
 -- What a request needs on a field with its numbers renamed: the same checks, with the same outcomes. Assumes nothing.
-use mathlib.Core.Path.{_≡_, ap, _∙_}
+use mathlib.Core.Path.{_≡_, refl, ap, _∙_}
 use mathlib.Core.Bool.{Bool, cond, not, _||_}
 use mathlib.Core.List.{List, [], _∷_, _++_}
 use Prim.Native.Nat.{ℕ}
 use lib.Dec.{eqb, leb, ltb}
-use Rattle.request.specs.Input.{within, ruleOf, firstRefused, kindAllowed, sideAllowed, numberAllowed, amountAllowed, inputNumber}
+use Rattle.request.specs.Input.{within, kindAllowed, sideAllowed, numberAllowed, amountAllowed, inputNumber}
 use Rattle.request.specs.declared.Request.{Request}
 use Rattle.field.specs.declared.Aircraft.{Aircraft}
 use Rattle.field.specs.declared.Field.{Field}
@@ -22,8 +22,7 @@ module _ {π : ℕ → ℕ} (p : Renaming π) where
   -- the input rules: 3 asks whether the number is 0
   pub input-renamed : (r : Request) → inputNumber (renamedRequest π r) ≡ inputNumber r
   unfolding inputNumber kindAllowed sideAllowed numberAllowed amountAllowed
-  input-renamed r =
-      ap (λ (b : Bool). firstRefused ((1, kindAllowed r) ∷ (2, sideAllowed r) ∷ (3, cond (ruleOf (r .kind) .aircraft) (not b) b) ∷ (4, amountAllowed r) ∷ [])) (zero-renamed p (r .number))
+  input-renamed r = rw (zero-renamed p (r .number)) refl
 
   module _ (f : Field) where
     abbrev F : Field

@@ -36,16 +36,7 @@ module _ {π : ℕ → ℕ} (p : Renaming π) where
 
   acceptance-renamed : (f : Field) (at : Place) (number along : ℕ) → acceptance (renamedField π f) at (π number) (π along) ≡ renamedAnswer π (acceptance f at number along)
   unfolding acceptance
-  acceptance-renamed f at number along =
-      λ i.
-      record {
-        number = 0;
-        aircraft = π number;
-        zone = at .zone;
-        fix = at-renamed p f (at .zone) (at .place) i .fix;
-        leader = leader-renamed p f number i;
-        along = π along;
-      }
+  acceptance-renamed f at number along = rw (at-renamed p f (at .zone) (at .place), leader-renamed p f number) refl
 
   module _ (f : Field) (r : Request) where
     abbrev F : Field
