@@ -1,4 +1,5 @@
 pub mod Lists
+pub mod Exchanged
 pub mod Asked
 pub mod Bounded
 pub mod Edited

@@ -1,7 +1,9 @@
 -- Numbers renamed one for one (02, 2.10): what that makes of a field, of a request, of an answer and of a step. Definitions only.
 use mathlib.Core.Path.{_≡_}
+use mathlib.Core.Bool.{cond}
 use mathlib.Core.List.{map}
 use Prim.Native.Nat.{ℕ}
+use lib.Dec.{eqb}
 use Rattle.request.specs.declared.Request.{Request}
 use Rattle.field.specs.declared.Aircraft.{Aircraft}
 use Rattle.field.specs.declared.Zone.{Zone}
@@ -15,6 +17,10 @@ use Rattle.rules.specs.declared.Stepped.{Stepped}
 pub record Renaming (π : ℕ → ℕ) : Type 0 where
   pub apart : (m n : ℕ) → π m ≡ π n → m ≡ n
   pub zero : π 0 ≡ 0
+
+-- two numbers exchanged, such as an aircraft's with one that nobody has: the plainest new numbers
+abbrev pub exchanged : ℕ → ℕ → ℕ → ℕ
+exchanged m n k = cond (eqb k m) n (cond (eqb k n) m k)
 
 -- ---- the field
 
