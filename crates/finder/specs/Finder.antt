@@ -38,7 +38,7 @@ firstOf a b = cond (isBefore a b) a b
 unfoldable pub secondOf : Entry → Entry → Entry
 secondOf a b = cond (isBefore a b) b (cond (eqb (a .number) (b .number)) unused a)
 
--- an entry put among entries in order; where all places are used the highest number falls out
+-- an entry put among entries in order; where all places are used the highest number is left out
 abbrev pub put : Entry → List Entry → List Entry
 put e [] = []
 put e (x ∷ xs) = firstOf e x ∷ put (secondOf e x) xs
@@ -75,7 +75,7 @@ abbrev pub foundAmong : ℕ → List Entry → Place
 foundAmong number [] = nowhere
 foundAmong number (e ∷ es) = cond (eqb (e .number) number) (record { zone = e .zone; place = e .place }) (foundAmong number es)
 
--- "an absent number gives zone 0 and place 0"; 0 is nobody's number, and no unused place answers it
+-- zone 0 and place 0 for a number that is not in the index, and for 0, which is nobody's number and which no unused place answers (02, 2.9)
 unfoldable pub foundIn : Index → ℕ → Place
 foundIn index number = cond (eqb number 0) nowhere (foundAmong number (index .entries))
 
@@ -85,6 +85,7 @@ foundIn index number = cond (eqb number 0) nowhere (foundAmong number (index .en
 unfoldable pub sameEntry : Entry → Entry → Bool
 sameEntry a b = eqb (a .number) (b .number) && eqb (a .zone) (b .zone) && eqb (a .place) (b .place)
 
+-- whether two lists of entries are the same, entry by entry
 abbrev pub sameEntries : List Entry → List Entry → Bool
 sameEntries [] [] = true
 sameEntries [] (b ∷ ys) = false
@@ -95,6 +96,6 @@ sameEntries (a ∷ xs) (b ∷ ys) = sameEntry a b && sameEntries xs ys
 unfoldable pub sameIndex : Index → Index → Bool
 sameIndex a b = sameEntries (a .entries) (b .entries)
 
--- "A field handed in with an index that disagrees breaks the bounds."
+-- the bounds: those of the field, and the index beside it is the field's own in every place, the unused ones too (02, 2.9)
 unfoldable pub withinBoundsIndexed : Indexed → Bool
 withinBoundsIndexed x = withinBounds (x .field) && sameIndex (x .index) (indexOf (x .field))

@@ -27,8 +27,12 @@ use Rattle.demand.proofs.Exact.{exactness}
 use Rattle.indexed.specs.declared.SteppedIndexed.{SteppedIndexed}
 use Rattle.indexed.specs.Indexed.{withIndex, stepIndexed, playedIndexed, indexedAfter}
 use Rattle.indexed.proofs.Steps.{field-within, index-own, tick-leaves}
-use Rattle.indexed.proofs.Own.{step-own, played-own, after-own}
+use Rattle.indexed.proofs.Own.{within-own, step-own, played-own, after-own}
 use Rattle.index_kept.specs.IndexKept.{SaysAsLooked, Kept, emptyIndexed, Demand3Indexed, ExactIndexed}
+
+-- a field within the bounds is so with its own index
+own-within : (f : Field) → T (withinBounds f) → T (withinBoundsIndexed (withIndex f))
+own-within f t = subst⁻¹ T (within-own f) t
 
 -- ---- one request
 module _ (x : Indexed) (w : T (withinBoundsIndexed x)) (r : Request) where
@@ -75,7 +79,8 @@ module _ (x : Indexed) (w : T (withinBoundsIndexed x)) (r : Request) where
         after = subst⁻¹ (λ (s : SteppedIndexed). SaysAsLooked (s .after)) step-is (found-as-looked (stepOf f r .field) stays-within);
         same-answer = ap (λ (s : SteppedIndexed). s .answer) step-is;
         same-field = ap (λ (s : SteppedIndexed). s .after .field) step-is;
-        left = leaves;
+        still-within = subst⁻¹ (λ (s : SteppedIndexed). T (withinBoundsIndexed (s .after))) step-is (own-within (stepOf f r .field) stays-within);
+        leaves = leaves;
       }
 
 -- ---- any list
@@ -92,6 +97,7 @@ module _ (legs : Legs) (l : T (legalLegs legs)) (rs : List Request) where
             subst⁻¹ (λ (ps : List (Request × Answer)). Demand3Of ps (indexedAfter (emptyIndexed legs) rs .field)) (played-own (emptyField legs) rs)
             (subst⁻¹ (λ (y : Indexed). Demand3Of (played (emptyField legs) rs) (y .field)) (after-own (emptyField legs) rs) (demand-3 legs l rs));
         goes-on = λ more. subst⁻¹ (λ (y : Indexed). playedIndexed y more ≡ played (y .field) more) (after-own (emptyField legs) rs) (played-own (fieldAfter (emptyField legs) rs) more);
+        still-within = subst⁻¹ (λ (y : Indexed). T (withinBoundsIndexed y)) (after-own (emptyField legs) rs) (own-within (fieldAfter (emptyField legs) rs) reached-within);
         says = subst⁻¹ SaysAsLooked (after-own (emptyField legs) rs) (found-as-looked (fieldAfter (emptyField legs) rs) reached-within);
       }
 

@@ -3,12 +3,13 @@ use mathlib.Core.Path.{_≡_}
 use mathlib.Core.Logic.{_⊎_}
 use mathlib.Core.List.{List}
 use Prim.Native.Nat.{ℕ}
+use lib.Dec.{T}
 use Rattle.request.specs.declared.Request.{Request}
 use Rattle.field.specs.declared.Legs.{Legs}
 use Rattle.field.specs.Boxes.{emptyField}
 use Rattle.questions.specs.Find.{placeOf}
 use Rattle.finder.specs.declared.Indexed.{Indexed}
-use Rattle.finder.specs.Finder.{foundIn}
+use Rattle.finder.specs.Finder.{foundIn, withinBoundsIndexed}
 use Rattle.rules.specs.Step.{stepOf}
 use Rattle.rules.specs.Play.{played}
 use Rattle.demand.specs.Demand.{Demand3Of}
@@ -27,8 +28,10 @@ pub record Kept (x : Indexed) (r : Request) : Type 0 where
   -- the answer and the field are those without an index
   pub same-answer : stepIndexed x r .answer ≡ stepOf (x .field) r .answer
   pub same-field : stepIndexed x r .after .field ≡ stepOf (x .field) r .field
+  -- the field after it is within the bounds, with its own index
+  pub still-within : T (withinBoundsIndexed (stepIndexed x r .after))
   -- a refusal and a tick leave the index
-  pub left : (stepIndexed x r .answer .number ≡ 0 → ⊥) ⊎ (r .kind ≡ 12) → stepIndexed x r .after .index ≡ x .index
+  pub leaves : (stepIndexed x r .answer .number ≡ 0 → ⊥) ⊎ (r .kind ≡ 12) → stepIndexed x r .after .index ≡ x .index
 
 -- the empty field with its index
 abbrev pub emptyIndexed : Legs → Indexed
@@ -40,7 +43,8 @@ pub record Demand3Indexed (legs : Legs) (rs : List Request) : Type 0 where
   pub holds : Demand3Of (playedIndexed (emptyIndexed legs) rs) (indexedAfter (emptyIndexed legs) rs .field)
   -- .. also where it speaks of what is played from there on; ..
   pub goes-on : (more : List Request) → playedIndexed (indexedAfter (emptyIndexed legs) rs) more ≡ played (indexedAfter (emptyIndexed legs) rs .field) more
-  -- .. and the index says what a look through the queues would say
+  -- .. and the field is within the bounds, with its own index, which says what a look through the queues would say
+  pub still-within : T (withinBoundsIndexed (indexedAfter (emptyIndexed legs) rs))
   pub says : SaysAsLooked (indexedAfter (emptyIndexed legs) rs)
 
 -- exactness of the field with its index, after a list of requests from the empty one with legs in whole 64ths

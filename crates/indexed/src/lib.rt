@@ -95,7 +95,7 @@ fn accepted(index: Index, g: Field, r: Request, along: u16) -> SteppedIndexed
 
 // The step of a request that keeps the input rules on a field within the bounds with its own index. The field after it is judged, or the caller
 // has shown that 25 is not its number.
-fn step_within(x: Indexed, r: Request, judged: bool) -> SteppedIndexed
+fn step_by_index(x: Indexed, r: Request, judged: bool) -> SteppedIndexed
     requires { ⌜ (inputNumber r ≡ 0) × T (withinBoundsIndexed x) ⌝ }
     requires { ⌜ (judged ≡ false → numberOf (x .field) r ≡ 25 → ⊥) ⌝ }
     ensures { λ s. ⌜ s ≡ stepIndexed x r ⌝ }
@@ -130,7 +130,7 @@ pub fn step_indexed(x: Indexed, r: Request) -> SteppedIndexed
     if !within_bounds_indexed(x) {
         return turned_away(x, 10);
     }
-    step_within(x, r, true)
+    step_by_index(x, r, true)
 }
 
 // The same step, for a caller who has shown that neither 10 nor 25 is its number: nothing is judged, and the index is not compared with the queues.
@@ -142,5 +142,5 @@ pub fn step_indexed_unjudged(x: Indexed, r: Request) -> SteppedIndexed
     if input != 0 {
         return turned_away(x, input);
     }
-    step_within(x, r, false)
+    step_by_index(x, r, false)
 }

@@ -42,7 +42,7 @@ pub fn report(file: &[u8], out: &mut Buffer) -> usize
     report_by(file, false, out)
 }
 
-// The same report, with the field judged before and after every request.
+// The same report, with the field and its index judged before every request, and the field after it.
 pub fn report_judged(file: &[u8], out: &mut Buffer) -> usize
     ensures { λ r. ⌜ r ≡ length (reportOf (now (file .entry))) ⌝ }
     ensures { λ r. ⌜ now (out .exit) ≡ reportOf (now (file .entry)) ++ drop r (now (out .entry)) ⌝ }

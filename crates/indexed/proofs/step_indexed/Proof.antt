@@ -39,12 +39,12 @@ returns-2 c =
     let broken = fails (w .within-bounds-indexed .ensures) (c .before .if2 .taken) in
     c .turned-away2 .ensures ∙ turned-away (a .x) (a .r) (number-10 (a .x) (a .r) (allowed (w .before)) broken) (λ e. omega arith)
 
-step-within-requires : tie.Need-step-within-requires
-step-within-requires c κs =
+step-by-index-requires : tie.Need-step-by-index-requires
+step-by-index-requires c κs =
     ((allowed (c .before .before), pass (holds (c .before .within-bounds-indexed .ensures) (c .if2 .left))), (λ e. absurd (true≢false e)))
 
 returns-3 : tie.Need-returns-3
-returns-3 c = c .step-within .ensures
+returns-3 c = c .step-by-index .ensures
 
 pub step-indexed-spec : {M : Type 1} → statement M
 step-indexed-spec =
@@ -56,5 +56,5 @@ step-indexed-spec =
     within-bounds-indexed-requires
     turned-away-requires-2
     returns-2
-    step-within-requires
+    step-by-index-requires
     returns-3)

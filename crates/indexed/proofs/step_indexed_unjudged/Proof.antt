@@ -34,15 +34,15 @@ returns c =
     let t = c .before .if1 .taken in
     c .turned-away .ensures ∙ turned-away (a .x) (a .r) (number-input (a .x) (a .r) (λ e. t (input ∙ e)) ∙ sym input) t
 
-step-within-requires : tie.Need-step-within-requires
-step-within-requires c κs =
+step-by-index-requires : tie.Need-step-by-index-requires
+step-by-index-requires c κs =
     let s = c .before .before in
     ((allowed c, pass (bounded c)), (λ e n. s .pre .1 (number-within (s .args .x) (s .args .r) (allowed c) (bounded c) ∙ n)))
 
 returns-2 : tie.Need-returns-2
-returns-2 c = c .step-within .ensures
+returns-2 c = c .step-by-index .ensures
 
 pub step-indexed-unjudged-spec : {M : Type 1} → statement M
 step-indexed-unjudged-spec =
     tie.close
-    (tie.spec input-number-requires turned-away-requires returns step-within-requires returns-2)
+    (tie.spec input-number-requires turned-away-requires returns step-by-index-requires returns-2)

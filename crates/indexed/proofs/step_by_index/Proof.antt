@@ -1,4 +1,4 @@
--- `indexed::step_within` meets its contract: within the bounds the index finds what a look through the queues finds. Assumes nothing.
+-- `indexed::step_by_index` meets its contract: within the bounds the index finds what a look through the queues finds. Assumes nothing.
 use mathlib.Core.Path.{_≡_, sym, ap, _∙_, subst⁻¹}
 use mathlib.Core.Logic.{inl, inr, ⊎-elim}
 use mathlib.Core.Bool.{true, cond}
@@ -23,8 +23,8 @@ use borrow.Author.Needs.{needs}
 use Rattle.indexed.specs.declared.SteppedIndexed.{SteppedIndexed}
 use Rattle.indexed.specs.Indexed.{withIndex, numberIndexed}
 use Rattle.indexed.proofs.Steps.{turned-away, let-through, number-within, field-within, asked-found, tick-leaves}
-use Rattle.indexed.proofs.step_within.Statement.{statement}
-use Rattle.indexed.proofs.step_within.Tie as tie
+use Rattle.indexed.proofs.step_by_index.Statement.{statement}
+use Rattle.indexed.proofs.step_by_index.Tie as tie
 
 -- the step by the field after it
 made : (f : Field) (r : Request) {at : Place} {along : ℕ} {g : Field} → at ≡ placeBefore f r → along ≡ alongFor (r .kind) f r (at .zone) → g ≡ effectOf f r
@@ -150,8 +150,8 @@ returns-3 c =
     ∙ made (s .args .x .field) (s .args .r) (found k) (l .along-of .ensures) (after (j .before))
     ∙ let-through (s .args .x) (s .args .r) (same-number k ∙ zero) zero
 
-pub step-within-spec : {M : Type 1} → statement M
-step-within-spec =
+pub step-by-index-spec : {M : Type 1} → statement M
+step-by-index-spec =
     tie.close
     (tie.spec
     find-requires
