@@ -11,7 +11,6 @@ use Rattle.field.specs.Boxes.{emptyField}
 use Rattle.field.specs.Lists.{every}
 use Rattle.finder.specs.declared.Indexed.{Indexed}
 use Rattle.finder.specs.Finder.{withinBoundsIndexed}
-use Rattle.rules.specs.declared.Answer.{Answer}
 use Rattle.rules.specs.Step.{numberOf, numberAndZeros, stepOf}
 use Rattle.indexed.specs.Indexed.{withIndex}
 use Rattle.history.specs.declared.History.{History}

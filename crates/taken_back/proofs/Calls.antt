@@ -1,7 +1,7 @@
 -- Any list of requests and steps back from an empty field with legal legs: the field and its kept ones follow the history. Assumes nothing.
 use mathlib.Core.Path.{_≡_, refl, sym, ap, _∙_, subst⁻¹}
 use mathlib.Core.Logic.{inl, inr}
-use mathlib.Core.Bool.{Bool, true, false, cond, not}
+use mathlib.Core.Bool.{true, cond, not}
 use mathlib.Core.List.{List, [], _∷_, _++_, map}
 use Prim.Native.Nat.{ℕ, _+_, _-_}
 use native.Mathlib.Omega.{arith}
@@ -35,7 +35,7 @@ use Rattle.indexed.proofs.Own.{within-own, number-own}
 use Rattle.history.specs.declared.History.{History}
 use Rattle.history.specs.declared.SteppedHistory.{SteppedHistory}
 use Rattle.history.specs.History.{startOf, keptWithinBounds, withinBoundsHistory, keeping, numberHistory, stepHistory, numberBack, givenBack, stepBack}
-use Rattle.history.specs.Calls.{Call, request, back, called, playedCalls, afterCalls, withCall, withCalls, historyOf}
+use Rattle.taken_back.specs.Calls.{Call, request, back, called, playedCalls, afterCalls, withCall, withCalls, historyOf}
 use Rattle.history.proofs.Numbers as numbers
 use Rattle.taken_back.specs.TakenBack.{neverAnswered, Follows, TakenBack, asCall, NoneTakenBack}
 use Rattle.taken_back.proofs.Lists.{after-behind, every-read, sound-after}
@@ -195,8 +195,8 @@ module _ (legs : Legs) (l : T (legalLegs legs)) where
       let same = field-same h rs p r in
       record {
         answers =
-          ap (λ (a : Answer). (request r, a) ∷ playedCalls (s .after) (map request qs)) (answer-same h rs p r)
-          ∙ ap (λ (ps : List (Call × Answer)). (request r, stepOf f r .answer) ∷ ps) (rest .answers ∙ ap (λ (g : Field). map asCall (played g qs)) same);
+            ap (λ (a : Answer). (request r, a) ∷ playedCalls (s .after) (map request qs)) (answer-same h rs p r)
+            ∙ ap (λ (ps : List (Call × Answer)). (request r, stepOf f r .answer) ∷ ps) (rest .answers ∙ ap (λ (g : Field). map asCall (played g qs)) same);
         now = rest .now ∙ ap (λ (g : Field). withIndex (fieldAfter g qs)) same;
       }
 

@@ -1,40 +1,28 @@
 -- What a call does to a field with its kept ones that follow a history of requests. Assumes nothing.
-use mathlib.Core.Path.{_≡_, refl, sym, ap, _∙_, subst⁻¹}
+use mathlib.Core.Path.{_≡_, refl, sym, ap, _∙_}
 use mathlib.Core.Logic.{inl, inr}
-use mathlib.Core.Bool.{Bool, true, false, cond}
 use mathlib.Core.List.{List, [], _∷_, _++_}
 use Prim.Native.Nat.{ℕ, _+_, _-_, _≤_, _<_}
 use native.Mathlib.Omega.{arith}
-use lib.Dec.{T, eqb, ltb}
+use lib.Dec.{eqb, ltb}
 use lib.ListN.{length, getD, take, drop, set, length-set, length-append}
 use lib.Seq.{getD-set-same, getD-set-other, take-append-seam, take-append-le, take-take, length-take-le}
-use borrow.Author.Tests.{le-leb, eq-eqb, ne-eqb, eqb-true, eqb-false, ltb-true, ltb-false}
-use Rattle.request.specs.Input.{within}
+use borrow.Author.Tests.{eqb-true, eqb-false, ltb-true, ltb-false}
 use Rattle.request.specs.declared.Request.{Request}
 use Rattle.field.specs.declared.Legs.{Legs}
 use Rattle.field.specs.declared.Field.{Field}
 use Rattle.field.specs.Boxes.{emptyField}
-use Rattle.field.proofs.Tests.{passed, decided, either-way, if-true, if-false}
-use Rattle.field.proofs.Parts.{and-then}
-use Rattle.bounds.specs.Bounds.{legalLegs}
+use Rattle.field.proofs.Tests.{decided, either-way}
 use Rattle.finder.specs.declared.Indexed.{Indexed}
-use Rattle.finder.specs.Finder.{withinBoundsIndexed}
-use Rattle.rules.specs.declared.Answer.{Answer}
-use Rattle.rules.specs.Step.{numberOf, numberAndZeros, stepOf}
+use Rattle.rules.specs.Step.{numberOf, stepOf}
 use Rattle.rules.specs.Play.{fieldAfter}
-use Rattle.rules.specs.Reason.{Sound}
 use Rattle.rules.proofs.StepLaws.{number-is}
-use Rattle.reason.proofs.Reason.{empty-sound, neither-10-nor-25}
-use Rattle.indexed.specs.Indexed.{withIndex, numberIndexed}
-use Rattle.indexed.proofs.Own.{within-own, number-own}
+use Rattle.indexed.specs.Indexed.{withIndex}
 use Rattle.history.specs.declared.History.{History}
-use Rattle.history.specs.declared.SteppedHistory.{SteppedHistory}
-use Rattle.history.specs.History.{mostKept, startOf, keptWithinBounds, withinBoundsHistory, keeping, numberHistory, stepHistory, numberBack, givenBack, stepBack}
-use Rattle.history.specs.Calls.{Call, request, back, called, withCall}
+use Rattle.history.specs.History.{mostKept, startOf, keeping, givenBack}
 use Rattle.history.proofs.Moved.{movedUp, moved-length, moved-at, moved-last}
-use Rattle.history.proofs.Numbers as numbers
 use Rattle.taken_back.specs.TakenBack.{fieldAt, Follows}
-use Rattle.taken_back.proofs.Lists.{after-behind, accepted-more, accepted-fewer, every-read, sound-after}
+use Rattle.taken_back.proofs.Lists.{after-behind, accepted-more, accepted-fewer}
 
 module _ (legs : Legs) where
   abbrev empty : Field
@@ -123,15 +111,25 @@ module _ (legs : Legs) where
           (record { now = withIndex (stepOf f r .field); kept = set (h .kept) (h .count) (h .now); count = h .count + 1 })
           (record { now = withIndex (stepOf f r .field); kept = drop 1 (h .kept) ++ (h .now ∷ []); count = h .count })
           (λ t.
-            let room = ltb-true (h .count) mostKept t in
-            record {
-              accepted = accepted; now = next-now; few = omega (arith, room); before = omega (arith, e, b); places = length-set (h .kept) (h .count) (h .now) ∙ places; kept = kept-behind room;
-            })
+          let room = ltb-true (h .count) mostKept t in
+          record {
+            accepted = accepted;
+            now = next-now;
+            few = omega (arith, room);
+            before = omega (arith, e, b);
+            places = length-set (h .kept) (h .count) (h .now) ∙ places;
+            kept = kept-behind room;
+          })
           (λ t.
-            let full : h .count ≡ mostKept = (let g = ltb-false (h .count) mostKept t in omega (arith, g, few)) in
-            record {
-              accepted = accepted; now = next-now; few = few; before = omega (arith, e, b); places = moved-length (h .kept) (h .now) (omega (arith, places)) ∙ places; kept = kept-moved full;
-            })
+          let full : h .count ≡ mostKept = (let g = ltb-false (h .count) mostKept t in omega (arith, g, few)) in
+          record {
+            accepted = accepted;
+            now = next-now;
+            few = few;
+            before = omega (arith, e, b);
+            places = moved-length (h .kept) (h .now) (omega (arith, places)) ∙ places;
+            kept = kept-moved full;
+          })
 
     -- ---- an accepted request less
     module _ (some : 0 < h .count) where
@@ -155,8 +153,8 @@ module _ (legs : Legs) where
             before = omega (arith, b, e);
             places = p .places;
             kept = λ i d k.
-              let place : length rs - h .count + i ≡ length less - (h .count - 1) + i = omega (arith, e, b, some) in
-              p .kept i d (omega (arith, k))
-              ∙ sym (ap (λ (l : List Request). withIndex (fieldAfter empty l)) (take-take (length rs - h .count + i) (length rs - 1) rs (omega (arith, b, k))))
-              ∙ ap (fieldAt legs less) place;
+                let place : length rs - h .count + i ≡ length less - (h .count - 1) + i = omega (arith, e, b, some) in
+                p .kept i d (omega (arith, k))
+                ∙ sym (ap (λ (l : List Request). withIndex (fieldAfter empty l)) (take-take (length rs - h .count + i) (length rs - 1) rs (omega (arith, b, k))))
+                ∙ ap (fieldAt legs less) place;
           }

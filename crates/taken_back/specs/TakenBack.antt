@@ -17,7 +17,7 @@ use Rattle.indexed.specs.Indexed.{withIndex}
 use Rattle.demand.specs.Demand.{Demand3}
 use Rattle.history.specs.declared.History.{History}
 use Rattle.history.specs.History.{mostKept, counted, startOf, stepHistory, stepBack}
-use Rattle.history.specs.Calls.{Call, request, playedCalls, afterCalls, historyOf}
+use Rattle.taken_back.specs.Calls.{Call, request, playedCalls, afterCalls, historyOf}
 
 -- no call is answered with the number
 abbrev pub neverAnswered : ℕ → List (Call × Answer) → Bool

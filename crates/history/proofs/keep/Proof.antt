@@ -1,5 +1,5 @@
 -- `history::keep` meets its contract: a field is put behind those that count, or the kept ones move up by a place first. Assumes nothing.
-use mathlib.Core.Path.{_≡_, sym, ap, _∙_}
+use mathlib.Core.Path.{sym, ap, _∙_}
 use mathlib.Core.List.{List}
 use Prim.Native.Nat.{_-_}
 use native.Mathlib.Omega.{arith}

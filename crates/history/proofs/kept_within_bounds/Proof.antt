@@ -1,5 +1,5 @@
 -- `history::kept_within_bounds` meets its contract: the kept fields that the loop has passed are within the bounds. Assumes nothing.
-use mathlib.Core.Path.{_≡_, refl, sym, _∙_}
+use mathlib.Core.Path.{sym}
 use Prim.Native.Nat.{_-_, _≤_}
 use native.Mathlib.Omega.{arith}
 use borrow.Author.Needs.{needs}

@@ -1,5 +1,5 @@
 -- `history::start` meets its contract. Assumes nothing.
-use mathlib.Core.Path.{_≡_, ap, _∙_}
+use mathlib.Core.Path.{ap, _∙_}
 use lib.ListN.{replicate}
 use borrow.Author.Needs.{needs}
 use Rattle.finder.specs.declared.Indexed.{Indexed}
