@@ -69,7 +69,7 @@ pub fn within_bounds_history(h: History) -> bool
 }
 
 // The field replaced by another and kept; where eight count, the oldest is dropped.
-pub fn keep(h: History, next: Indexed) -> History
+fn keep(h: History, next: Indexed) -> History
     ensures { λ g. ⌜ g ≡ keeping h next ⌝ }
 {
     let before = h.now;
