@@ -1,4 +1,4 @@
--- One step back after an accepted request, on any history with its eight places. Assumes nothing.
+-- One call on any history: a refused one, and one step back after an accepted request. Assumes nothing.
 use mathlib.Core.Path.{_≡_, refl, sym, ap, _∙_}
 use mathlib.Core.Bool.{Bool, true, false, cond}
 use mathlib.Core.List.{List, [], _∷_, _++_}
@@ -24,10 +24,11 @@ use Rattle.indexed.specs.Indexed.{withIndex}
 use Rattle.indexed.proofs.Own.{within-own}
 use Rattle.history.specs.declared.History.{History}
 use Rattle.history.specs.declared.SteppedHistory.{SteppedHistory}
-use Rattle.history.specs.History.{mostKept, counted, keptWithinBounds, withinBoundsHistory, keeping, numberHistory, stepHistory, givenBack, stepBack}
+use Rattle.history.specs.History.{mostKept, counted, keptWithinBounds, withinBoundsHistory, keeping, numberHistory, stepHistory, numberBack, givenBack, stepBack}
 use Rattle.history.proofs.Moved.{movedUp, moved-length, moved-last}
 use Rattle.history.proofs.Numbers as numbers
-use Rattle.taken_back.specs.TakenBack.{GivenBack}
+use Rattle.taken_back.specs.Calls.{Call, request, back, called}
+use Rattle.taken_back.specs.TakenBack.{NothingChanged, GivenBack}
 
 every-behind : {A : Type 0} (p : A → Bool) (l : List A) (x : A) → every p l ≡ true → p x ≡ true → every p (l ++ (x ∷ [])) ≡ true
 every-behind p [] x e h = and-then h refl
@@ -134,3 +135,23 @@ given-back h places r z desk d =
       now = ap (λ (s : SteppedHistory). s .after .now) back ∙ x .last;
       kept = ap (λ (s : SteppedHistory). counted (s .after)) back ∙ x .rest;
     }
+
+-- ---- a refused call
+refused-request : (h : History) (r : Request) → (stepHistory h r .answer .number ≡ 0 → ⊥) → record { answer = numberAndZeros (numberHistory h r); after = h } ≡ stepHistory h r
+refused-request h r k = numbers.turned-away h r refl (λ z. k (sym (ap (λ (s : SteppedHistory). s .answer .number) (numbers.let-through h r z)) ∙ number-is (h .now .field) r ∙ passes h r z .number))
+
+refused-back : (h : History) (desk : ℕ) → (stepBack h desk .answer .number ≡ 0 → ⊥) → record { answer = numberAndZeros (numberBack h desk); after = h } ≡ stepBack h desk
+unfolding numberAndZeros
+refused-back h desk k = numbers.back-turned-away h desk refl (λ z. k (sym (ap (λ (s : SteppedHistory). s .answer .number) (numbers.back-let-through h desk z))))
+
+module _ (h : History) (c : Call) (n : ℕ) (e : record { answer = numberAndZeros n; after = h } ≡ called h c) where
+  turned-away : NothingChanged h c
+  unfolding numberAndZeros
+  turned-away = record {
+    same = sym (ap (λ (s : SteppedHistory). s .after) e);
+    zeros = sym (ap (λ (s : SteppedHistory). s .answer) e) ∙ ap (λ (s : SteppedHistory). numberAndZeros (s .answer .number)) e;
+  }
+
+pub nothing-changed : (h : History) (c : Call) → (called h c .answer .number ≡ 0 → ⊥) → NothingChanged h c
+nothing-changed h (request r) k = turned-away h (request r) (numberHistory h r) (refused-request h r k)
+nothing-changed h (back desk) k = turned-away h (back desk) (numberBack h desk) (refused-back h desk k)

@@ -17,7 +17,7 @@ use Rattle.indexed.specs.Indexed.{withIndex}
 use Rattle.demand.specs.Demand.{Demand3}
 use Rattle.history.specs.declared.History.{History}
 use Rattle.history.specs.History.{mostKept, counted, startOf, stepHistory, stepBack}
-use Rattle.taken_back.specs.Calls.{Call, request, playedCalls, afterCalls, historyOf}
+use Rattle.taken_back.specs.Calls.{Call, request, called, playedCalls, afterCalls, historyOf}
 
 -- no call is answered with the number
 abbrev pub neverAnswered : ℕ → List (Call × Answer) → Bool
@@ -57,6 +57,11 @@ asCall p = (request (p .0), p .1)
 pub record NoneTakenBack (legs : Legs) (rs : List Request) : Type 0 where
   pub answers : playedCalls (startOf legs) (map request rs) ≡ map asCall (played (emptyField legs) rs)
   pub now : afterCalls (startOf legs) (map request rs) .now ≡ withIndex (fieldAfter (emptyField legs) rs)
+
+-- a refused call leaves its number and zeros, and everything as it was, the places past the count too
+pub record NothingChanged (h : History) (c : Call) : Type 0 where
+  pub same : called h c .after ≡ h
+  pub zeros : called h c .answer ≡ numberAndZeros (called h c .answer .number)
 
 -- one step back by a desk after an accepted request, on any history
 pub record GivenBack (h : History) (r : Request) (desk : ℕ) : Type 0 where
