@@ -1,0 +1,4 @@
+pub mod Lists
+pub mod Follows
+pub mod Calls
+pub mod GivenBack

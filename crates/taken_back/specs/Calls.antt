@@ -1,0 +1,44 @@
+-- Document 02, 2.13: calls, each a request or a step back, one after the other, and their history.
+use mathlib.Core.Bool.{cond}
+use mathlib.Core.List.{List, [], _∷_, _++_}
+use Prim.Native.Nat.{ℕ, _-_}
+use lib.Dec.{eqb}
+use lib.ListN.{length, take}
+use Rattle.request.specs.declared.Request.{Request}
+use Rattle.field.specs.declared.Legs.{Legs}
+use Rattle.rules.specs.declared.Answer.{Answer}
+use Rattle.history.specs.declared.History.{History}
+use Rattle.history.specs.declared.SteppedHistory.{SteppedHistory}
+use Rattle.history.specs.History.{startOf, stepHistory, stepBack}
+
+-- a step back, by a desk, is a call of its own and no kind of request (02, 2.13)
+pub data Call : Type 0 where
+  request : Request → Call
+  back : ℕ → Call
+
+abbrev pub called : History → Call → SteppedHistory
+called h (request r) = stepHistory h r
+called h (back desk) = stepBack h desk
+
+-- a list of calls, each on what the one before returned: each with its answer, ..
+abbrev pub playedCalls : History → List Call → List (Call × Answer)
+playedCalls h [] = []
+playedCalls h (c ∷ cs) = (c, called h c .answer) ∷ playedCalls (called h c .after) cs
+
+-- .. and what the last returned
+abbrev pub afterCalls : History → List Call → History
+afterCalls h [] = h
+afterCalls h (c ∷ cs) = afterCalls (called h c .after) cs
+
+-- what a call and its answer do to the requests before it: an accepted request goes behind them, and an accepted step back takes the last away
+abbrev pub withCall : List Request → Call × Answer → List Request
+withCall rs (request r, a) = cond (eqb (a .number) 0) (rs ++ (r ∷ [])) rs
+withCall rs (back desk, a) = cond (eqb (a .number) 0) (take (length rs - 1) rs) rs
+
+abbrev pub withCalls : List Request → List (Call × Answer) → List Request
+withCalls rs [] = rs
+withCalls rs (p ∷ ps) = withCalls (withCall rs p) ps
+
+-- the history of calls from the start with these legs: the accepted requests that no step back took back, in order (02, 2.13)
+abbrev pub historyOf : Legs → List Call → List Request
+historyOf legs cs = withCalls [] (playedCalls (startOf legs) cs)
