@@ -53,11 +53,6 @@ putEach (e ∷ more) es = putEach more (put e es)
 unfoldable pub indexOf : Field → Index
 indexOf f = record { entries = putEach (map (entryOf f) (numbersIn f everywhere)) (replicate 5 unused) }
 
--- those of a queue whose head is place k of a zone, each with its own zone and place: what one walk through the zones puts
-abbrev pub entriesFrom : ℕ → ℕ → List Aircraft → List Entry
-entriesFrom zone k [] = []
-entriesFrom zone k (a ∷ rest) = record { number = a .number; zone = zone; place = k } ∷ entriesFrom zone (suc k) rest
-
 -- entries that are all unused
 abbrev pub Unused : List Entry → Type 0
 Unused [] = Unit {0}
@@ -99,3 +94,10 @@ sameIndex a b = sameEntries (a .entries) (b .entries)
 -- the bounds: those of the field, and the index beside it is the field's own in every place, the unused ones too (02, 2.9)
 unfoldable pub withinBoundsIndexed : Indexed → Bool
 withinBoundsIndexed x = withinBounds (x .field) && sameIndex (x .index) (indexOf (x .field))
+
+-- ---- one walk through the zones, which the code makes and no other definition needs
+
+-- those of a queue whose head is place k of a zone, each with its own zone and place
+abbrev pub entriesFrom : ℕ → ℕ → List Aircraft → List Entry
+entriesFrom zone k [] = []
+entriesFrom zone k (a ∷ rest) = record { number = a .number; zone = zone; place = k } ∷ entriesFrom zone (suc k) rest
