@@ -1,1 +1,4 @@
 pub mod Taken
+pub mod Bytes
+pub mod Walks
+pub mod Answers
