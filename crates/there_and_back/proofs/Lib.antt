@@ -1,0 +1,4 @@
+pub mod Shape
+pub mod Parts
+pub mod Accepted
+pub mod Back
