@@ -2,3 +2,5 @@ pub mod Shape
 pub mod Parts
 pub mod Accepted
 pub mod Back
+pub mod Gone
+pub mod There
