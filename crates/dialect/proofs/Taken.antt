@@ -8,16 +8,12 @@ use native.Mathlib.Numerals.{add-one}
 use lib.ListN.{length, getD, drop, set, replicate, length-append, drop-of-length-le}
 use lib.Seq.{set-at, append-snoc}
 use Rattle.field.specs.declared.Field.{Field}
-use Rattle.field.specs.declared.Aircraft.{Aircraft}
 use Rattle.field.specs.declared.Sequence.{Sequence}
-use Rattle.field.specs.Boxes.{runway, orderOf}
+use Rattle.field.specs.Boxes.{orderOf}
 use Rattle.field.proofs.Shapes.{order-next}
-use Rattle.field.proofs.Tests.{if-true, if-false}
-use Rattle.questions.specs.Counts.{isEmpty}
-use Rattle.questions.specs.Find.{aircraftAt}
 use Rattle.dialect.specs.declared.Entry.{Entry}
 use Rattle.dialect.specs.declared.Listing.{Listing}
-use Rattle.dialect.specs.Going.{entryOf, entriesFrom, onRunway, entriesOf, noEntry, listed}
+use Rattle.dialect.specs.Going.{entryOf, entriesFrom, noEntry, listed}
 
 -- the five places, of which the first hold these
 abbrev pub held : List Entry → List Entry
@@ -66,26 +62,22 @@ module _ (f : Field) where
     all : p .found ≡ entriesFrom f 1 (orderOf (f .sequence))
     all = sym (append-nil (p .found)) ∙ ap (λ (r : List ℕ). p .found ++ entriesFrom f (suc i) r) (sym (drop-of-length-le (orderOf (f .sequence)) {i = i} end)) ∙ p .rest
 
-    -- past the last of the sequence, with nobody on the runway ..
-    pub taken-all : isEmpty f runway ≡ true → {count : ℕ} → count ≡ i → _≡_ {A = Listing} (record { number = 0; count = count; entries = entries }) (listed (entriesOf f))
-    unfolding listed entriesOf onRunway
-    taken-all e n =
-        let none : p .found ≡ entriesOf f = sym (append-nil (p .found)) ∙ ap (λ (l : List Entry). l ++ []) all ∙ ap (λ (l : List Entry). entriesFrom f 1 (orderOf (f .sequence)) ++ l) (sym (if-true _ _ e)) in
-        (λ t. record { number = 0; count = (n ∙ p .counted) t; entries = p .array t }) ∙ ap listed none
+    -- past the last of the sequence ..
+    pub taken-all : {count : ℕ} → count ≡ i → _≡_ {A = Listing} (record { number = 0; count = count; entries = entries }) (listed (entriesFrom f 1 (orderOf (f .sequence))))
+    unfolding listed
+    taken-all n = (λ t. record { number = 0; count = (n ∙ p .counted) t; entries = p .array t }) ∙ ap listed all
 
-    -- .. or with one there, who comes last with place 0
-    pub taken-runway : isEmpty f runway ≡ false → i < 5 → {e : Entry} → e ≡ entryOf f (aircraftAt f runway 1 .number) 0 → {count : ℕ} → count ≡ i
-        → _≡_ {A = Listing} (record { number = 0; count = count + 1; entries = set entries count e }) (listed (entriesOf f))
-    unfolding listed entriesOf onRunway
-    taken-runway w room {e} same {count} n =
+    -- .. and with one more behind it
+    pub taken-last : i < 5 → {e x : Entry} → e ≡ x → {count : ℕ} → count ≡ i
+        → _≡_ {A = Listing} (record { number = 0; count = count + 1; entries = set entries count e }) (listed (entriesFrom f 1 (orderOf (f .sequence)) ++ (x ∷ [])))
+    unfolding listed
+    taken-last room {e} same {count} n =
         let longer = length-append (p .found) (e ∷ []) in
         let c = p .counted in
         let counted : count + 1 ≡ length (p .found ++ (e ∷ [])) = omega arith in
         let array : set entries count e ≡ held (p .found ++ (e ∷ []))
         = ap (λ (r : List Entry). set r count e) (p .array) ∙ ap (λ (n : ℕ). set (held (p .found)) n e) (n ∙ p .counted) ∙ held-more (p .found) e (omega arith) in
-        let both : p .found ++ (e ∷ []) ≡ entriesOf f
-        = ap (λ (l : List Entry). l ++ (e ∷ [])) all ∙ ap (λ (x : Entry). entriesFrom f 1 (orderOf (f .sequence)) ++ (x ∷ [])) same
-        ∙ ap (λ (l : List Entry). entriesFrom f 1 (orderOf (f .sequence)) ++ l) (sym (if-false _ _ w)) in
+        let both = ap (λ (l : List Entry). l ++ (e ∷ [])) all ∙ ap (λ (y : Entry). entriesFrom f 1 (orderOf (f .sequence)) ++ (y ∷ [])) same in
         (λ t. record { number = 0; count = counted t; entries = array t }) ∙ ap listed both
 
 -- the last test of a list

@@ -1,4 +1,5 @@
-// The field of a list (specs/Coming.antt).
+// The field of a list (specs/Coming.antt). It need not be a field that requests reach: nothing of demand 3 is claimed of it, and somebody may be on
+// it with nobody able to move.
 use crate::Built;
 use crate::Entry;
 use crate::going::no_entry;

@@ -30,7 +30,7 @@ fn entry_of(f: Field, number: u16, place: u16) -> Entry
 }
 
 // A place past the count: all zero.
-pub fn no_entry() -> Entry
+pub(crate) fn no_entry() -> Entry
     ensures { λ r. ⌜ r ≡ noEntry ⌝ }
 {
     Entry {

@@ -1,7 +1,7 @@
 -- `dialect::going::everyone` meets its contract. The loop's invariant: those of the sequence that are passed are in the array, and the rest of the
 -- sequence gives the rest of the list. Assumes nothing.
 use mathlib.Core.Path.{_≡_, sym, ap, _∙_}
-use mathlib.Core.List.{List}
+use mathlib.Core.List.{List, _++_, append-nil}
 use Prim.Native.Nat.{ℕ, _-_, _≤_, _<_}
 use native.Mathlib.Omega.{arith}
 use lib.ListN.{length, replicate}
@@ -12,9 +12,10 @@ use Rattle.field.specs.declared.Sequence.{Sequence}
 use Rattle.field.specs.Boxes.{orderOf, orderLength}
 use Rattle.field.proofs.Known.{field-known}
 use Rattle.field.proofs.Shapes.{order-fits}
+use Rattle.field.proofs.Tests.{if-true, if-false}
 use Rattle.dialect.specs.declared.Entry.{Entry}
-use Rattle.dialect.specs.Going.{entryOf}
-use Rattle.dialect.proofs.Taken.{Taken, taken-none, taken-more, taken-all, taken-runway}
+use Rattle.dialect.specs.Going.{entryOf, entriesFrom, onRunway, entriesOf, listed}
+use Rattle.dialect.proofs.Taken.{Taken, taken-none, taken-more, taken-all, taken-last}
 use Rattle.dialect.proofs.going.everyone.Statement.{statement}
 use Rattle.dialect.proofs.going.everyone.Tie as tie
 
@@ -93,10 +94,13 @@ is-empty-requires : tie.Need-is-empty-requires Inv-loop μ-loop
 is-empty-requires c κs = search needs
 
 returns : tie.Need-returns Inv-loop μ-loop
+unfolding entriesOf onRunway
 returns c =
     let l = c .before .before .before .loop in
     let f = c .before .before .before .before .before .before .before .args .f in
-    taken-all f (l .i) (omega (arith, l .inv .whole)) (l .inv .taken) (sym (c .before .is-empty .ensures) ∙ c .if1 .taken) (omega (arith, l .inv .within))
+    let es = entriesFrom f 1 (orderOf (f .sequence)) in
+    let none = ap (λ (r : List Entry). es ++ r) (if-true _ _ (sym (c .before .is-empty .ensures) ∙ c .if1 .taken)) ∙ append-nil es in
+    taken-all f (l .i) (omega (arith, l .inv .whole)) (l .inv .taken) (omega (arith, l .inv .within)) ∙ ap listed (sym none)
 
 aircraft-at-requires : tie.Need-aircraft-at-requires Inv-loop μ-loop
 aircraft-at-requires c κs = search needs
@@ -114,13 +118,15 @@ add-t22 : tie.Need-add-t22 Inv-loop μ-loop
 add-t22 c = search needs
 
 returns-2 : tie.Need-returns-2 Inv-loop μ-loop
+unfolding entriesOf onRunway
 returns-2 c =
     let b = c .before .before in
     let l = b .before .before .before .loop in
     let f = b .before .before .before .before .before .before .before .args .f in
     let number = ap (λ (a : Aircraft). entryOf f (a .number) 0) (c .before .aircraft-at .ensures) in
-    taken-runway f (l .i) (omega (arith, l .inv .whole)) (l .inv .taken) (sym (b .before .is-empty .ensures) ∙ b .if1 .left) (omega (arith, l .inv .within, l .inv .fits))
-    (c .entry-of2 .ensures ∙ number) (omega (arith, l .inv .within))
+    let one = ap (λ (r : List Entry). entriesFrom f 1 (orderOf (f .sequence)) ++ r) (if-false _ _ (sym (b .before .is-empty .ensures) ∙ b .if1 .left)) in
+    taken-last f (l .i) (omega (arith, l .inv .whole)) (l .inv .taken) (omega (arith, l .inv .within, l .inv .fits)) (c .entry-of2 .ensures ∙ number) (omega (arith, l .inv .within))
+    ∙ ap listed (sym one)
 
 pub everyone-spec : {M : Type 1} → statement M
 everyone-spec =
