@@ -52,6 +52,9 @@ pub refusal-short : (n : ℕ) → n < 2 ^ 64 → length (refusal n) ≤ 29
 unfolding refusal
 refusal-short n h = let l = number-short n h in omega arith
 
+pub refusal-fits : (n : ℕ) → n < 2 ^ 64 → length (refusal n) ≤ 512
+refusal-fits n h = let l = refusal-short n h in omega arith
+
 pub next-short : (n : ℕ) → n < 2 ^ 64 → length (nextLine n) ≤ 26
 unfolding nextLine
 next-short n h = let l = number-short n h in omega arith

@@ -4,3 +4,4 @@ pub mod Accepted
 pub mod Back
 pub mod Gone
 pub mod There
+pub mod ReadBack

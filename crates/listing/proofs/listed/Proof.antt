@@ -44,7 +44,7 @@ returns c =
     let k = c .before .before in
     let n = number-told k in
     let refused : fileNumber (file-of k) ≡ 0 → ⊥ = λ e. c .before .if1 .taken (n ∙ e) in
-    ends (c .put-refused .ensures) (k .before .before .bytes .given .0 .1) (refused-file-short (k .play .result .number) (omega (arith, k .play .ok)))
+    ends (c .put-refused .ensures) (k .before .before .bytes .given .0 .1) (refused-file-short _ (omega (arith, k .play .ok)))
     (ap refusedReport n ∙ sym (if-false _ _ (ne-eqb _ 0 refused)))
 
 with-index-requires : tie.Need-with-index-requires

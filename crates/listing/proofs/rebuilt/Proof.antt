@@ -13,7 +13,7 @@ use Rattle.practice.specs.File.{number16, legsOf}
 use Rattle.field.proofs.Tests.{if-true, if-false}
 use Rattle.dialect.specs.Coming.{fieldOf}
 use Rattle.listing.specs.Report.{builtReport, builtOf}
-use Rattle.listing.proofs.Sizes.{ends, refusal-short}
+use Rattle.listing.proofs.Sizes.{ends, refusal-fits}
 use Rattle.listing.proofs.rebuilt.Statement.{statement}
 use Rattle.listing.proofs.rebuilt.Tie as tie
 
@@ -30,8 +30,8 @@ put-refusal-requires c κs = search needs
 returns : tie.Need-returns
 unfolding builtOf
 returns c =
-    let short = refusal-short 7 (omega arith) in
-    ends (c .put-refusal .ensures) (c .before .before .bytes .given .0 .1) (omega arith) (sym (if-false _ _ (lt-leb 10 _ (c .before .if1 .taken))))
+    ends (c .put-refusal .ensures) (c .before .before .bytes .given .0 .1) (refusal-fits _ (omega arith))
+    (sym (if-false _ _ (lt-leb 10 _ (c .before .if1 .taken))))
 
 legs-in-requires : tie.Need-legs-in-requires
 legs-in-requires c κs = search needs
