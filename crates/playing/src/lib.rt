@@ -44,7 +44,7 @@ pub struct Played {
 }
 
 // The legs of a file as the field holds them.
-fn legs_in_miles(legs: FileLegs) -> Legs
+pub fn legs_in_miles(legs: FileLegs) -> Legs
     ensures { λ r. ⌜ r ≡ legsInMiles legs ⌝ }
 {
     Legs {

@@ -1,0 +1,4 @@
+pub mod Taken
+pub mod Bytes
+pub mod Walks
+pub mod Answers

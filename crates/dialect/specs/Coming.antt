@@ -1,0 +1,102 @@
+-- Document 02, 2.12, "The classroom dialect", coming back: the field of a list in which everyone waits at 3000 or 2000. Definitions only.
+-- The words in quotes are those of document 02, 2.12.
+use mathlib.Core.Bool.{Bool, true, cond, _&&_}
+use mathlib.Core.List.{List, [], _∷_}
+use Prim.Native.Nat.{ℕ, suc, _%_}
+use lib.Dec.{eqb, leb}
+use lib.ListN.{length, getD}
+use Rattle.limits.specs.Limits.{fastest}
+use Rattle.request.specs.Input.{word, within, firstRefused}
+use Rattle.practice.specs.declared.FileLegs.{FileLegs}
+use Rattle.practice.specs.File.{legsAllowed}
+use Rattle.field.specs.declared.Legs.{Legs}
+use Rattle.field.specs.declared.Field.{Field}
+use Rattle.field.specs.Boxes.{isSide, opposite, zoneOf, entering, emptyField}
+use Rattle.field.specs.Edits.{withTail, appended, withZone, withSequence}
+use Rattle.finder.specs.declared.Indexed.{Indexed}
+use Rattle.finder.specs.Finder.{withinBoundsIndexed}
+use Rattle.indexed.specs.Indexed.{withIndex}
+use Rattle.playing.specs.Playing.{legsInMiles, noLegs}
+use Rattle.dialect.specs.declared.Entry.{Entry}
+use Rattle.dialect.specs.declared.Built.{Built}
+
+-- ---- the list, lent as bytes
+
+-- four numbers of 16 bits, little-endian: number, location, place and fix
+abbrev pub entryIn : List ℕ → Entry
+entryIn bytes = record {
+  number = word (getD bytes 0 0) (getD bytes 1 0);
+  location = word (getD bytes 2 0) (getD bytes 3 0);
+  place = word (getD bytes 4 0) (getD bytes 5 0);
+  fix = word (getD bytes 6 0) (getD bytes 7 0);
+}
+
+-- the entries of a list, eight bytes for each; fewer than eight at its end are none
+abbrev pub entriesIn : List ℕ → List Entry
+entriesIn [] = []
+entriesIn (a ∷ []) = []
+entriesIn (a ∷ b ∷ []) = []
+entriesIn (a ∷ b ∷ c ∷ []) = []
+entriesIn (a ∷ b ∷ c ∷ d ∷ []) = []
+entriesIn (a ∷ b ∷ c ∷ d ∷ e ∷ []) = []
+entriesIn (a ∷ b ∷ c ∷ d ∷ e ∷ f ∷ []) = []
+entriesIn (a ∷ b ∷ c ∷ d ∷ e ∷ f ∷ g ∷ []) = []
+entriesIn (a ∷ b ∷ c ∷ d ∷ e ∷ f ∷ g ∷ h ∷ rest) = entryIn (a ∷ b ∷ c ∷ d ∷ e ∷ f ∷ g ∷ h ∷ []) ∷ entriesIn rest
+
+-- an entry that is "a location .. 1 to 4", where "every aircraft waits at 3000 or 2000", and has this place
+unfoldable pub isPlaced : Entry → ℕ → Bool
+isPlaced e place = within 1 4 (e .location) && eqb (e .place) place
+
+-- each entry's place is "its position", the first at this one
+abbrev pub placedFrom : ℕ → List Entry → Bool
+placedFrom place [] = true
+placedFrom place (e ∷ es) = isPlaced e place && placedFrom (suc place) es
+
+-- "29 for a list of more than five, a location not 1 to 4 or a place not its position"; bytes that are no whole entries are no list
+unfoldable pub listAllowed : List ℕ → Bool
+listAllowed bytes = eqb (length bytes % 8) 0 && leb (length (entriesIn bytes)) 5 && placedFrom 1 (entriesIn bytes)
+
+-- ---- the field
+
+-- a fix as the field holds it, in eight bits; what is no side is 0, which breaks bound g as it does itself
+unfoldable pub fixIn : ℕ → ℕ
+fixIn fix = cond (isSide fix) fix 0
+
+-- one of the list in its zone, waiting, at the end of the sequence, with the speed "from the caller", nothing waited and no leg of its own; "the next fix
+-- follows our rules": it is the opposite of this one's
+unfoldable pub withEntry : Field → ℕ → Entry → Field
+withEntry f speed e =
+    withSequence (withZone f (e .location) (withTail (zoneOf f (e .location)) (entering (e .number) (fixIn (e .fix)) speed)))
+    (appended (f .sequence) (e .number)) (opposite (fixIn (e .fix)))
+
+-- one after the other, on a field
+abbrev pub builtOn : Field → ℕ → List Entry → Field
+builtOn f speed [] = f
+builtOn f speed (e ∷ es) = builtOn (withEntry f speed e) speed es
+
+-- all of them, on the empty field with these legs; "an empty list gives right"
+unfoldable pub built : Legs → ℕ → List Entry → Field
+built legs speed entries = builtOn (emptyField legs) speed entries
+
+-- ---- the answer
+
+-- "Coming back: 7 for a leg, 4 for the speed, 29 .., 25 if the built field breaks a bound", with its index (2.9)
+unfoldable pub comingNumber : FileLegs → ℕ → List ℕ → ℕ
+comingNumber legs speed bytes =
+    firstRefused
+    ((7, legsAllowed legs)
+    ∷ (4, within 1 fastest speed)
+    ∷ (29, listAllowed bytes)
+    ∷ (25, withinBoundsIndexed (withIndex (built (legsInMiles legs) speed (entriesIn bytes))))
+    ∷ [])
+
+-- a refusal, with the field of a refused practice file: nobody is on it, and it has no legs
+unfoldable pub notBuilt : ℕ → Built
+notBuilt number = record { number = number; after = withIndex (emptyField (legsInMiles noLegs)) }
+
+-- the field of a list, with its index beside it
+unfoldable pub fieldOf : FileLegs → ℕ → List ℕ → Built
+fieldOf legs speed bytes =
+    cond (eqb (comingNumber legs speed bytes) 0)
+    (record { number = 0; after = withIndex (built (legsInMiles legs) speed (entriesIn bytes)) })
+    (notBuilt (comingNumber legs speed bytes))

@@ -1,0 +1,109 @@
+// The list of a field (specs/Going.antt).
+use crate::Entry;
+use crate::Listing;
+use field::Field;
+use field::boxes::order_length;
+use field::zones::INTERMEDIATE;
+use field::zones::LATERAL;
+use field::zones::RUNWAY;
+use finder::Indexed;
+use finder::within_bounds_indexed;
+use questions::counts::is_empty;
+use questions::find::aircraft_at;
+use questions::find::fix_of;
+use questions::find::place_of;
+ghost use mathlib.Core.Path.{_≡_};
+ghost use Rattle.dialect.specs.Going.{entryOf, entriesOf, inDialect, noEntry, listed, refused, listOf};
+
+// The one with a number, at a place of the list.
+fn entry_of(f: Field, number: u16, place: u16) -> Entry
+    ensures { λ r. ⌜ r ≡ entryOf f number place ⌝ }
+{
+    let at = place_of(f, number);
+    let fix = fix_of(f, number);
+    Entry {
+        number: number,
+        location: at.zone as u16,
+        place: place,
+        fix: fix as u16,
+    }
+}
+
+// A place past the count: all zero.
+pub(crate) fn no_entry() -> Entry
+    ensures { λ r. ⌜ r ≡ noEntry ⌝ }
+{
+    Entry {
+        number: 0,
+        location: 0,
+        place: 0,
+        fix: 0,
+    }
+}
+
+// The answer with a refusal's number and nobody listed.
+fn refused(number: u16) -> Listing
+    ensures { λ r. ⌜ r ≡ refused number ⌝ }
+{
+    let e = no_entry();
+    Listing {
+        number: number,
+        count: 0,
+        entries: [e; 5],
+    }
+}
+
+// The answer with everyone of the sequence, and one on the runway behind them.
+fn everyone(f: Field) -> Listing
+    ensures { λ r. ⌜ r ≡ listed (entriesOf f) ⌝ }
+{
+    let s = f.sequence;
+    let end = order_length(s);
+    let e = no_entry();
+    let mut entries = [e; 5];
+    for i in 0..end {
+        let number = s.numbers[i];
+        entries[i] = entry_of(f, number, (i + 1) as u16);
+    }
+    if is_empty(f, RUNWAY) {
+        return Listing {
+            number: 0,
+            count: end,
+            entries: entries,
+        };
+    }
+    let a = aircraft_at(f, RUNWAY, 1);
+    entries[end] = entry_of(f, a.number, 0);
+    Listing {
+        number: 0,
+        count: end + 1,
+        entries: entries,
+    }
+}
+
+// Whether nobody is in a lateral or the intermediate zone.
+fn in_dialect(f: Field) -> bool
+    ensures { λ r. ⌜ r ≡ inDialect f ⌝ }
+{
+    if !is_empty(f, LATERAL + 1) {
+        return false;
+    }
+    if !is_empty(f, LATERAL + 2) {
+        return false;
+    }
+    is_empty(f, INTERMEDIATE)
+}
+
+// The list of a field; 10 for a field that breaks a bound, then 29 for anyone in zones 5, 6 or 11.
+pub fn list_of(x: Indexed) -> Listing
+    ensures { λ r. ⌜ r ≡ listOf x ⌝ }
+{
+    if !within_bounds_indexed(x) {
+        return refused(10);
+    }
+    let f = x.field;
+    if !in_dialect(f) {
+        return refused(29);
+    }
+    everyone(f)
+}

@@ -1,0 +1,3 @@
+pub mod Known
+pub mod Rows
+pub mod Sizes

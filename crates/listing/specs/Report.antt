@@ -1,0 +1,52 @@
+-- What the program `classroom` prints (02, 2.12): the list of the field after a practice file, or the field that a list builds. Definitions only.
+use Prim.Native.Nat.{ℕ}
+use mathlib.Core.Bool.{cond}
+use mathlib.Core.List.{List, [], _∷_, _++_}
+use lib.Dec.{eqb, leb}
+use lib.ListN.{length, take, drop}
+use Rattle.practice.specs.File.{number16, legsOf, fileNumber}
+use Rattle.text.specs.Text.{space, line}
+use Rattle.playing.specs.Playing.{fieldOfFile}
+use Rattle.session.specs.Report.{refusedReport}
+use Rattle.indexed.specs.Indexed.{withIndex}
+use Rattle.dialect.specs.declared.Entry.{Entry}
+use Rattle.dialect.specs.declared.Listing.{Listing}
+use Rattle.dialect.specs.declared.Built.{Built}
+use Rattle.dialect.specs.Going.{listOf}
+use Rattle.dialect.specs.Coming.{fieldOf}
+
+-- a line for each of a list: number, location, place, fix
+unfoldable pub entryLine : Entry → List ℕ
+entryLine e = line (e .number ∷ e .location ∷ e .place ∷ e .fix ∷ [])
+
+abbrev pub entryLines : List Entry → List ℕ
+entryLines [] = []
+entryLines (e ∷ es) = entryLine e ++ entryLines es
+
+-- a refusal: `refused` and its number
+unfoldable pub refusal : ℕ → List ℕ
+refusal number = 114 ∷ 101 ∷ 102 ∷ 117 ∷ 115 ∷ 101 ∷ 100 ∷ space ∷ line (number ∷ [])
+
+-- the report of a list: a refusal, or a line for each
+unfoldable pub listReport : Listing → List ℕ
+listReport l = cond (eqb (l .number) 0) (entryLines (take (l .count) (l .entries))) (refusal (l .number))
+
+-- the list of the field after a practice file of these bytes; `file` and its number for a refused one
+unfoldable pub listedOf : List ℕ → List ℕ
+listedOf file = cond (eqb (fileNumber file) 0) (listReport (listOf (withIndex (fieldOfFile file)))) (refusedReport (fileNumber file))
+
+-- the next fix: `next` and the side
+unfoldable pub nextLine : ℕ → List ℕ
+nextLine fix = 110 ∷ 101 ∷ 120 ∷ 116 ∷ space ∷ line (fix ∷ [])
+
+-- the report of a field that a list built: a refusal, or its next fix and its list
+unfoldable pub builtReport : Built → List ℕ
+builtReport b = cond (eqb (b .number) 0) (nextLine (b .after .field .next) ++ listReport (listOf (b .after))) (refusal (b .number))
+
+-- of bytes that hold the legs, as body 1 of a practice file has them, the speed and the entries; fewer bytes than legs and speed have are refused 7
+unfoldable pub builtOf : List ℕ → List ℕ
+builtOf input = cond (leb 10 (length input)) (builtReport (fieldOf (legsOf input) (number16 input 8) (drop 10 input))) (refusal 7)
+
+-- how many bytes the caller's buffer has
+abbrev pub classroomRoom : ℕ
+classroomRoom = 512

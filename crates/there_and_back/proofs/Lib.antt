@@ -1,0 +1,7 @@
+pub mod Shape
+pub mod Parts
+pub mod Accepted
+pub mod Back
+pub mod Gone
+pub mod There
+pub mod ReadBack

@@ -1,0 +1,14 @@
+-- A classroom list as the bytes that coming back is lent (02, 2.12). Definitions only.
+use Prim.Native.Nat.{ℕ}
+use mathlib.Core.List.{List, [], _∷_, _++_}
+use Rattle.practice.specs.Practice.{bytes16}
+use Rattle.dialect.specs.declared.Entry.{Entry}
+
+-- four numbers of 16 bits, little-endian: number, location, place and fix
+abbrev pub entryBytes : Entry → List ℕ
+entryBytes e = bytes16 (e .number) ++ bytes16 (e .location) ++ bytes16 (e .place) ++ bytes16 (e .fix)
+
+-- one entry after the other
+abbrev pub listBytes : List Entry → List ℕ
+listBytes [] = []
+listBytes (e ∷ es) = entryBytes e ++ listBytes es

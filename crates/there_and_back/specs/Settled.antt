@@ -1,0 +1,39 @@
+-- Document 02, 2.12: what "there and back" loses. Of a field all else stays: these parts are set to what a field built from a list has.
+-- Definitions only. The words in quotes are those of document 02, 2.12.
+use mathlib.Core.Bool.{cond}
+use mathlib.Core.List.{_++_, map}
+use Prim.Native.Nat.{ℕ}
+use lib.Dec.{eqb}
+use lib.ListN.{drop}
+use Rattle.leg.specs.Progress.{whole}
+use Rattle.field.specs.declared.Aircraft.{Aircraft}
+use Rattle.field.specs.declared.Zone.{Zone}
+use Rattle.field.specs.declared.Legs.{Legs}
+use Rattle.field.specs.declared.Field.{Field}
+use Rattle.field.specs.Boxes.{right, queueOf, orderLength}
+use Rattle.finder.specs.declared.Indexed.{Indexed}
+
+-- one present: its "speed", its "waiting sums", and "a zero's sign" of its own leg, which is 0 while it waits (2.7)
+unfoldable pub settled : ℕ → Aircraft → Aircraft
+settled speed a = record { number = a .number; fix = a .fix; speed = speed; progress = a .progress; waited = whole 0; leg = whole 0 }
+
+-- a place past a length: "a zero's sign"
+unfoldable pub plainZeros : Aircraft → Aircraft
+plainZeros a = record { number = a .number; fix = a .fix; speed = a .speed; progress = a .progress; waited = whole 0; leg = whole 0 }
+
+unfoldable pub settledZone : ℕ → Zone → Zone
+settledZone speed q = record { aircraft = map (settled speed) (queueOf q) ++ map plainZeros (drop (q .length) (q .aircraft)); length = q .length }
+
+-- the field: its zones, its "legs", and "the next fix of an empty field"
+unfoldable pub settledField : Legs → ℕ → Field → Field
+settledField legs speed f =
+    record {
+      zones = map (settledZone speed) (f .zones);
+      sequence = f .sequence;
+      next = cond (eqb (orderLength (f .sequence)) 0) right (f .next);
+      legs = legs;
+    }
+
+-- the index stays (2.9)
+unfoldable pub settledIndexed : Legs → ℕ → Indexed → Indexed
+settledIndexed legs speed x = record { field = settledField legs speed (x .field); index = x .index }
