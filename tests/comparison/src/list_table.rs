@@ -99,6 +99,11 @@ impl Built {
         self.present[list.lines().count()] += 1;
     }
 
+    /// How many fields were built.
+    pub fn fields(&self) -> usize {
+        self.present.iter().sum()
+    }
+
     /// What should have come and did not, and what came and should not.
     pub fn faults(&self) -> Vec<String> {
         let Built { counts, others, present, next } = self;

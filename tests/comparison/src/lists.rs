@@ -50,8 +50,10 @@ fn ways(count: u32) -> impl Iterator<Item = Vec<u16>> {
     (0..4usize.pow(count)).map(move |way| (0..count).map(|at| (way >> (2 * at) & 3) as u16 + 1).collect())
 }
 
-/// Up to five at the locations 1 to 4, by every way and both fixes of the first; no two at one location in the 130 patterns that are
-/// accepted, the empty one counted twice.
+/// Of these so many have a field: up to four, no two at one location. The empty list is there for both fixes.
+pub const PATTERNS: usize = 130;
+
+/// Up to five at the locations 1 to 4, by every way and both fixes of the first.
 pub fn patterns(dice: &mut Dice) -> Vec<Vec<u8>> {
     let mut inputs = Vec::new();
     for count in 0..=5 {

@@ -321,6 +321,13 @@ fn all_listed(comparison: &mut Comparison, dice: &mut Dice, count: usize) -> Res
 
 fn all_built(comparison: &mut Comparison, dice: &mut Dice, count: usize) -> Result<(), String> {
     comparison.built("up to five at each location, by both fixes", lists::patterns(dice))?;
+    if comparison.fields.fields() != lists::PATTERNS {
+        return Err(format!(
+            "{} of these have a field, not {}\n",
+            comparison.fields.fields(),
+            lists::PATTERNS
+        ));
+    }
     comparison.built("each number of a list with others", lists::each_number(dice))?;
     comparison.built("edge legs and speeds, before each other fault", lists::in_order(dice))?;
     comparison.built("each byte of an input with each value", lists::damaged(dice))?;
