@@ -6,15 +6,17 @@
 //! practice files, [`button()`] for a practice file after which one button
 //! empties the field, and [`spacing()`] for the spacing after a practice file.
 //! [`author`] is the other way round: legs and requests in, the bytes of a
-//! practice file out. Beneath them: [`file`] reads a practice file, [`binder`]
+//! practice file out. [`classroom_list`] gives the list of the classroom dialect
+//! after a practice file, [`classroom_field`] the field of such a list. Beneath them: [`file`] reads a practice file, [`binder`]
 //! a binder, [`request`] holds requests and the input rules, [`field`] the
 //! zones, the sequence, the bounds and the twelve kinds of request,
 //! [`mod@button`] what a press proposes, [`mod@spacing`] the gaps along the
 //! path, [`index`] a field with an index beside it, [`writer`] writes a
-//! practice file.
+//! practice file, [`classroom`] converts a field to a list and back.
 
 pub mod binder;
 pub mod button;
+pub mod classroom;
 pub mod explore;
 pub mod field;
 pub mod file;
@@ -26,10 +28,11 @@ pub mod writer;
 
 pub use binder::Week;
 pub use button::Ending;
+pub use classroom::Listed;
 pub use field::{Aircraft, Answer, Field, Legs, Progress, Side, Zone};
 pub use file::PracticeFile;
 pub use index::{Index, Indexed};
-pub use refusal::{BinderRefusal, FileRefusal, Refusal, WriteRefusal};
+pub use refusal::{BinderRefusal, ClassroomRefusal, FileRefusal, Refusal, WriteRefusal};
 pub use request::{Call, Request};
 pub use spacing::{Gap, Pair};
 
@@ -100,6 +103,35 @@ pub fn spacing(file: &[u8], spacing: u16) -> Vec<u8> {
 /// The whole output of `author` for four legs and requests: a practice file, or one line where they are refused.
 pub fn author(input: &[u8]) -> Vec<u8> {
     writer::from_bytes(input).unwrap_or_else(|refusal| format!("refused {}\n", refusal.number()).into_bytes())
+}
+
+/// The whole output of `classroom list` for the bytes of one practice file.
+pub fn classroom_list(file: &[u8]) -> Vec<u8> {
+    if_read(file, |practice, out| {
+        let field = played(practice, Field::step, |_, _, _| ());
+        write_list(&Indexed::new(field), out);
+    })
+}
+
+/// The whole output of `classroom field` for legs, a speed and a list.
+pub fn classroom_field(input: &[u8]) -> Vec<u8> {
+    let mut out = Vec::new();
+    match classroom::from_bytes(input) {
+        Ok(built) => {
+            line(&mut out, format_args!("next {}", built.field.next_fix.number()));
+            write_list(&built, &mut out);
+        }
+        Err(refusal) => line(&mut out, format_args!("refused {}", refusal.number())),
+    }
+    out
+}
+
+/// A line for each of a field's list, or one where it has none.
+fn write_list(field: &Indexed, out: &mut Vec<u8>) {
+    match classroom::list(field) {
+        Ok(list) => list.iter().for_each(|listed| line(out, format_args!("{listed}"))),
+        Err(refusal) => line(out, format_args!("refused {}", refusal.number())),
+    }
 }
 
 fn report_by(file: &[u8], step: impl Fn(&mut Field, &Request) -> Result<Answer, Refusal>) -> Vec<u8> {

@@ -2,7 +2,9 @@
 //! the word `week`, a binder of them and its report; with the word `button`, a
 //! practice file and what the button plays after it; with the word `spacing`
 //! and a spacing, a practice file and the gaps after it; with the word
-//! `author`, legs and requests and their practice file.
+//! `author`, legs and requests and their practice file; with the words
+//! `classroom list`, a practice file and the list of the classroom dialect after
+//! it, and with `classroom field` legs, a speed and such a list, and the field.
 
 use std::io::{self, Read, Write};
 use std::{env, process};
@@ -17,13 +19,15 @@ fn main() -> io::Result<()> {
         ["week"] => (reference::binder::LONGEST, Box::new(reference::week)),
         ["button"] => (reference::file::LONGEST, Box::new(reference::button)),
         ["author"] => (reference::writer::LONGEST_INPUT, Box::new(reference::author)),
+        ["classroom", "list"] => (reference::file::LONGEST, Box::new(reference::classroom_list)),
+        ["classroom", "field"] => (reference::classroom::LONGEST_INPUT, Box::new(reference::classroom_field)),
         ["spacing", word] => {
             // What is no number of 16 bits is refused as 0 is.
             let spacing = word.parse().unwrap_or(0);
             (reference::file::LONGEST, Box::new(move |file| reference::spacing(file, spacing)))
         }
         _ => {
-            eprintln!("usage: reference [button | spacing SPACING] < FILE, reference week < BINDER, or reference author < LEGS-AND-REQUESTS");
+            eprintln!("usage: reference [button | spacing SPACING | classroom list] < FILE, reference week < BINDER, reference author < LEGS-AND-REQUESTS, or reference classroom field < LEGS-SPEED-AND-LIST");
             process::exit(2);
         }
     };

@@ -1,4 +1,5 @@
-//! The numbers by which a binder, a file or a request is turned away, and what is to be written as a file.
+//! The numbers by which a binder, a file or a request is turned away, what is to be written as a file, and a field or a list of the
+//! classroom dialect.
 
 /// A binder whose count, size or placing is not as said.
 #[derive(Clone, Copy, Debug, PartialEq, Eq)]
@@ -44,6 +45,29 @@ impl WriteRefusal {
             WriteRefusal::Count => 5,
             WriteRefusal::Request(refusal) => refusal.number(),
             WriteRefusal::Buffer => 28,
+        }
+    }
+}
+
+/// Why a field has no list of the classroom dialect, or a list has no field.
+#[derive(Clone, Copy, Debug, PartialEq, Eq)]
+pub enum ClassroomRefusal {
+    FieldBreaksBound,
+    Leg,
+    Speed,
+    /// The dialect has no such list, or none that is converted.
+    List,
+    BuiltBreaksBound,
+}
+
+impl ClassroomRefusal {
+    pub fn number(self) -> u8 {
+        match self {
+            ClassroomRefusal::FieldBreaksBound => 10,
+            ClassroomRefusal::Leg => 7,
+            ClassroomRefusal::Speed => 4,
+            ClassroomRefusal::List => 29,
+            ClassroomRefusal::BuiltBreaksBound => 25,
         }
     }
 }

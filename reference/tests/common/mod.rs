@@ -1,6 +1,8 @@
 //! Fields and requests for the tests.
 #![allow(dead_code)]
 
+pub mod classroom;
+
 use reference::explore::requests;
 use reference::{Aircraft, Answer, Field, Legs, PracticeFile, Progress, Refusal, Request, Side, Zone};
 

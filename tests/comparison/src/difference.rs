@@ -1,7 +1,9 @@
 //! Where the two programs differ, as readable sessions.
 
 use crate::lessons::Lesson;
-use crate::library::{spacing_into, write_into, Library, ShortBuffer, BUTTON, MARGIN, PLAYERS, WEEK};
+use crate::library::{
+    spacing_into, write_into, Library, ShortBuffer, BUTTON, FIELD, LIST, MARGIN, PLAYERS, WEEK,
+};
 use reference::{binder, writer, PracticeFile, Request};
 
 /// The report that both programs give of a file, the library judging the fields or not, or how they differ.
@@ -23,6 +25,16 @@ pub fn same_button(library: &mut Library, file: &[u8]) -> Result<Vec<u8>, String
 pub fn same_spacing(library: &mut Library, file: &[u8], spacing: u16) -> Result<Vec<u8>, String> {
     let player = |file: &[u8], out: &mut ShortBuffer| spacing_into(file, spacing, out);
     same(library, &[("the library", player)], file, reference::spacing(file, spacing))
+}
+
+/// The list of the classroom dialect that both print after a file, or how they differ.
+pub fn same_list(library: &mut Library, file: &[u8]) -> Result<Vec<u8>, String> {
+    same(library, &LIST, file, reference::classroom_list(file))
+}
+
+/// What both print of the field of legs, a speed and a list, or how they differ.
+pub fn same_field(library: &mut Library, input: &[u8]) -> Result<Vec<u8>, String> {
+    same(library, &FIELD, input, reference::classroom_field(input))
 }
 
 /// The number that both give of a writing, or how they differ: in the number, in the length, in a byte of the buffer, or beside
@@ -127,6 +139,12 @@ pub fn readable_lesson(library: &mut Library, lesson: &Lesson) -> String {
     let how = same_writing(library, &lesson).err().unwrap_or_default();
     let Lesson { legs_64ths, requests, room } = lesson;
     format!("{how}\n# legs {legs_64ths:?}, a buffer of {room} bytes, requests:\n{}", hexadecimal(&requests))
+}
+
+/// How the two differ on legs, a speed and a list, and those as bytes.
+pub fn readable_field(library: &mut Library, input: &[u8]) -> String {
+    let how = same_field(library, input).err().unwrap_or_default();
+    format!("{how}\n{}", hexadecimal(input))
 }
 
 /// A file that plays, and differs, with fewer requests: the shortest beginning

@@ -1,6 +1,6 @@
-//! Practice files, binders of them, what files are written from, and the two
-//! programs that play and write them: the proved library ([`library`]) and the
-//! reference.
+//! Practice files, binders of them, what files are written from, lists of the
+//! classroom dialect, and the two programs that play, write and convert them:
+//! the proved library ([`library`]) and the reference.
 
 pub mod binders;
 pub mod damaged;
@@ -9,5 +9,7 @@ pub mod difference;
 pub mod fields;
 pub mod lessons;
 pub mod library;
+pub mod list_table;
+pub mod lists;
 pub mod sessions;
 pub mod table;

@@ -7,6 +7,8 @@ extern "C" {
     fn baguymo_week(binder: *const u8, length: usize, out: *mut u8) -> usize;
     fn baguymo_button(file: *const u8, length: usize, out: *mut u8) -> usize;
     fn baguymo_spacing(file: *const u8, length: usize, spacing: u16, out: *mut u8) -> usize;
+    fn baguymo_list(file: *const u8, length: usize, out: *mut u8) -> usize;
+    fn baguymo_field(input: *const u8, length: usize, out: *mut u8) -> usize;
     /// Two slices, and a number that is lent.
     fn baguymo_write(
         base: u16,
@@ -25,9 +27,12 @@ extern "C" {
 pub const ROOM: usize = 131_072;
 /// The same for the spacing.
 pub const SHORT_ROOM: usize = 1024;
+/// The same for both directions of the classroom dialect.
+pub const CLASSROOM_ROOM: usize = 512;
 
 pub type Buffer = [u8; ROOM];
 pub type ShortBuffer = [u8; SHORT_ROOM];
+pub type ClassroomBuffer = [u8; CLASSROOM_ROOM];
 
 /// Plays a file or a binder into a buffer, and yields the length of the report.
 pub type Player<const N: usize> = fn(&[u8], &mut [u8; N]) -> usize;
@@ -41,6 +46,10 @@ pub const WEEK: [(&str, Player<ROOM>); 1] = [("the library", week_into)];
 
 /// Its function for the button.
 pub const BUTTON: [(&str, Player<ROOM>); 1] = [("the library", button_into)];
+
+/// Its functions for the classroom dialect: the list after a file, and the field of a list.
+pub const LIST: [(&str, Player<CLASSROOM_ROOM>); 1] = [("the library", list_into)];
+pub const FIELD: [(&str, Player<CLASSROOM_ROOM>); 1] = [("the library", field_into)];
 
 pub fn report_into(file: &[u8], out: &mut Buffer) -> usize {
     // SAFETY: both pointers are valid for the lengths that the library's signature states.
@@ -65,6 +74,16 @@ pub fn button_into(file: &[u8], out: &mut Buffer) -> usize {
 pub fn spacing_into(file: &[u8], spacing: u16, out: &mut ShortBuffer) -> usize {
     // SAFETY: as above.
     unsafe { baguymo_spacing(file.as_ptr(), file.len(), spacing, out.as_mut_ptr()) }
+}
+
+pub fn list_into(file: &[u8], out: &mut ClassroomBuffer) -> usize {
+    // SAFETY: as above.
+    unsafe { baguymo_list(file.as_ptr(), file.len(), out.as_mut_ptr()) }
+}
+
+pub fn field_into(input: &[u8], out: &mut ClassroomBuffer) -> usize {
+    // SAFETY: as above.
+    unsafe { baguymo_field(input.as_ptr(), input.len(), out.as_mut_ptr()) }
 }
 
 /// Writes a practice file to the start of a buffer, and yields its number and its length.

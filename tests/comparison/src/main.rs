@@ -1,20 +1,22 @@
 //! Plays many practice files by the proved library, with the fields judged
 //! and not, and by the reference, many binders by both, and many files after
-//! which the button is held down, and after which the spacing is asked for, and
-//! has both write practice files: comparison [SEED [COUNT]], COUNT random
-//! sessions, a tenth as many random binders, a tenth as many for the button, a
-//! quarter for the spacing, and a quarter to be written. The last line says how
-//! many of them were compared, and the verdict.
+//! which the button is held down, and after which the spacing or a list of the
+//! classroom dialect is asked for, has both write practice files, and build the
+//! fields of such lists: comparison [SEED [COUNT]], COUNT random sessions, as
+//! many fields, a tenth as many random binders, a tenth as many for the button,
+//! a quarter for the spacing, for the list, and to be written. The last line
+//! says how many of them were compared, and the verdict.
 
 use comparison::dice::Dice;
 use comparison::difference::{
-    readable, readable_binder, readable_lesson, same_button, same_report, same_spacing, same_week,
-    same_writing,
+    readable, readable_binder, readable_field, readable_lesson, same_button, same_field, same_list,
+    same_report, same_spacing, same_week, same_writing,
 };
 use comparison::lessons::Lesson;
 use comparison::library::Library;
+use comparison::list_table::{Built, Lists};
 use comparison::table::{Gaps, Presses, Table, Weeks, Writings};
-use comparison::{binders, damaged, fields, lessons, sessions};
+use comparison::{binders, damaged, fields, lessons, lists, sessions};
 use reference::binder::to_bytes;
 use reference::PracticeFile;
 use std::path::Path;
@@ -32,6 +34,8 @@ const AN_EDGE: usize = 100;
 const A_SPACED: usize = 4;
 /// Random sessions for each list that is to be written.
 const A_WRITTEN: usize = 4;
+/// Random sessions for each after which the list is asked for.
+const A_LISTED: usize = 4;
 /// Damaged files that play for each after which the button is held down.
 const A_DAMAGED: usize = 16;
 
@@ -53,6 +57,12 @@ struct Comparison {
     /// Lists that were written or refused.
     written: usize,
     writings: Writings,
+    /// Files after which the list was asked for.
+    listed: usize,
+    lists: Lists,
+    /// Lists of which a field was to be built.
+    built: usize,
+    fields: Built,
 }
 
 impl Comparison {
@@ -154,6 +164,36 @@ impl Comparison {
         println!("writing {what}: {} lists", self.written - before);
         Ok(())
     }
+
+    /// Files after which the list is asked for.
+    fn listed(&mut self, what: &str, files: impl IntoIterator<Item = Vec<u8>>) -> Result<(), String> {
+        let before = self.listed;
+        for file in files {
+            self.listed += 1;
+            let Ok(report) = same_list(&mut self.library, &file) else {
+                let how = readable(&mut self.library, same_list, &file);
+                return Err(format!("the list after file {} differs: {how}", self.listed));
+            };
+            self.lists.count(&report);
+        }
+        println!("the list after {what}: {} files", self.listed - before);
+        Ok(())
+    }
+
+    /// Legs, a speed and a list of which a field is to be built.
+    fn built(&mut self, what: &str, inputs: impl IntoIterator<Item = Vec<u8>>) -> Result<(), String> {
+        let before = self.built;
+        for input in inputs {
+            self.built += 1;
+            let Ok(report) = same_field(&mut self.library, &input) else {
+                let how = readable_field(&mut self.library, &input);
+                return Err(format!("the field of list {} differs: {how}", self.built));
+            };
+            self.fields.count(&report);
+        }
+        println!("the field of {what}: {} lists", self.built - before);
+        Ok(())
+    }
 }
 
 fn none_of(faults: Vec<String>) -> Result<(), String> {
@@ -192,7 +232,9 @@ fn all(comparison: &mut Comparison, seed: u64, count: usize) -> Result<(), Strin
     all_binders(comparison, &mut dice, count / A_BINDER)?;
     all_pressed(comparison, &mut dice, count)?;
     all_spaced(comparison, &mut dice, count)?;
-    all_written(comparison, &mut dice, count)
+    all_written(comparison, &mut dice, count)?;
+    all_listed(comparison, &mut dice, count)?;
+    all_built(comparison, &mut dice, count)
 }
 
 fn all_binders(comparison: &mut Comparison, dice: &mut Dice, count: usize) -> Result<(), String> {
@@ -268,6 +310,33 @@ fn all_written(comparison: &mut Comparison, dice: &mut Dice, count: usize) -> Re
     none_of(comparison.writings.faults())
 }
 
+fn all_listed(comparison: &mut Comparison, dice: &mut Dice, count: usize) -> Result<(), String> {
+    comparison.listed("stored sessions", stored())?;
+    comparison.listed("damaged files", damaged::files(dice))?;
+    comparison.listed("the reachable fields, numbers and miles aside", fields::ways())?;
+    comparison.listed("random sessions", (0..count / A_LISTED).map(|_| sessions::session(dice)))?;
+    println!("{}", comparison.lists);
+    none_of(comparison.lists.faults())
+}
+
+fn all_built(comparison: &mut Comparison, dice: &mut Dice, count: usize) -> Result<(), String> {
+    comparison.built("up to five at each location, by both fixes", lists::patterns(dice))?;
+    if comparison.fields.fields() != lists::PATTERNS {
+        return Err(format!(
+            "{} of these have a field, not {}\n",
+            comparison.fields.fields(),
+            lists::PATTERNS
+        ));
+    }
+    comparison.built("each number of a list with others", lists::each_number(dice))?;
+    comparison.built("edge legs and speeds, before each other fault", lists::in_order(dice))?;
+    comparison.built("each byte of an input with each value", lists::damaged(dice))?;
+    comparison.built("inputs of each length up to seven, and long ones", lists::lengths(dice))?;
+    comparison.built("random inputs", (0..count).map(|_| lists::random(dice)))?;
+    println!("{}", comparison.fields);
+    none_of(comparison.fields.faults())
+}
+
 fn argument<T: std::str::FromStr>(place: usize, default: T) -> T {
     match env::args().nth(place) {
         Some(word) => word.parse().unwrap_or_else(|_| panic!("not a number: {word}")),
@@ -279,15 +348,15 @@ fn main() -> ExitCode {
     let (seed, count) = (argument(1, SEED), argument(2, COUNT));
     let mut comparison = Comparison::default();
     let outcome = all(&mut comparison, seed, count);
-    let Comparison { compared, binders, pressed, spaced, written, .. } = comparison;
+    let Comparison { compared, binders, pressed, spaced, written, listed, built, .. } = comparison;
     match outcome {
         Ok(()) => {
-            println!("compare: {compared} files compared (seed {seed}), fields judged and not, {binders} binders, the button after {pressed} files and the spacing after {spaced}, {written} lists written or refused: every report, file and number the same");
+            println!("compare: {compared} files compared (seed {seed}), fields judged and not, {binders} binders, the button after {pressed} files, the spacing after {spaced} and the list after {listed}, {written} lists written or refused, {built} fields of lists: every report, file and number the same");
             ExitCode::SUCCESS
         }
         Err(fault) => {
             print!("{fault}");
-            println!("compare: FAILED after {compared} files, {binders} binders, the button after {pressed} files, the spacing after {spaced} and {written} lists to be written (seed {seed})");
+            println!("compare: FAILED after {compared} files, {binders} binders, the button after {pressed} files, the spacing after {spaced}, {written} lists to be written, the list after {listed} files and {built} fields of lists (seed {seed})");
             ExitCode::FAILURE
         }
     }
