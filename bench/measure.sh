@@ -23,6 +23,8 @@ staticlib . session
 staticlib . binder
 staticlib . demonstration
 staticlib . spaced
+staticlib . writer
+staticlib . listing
 cargo build --quiet --release --offline --locked --manifest-path bench/Cargo.toml
 bench=bench/target/release/bench
 longest=crates/cases/data/longest.scap
