@@ -12,7 +12,8 @@
 //! zones, the sequence, the bounds and the twelve kinds of request,
 //! [`mod@button`] what a press proposes, [`mod@spacing`] the gaps along the
 //! path, [`index`] a field with an index beside it, [`writer`] writes a
-//! practice file, [`classroom`] converts a field to a list and back.
+//! practice file, [`classroom`] converts a field to a list and back,
+//! [`history`] keeps the last fields and takes requests back.
 
 pub mod binder;
 pub mod button;
@@ -20,6 +21,7 @@ pub mod classroom;
 pub mod explore;
 pub mod field;
 pub mod file;
+pub mod history;
 pub mod index;
 pub mod refusal;
 pub mod request;
@@ -31,8 +33,9 @@ pub use button::Ending;
 pub use classroom::Listed;
 pub use field::{Aircraft, Answer, Field, Legs, Progress, Side, Zone};
 pub use file::PracticeFile;
+pub use history::History;
 pub use index::{Index, Indexed};
-pub use refusal::{BinderRefusal, ClassroomRefusal, FileRefusal, Refusal, WriteRefusal};
+pub use refusal::{BackRefusal, BinderRefusal, ClassroomRefusal, FileRefusal, Refusal, WriteRefusal};
 pub use request::{Call, Request};
 pub use spacing::{Gap, Pair};
 

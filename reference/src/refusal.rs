@@ -1,5 +1,5 @@
-//! The numbers by which a binder, a file or a request is turned away, what is to be written as a file, and a field or a list of the
-//! classroom dialect.
+//! The numbers by which a binder, a file or a request is turned away, what is to be written as a file, a field or a list of the
+//! classroom dialect, and a step back.
 
 /// A binder whose count, size or placing is not as said.
 #[derive(Clone, Copy, Debug, PartialEq, Eq)]
@@ -68,6 +68,24 @@ impl ClassroomRefusal {
             ClassroomRefusal::Speed => 4,
             ClassroomRefusal::List => 29,
             ClassroomRefusal::BuiltBreaksBound => 25,
+        }
+    }
+}
+
+/// Why a step back is not taken.
+#[derive(Clone, Copy, Debug, PartialEq, Eq)]
+pub enum BackRefusal {
+    Desk,
+    FieldBreaksBound,
+    NoneKept,
+}
+
+impl BackRefusal {
+    pub fn number(self) -> u8 {
+        match self {
+            BackRefusal::Desk => 31,
+            BackRefusal::FieldBreaksBound => 10,
+            BackRefusal::NoneKept => 27,
         }
     }
 }

@@ -2,6 +2,7 @@
 #![allow(dead_code)]
 
 pub mod classroom;
+pub mod history;
 
 use reference::explore::requests;
 use reference::{Aircraft, Answer, Field, Legs, PracticeFile, Progress, Refusal, Request, Side, Zone};
