@@ -3,7 +3,7 @@
 use mathlib.Core.Path.{_≡_, refl, sym, _∙_, subst}
 use mathlib.Core.Logic.{_⊎_, inl, inr}
 use mathlib.Core.Bool.{Bool, true, false, cond, not, _&&_, _||_, true≢false}
-use Prim.Native.Nat.{ℕ}
+use Prim.Native.Nat.{ℕ, _≤_}
 use native.Mathlib.Omega.{arith}
 use borrow.Author.Tests.{eqb-true}
 use lib.Dec.{T, eqb, leb, leb→le, le→leb, lit<}
@@ -18,11 +18,13 @@ use Rattle.leg.proofs.Theorems.{zero-within-up-to, zero-waited, missed-leg-lega
 use Rattle.leg.proofs.Missed.{equal-legal, equal-self, longer-legal}
 use Rattle.field.specs.declared.Aircraft.{Aircraft}
 use Rattle.field.specs.declared.Legs.{Legs}
-use Rattle.field.specs.Boxes.{right, left, missed, finalApproach, isSide, isFlyingZone, legOf, entering, arrived, turnedAway, withFix}
-use Rattle.bounds.specs.Bounds.{isWaiting, legFits, fitsZone, legalLegs}
+use Rattle.field.specs.declared.Field.{Field}
+use Rattle.field.specs.Lists.{every}
+use Rattle.field.specs.Boxes.{right, left, missed, finalApproach, everywhere, inZone, isSide, isFlyingZone, legOf, entering, arrived, turnedAway, withFix}
+use Rattle.bounds.specs.Bounds.{isWaiting, legFits, fitsZone, legalLegs, boundG}
 use Rattle.field.proofs.Arrival.{progress-by, leg-not-flown, Into, into-arrived, into-turned-away}
 use Rattle.field.proofs.Parts.{or-else}
-use Rattle.field.proofs.Tests.{pass, passed, decided, if-true, if-false, either-way, each-from}
+use Rattle.field.proofs.Tests.{pass, passed, decided, if-true, if-false, either-way, each-from, every-from}
 
 -- ---- an aircraft that fits its zone
 
@@ -90,6 +92,13 @@ module _ (legs : Legs) (z : ℕ) (a : Aircraft) where
       (p .waited))
       (p .own))
       (either-way (λ (b : Bool). T b) (isFlyingZone z) flown (isWaiting (a .progress)) (λ e. and-i (not (isWaiting (a .progress))) (withinLeg (a .progress) (a .leg)) (p .flies e) (p .along e)) (p .waits))
+
+-- Everyone in a zone fits it, where bound g holds.
+pub all-fit : (f : Field) → T (boundG f) → (z : ℕ) → 1 ≤ z → z ≤ 13 → T (every (fitsZone (f .legs) z) (inZone f z))
+unfolding boundG
+all-fit f t z l h =
+    let fit = every (λ z. every (fitsZone (f .legs) z) (inZone f z)) everywhere in
+    every-from (λ z. every (fitsZone (f .legs) z) (inZone f z)) 1 13 (and-l fit (isSide (f .next)) (and-l (fit && isSide (f .next)) (legalLegs (f .legs)) t)) z l (omega arith)
 
 -- The leg of a flying zone is legal where all legs are.
 pub leg-legal : (legs : Legs) → T (legalLegs legs) → (z : ℕ) → T (isFlyingZone z) → T (legalLeg (legOf legs z))

@@ -163,8 +163,7 @@ module _ (f : Side) (line : List Placed) (runway : List Aircraft) (legs : Legs) 
 -- what is counted in one zone is counted once
 pub one-each : (n z : ℕ) → T (within 1 12 z) → total (λ w. cond (eqb z w) n 0) operation ≡ n
 one-each n z t =
-    each-zone (λ (z : ℕ). T (within 1 12 z) → total (λ w. cond (eqb z w) n 0) operation ≡ n)
-    (
+    each-zone (λ (z : ℕ). T (within 1 12 z) → total (λ w. cond (eqb z w) n 0) operation ≡ n) (
       (λ u. omega arith),
       (
         (λ u. omega arith),
