@@ -5,7 +5,7 @@ use mathlib.Core.List.{List, [], _∷_}
 use Prim.Native.Nat.{ℕ, _+_, _≤_, _<_}
 use native.Mathlib.Omega.{arith}
 use lib.Dec.{T, eqb, leb, leb→le}
-use lib.ListN.{length, length-map}
+use lib.ListN.{length}
 use lib.Ieee.Fits.{and-l, and-r}
 use Rattle.limits.specs.Limits.{mostMoves}
 use Rattle.request.specs.Input.{within}
@@ -29,7 +29,7 @@ use Rattle.line.proofs.Counted.{total-same, in-line, on-runway, in-operation, a
 use Rattle.line.proofs.Orderly.{Orderly, length-zones}
 use Rattle.line.proofs.Within.{a-holds, b-holds, c-holds, d-holds}
 use Rattle.moves.proofs.After.{weightOf}
-use Rattle.moves.proofs.Owners.{owners, desksIn, desksOn, owned-in, owned-on, passing-all}
+use Rattle.moves.proofs.Owners.{owners, owners-all, owned-in, owned-on}
 use Rattle.demand.proofs.Runs.{askedBy, Run, runs}
 use Rattle.demand.proofs.Unstuck.{unstuck}
 
@@ -97,15 +97,6 @@ module _ (f : Side) (line : List Placed) (runway : List Aircraft) (legs : Legs) 
       let c = ap (ownedBy desk) (on-runway f line runway legs) ∙ owned-on desk runway in
       omega arith
 
-  -- all desks together
-  owners-all : owners (λ d. true) line runway ≡ length line + length runway
-  owners-all =
-      let a = passing-all (desksIn line) in
-      let b = passing-all (desksOn runway) in
-      let c = length-map line (λ (p : Placed). p .aircraft .desk) in
-      let d = length-map runway (λ (x : Aircraft). x .desk) in
-      omega arith
-
   pub light : weightOf line runway ≤ mostMoves
   light = let a = weight-small f (zonesIn line) (o .okay-line) in let b = o .one-landed in omega arith
 
@@ -144,7 +135,7 @@ module _ (legs : Legs) (l : T (legalLegs legs)) (rs : List Request) where
         balance =
             let p : presentOn (fieldAfter (emptyField legs) rs) ≡ length line + length runway = ap presentOn (from-empty .stands) ∙ present in
             let b = from-empty .balance (λ d. true) in
-            let k = owners-all f line runway legs o in
+            let k = owners-all line runway in
             let every-one = asked-by-all (played (emptyField legs) rs) in
             let i = ap letIn every-one in
             let j = ap taxiedOff every-one in

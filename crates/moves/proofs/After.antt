@@ -1,6 +1,6 @@
 -- What an accepted request leaves behind, said of the order that the field stands for; and the moves of the line that are made of it.
 -- Assumes nothing.
-use mathlib.Core.Path.{_≡_, sym, ap, _∙_, subst}
+use mathlib.Core.Path.{_≡_, refl, sym, ap, _∙_, subst}
 use mathlib.Core.Bool.{Bool, true, false, not, _&&_, _||_}
 use mathlib.Core.List.{List, _∷_, _++_, map}
 use Prim.Native.Nat.{ℕ, _+_, _≤_}
@@ -28,7 +28,7 @@ use Rattle.line.proofs.Counted.{free-inside}
 use Rattle.line.proofs.Leaders.{all-at}
 use Rattle.line.proofs.Orderly.{Orderly, length-zones}
 use Rattle.moves.proofs.Moves.{into, MayMove, moved-line}
-use Rattle.moves.proofs.Owners.{owners, passing, desksOn, same-desks}
+use Rattle.moves.proofs.Owners.{owners, owners-all, passing, desksOn, same-desks}
 use Rattle.moves.proofs.Ticking.{tickPlaced}
 use Rattle.moves.proofs.Kept.{changed, placedFits}
 use Rattle.moves.proofs.Carried.{onward-into, Carried, carried-one}
@@ -54,6 +54,21 @@ pub record After (f : Side) (line : List Placed) (runway : List Aircraft) (legs 
   pub carried : (r .kind ≡ 12 → ⊥) → Carried legs r line runway line-after runway-after
   pub ticked-on : r .kind ≡ 12 → line-after ≡ map (tickPlaced (r .amount)) line
   pub runway-on : r .kind ≡ 12 → runway-after ≡ runway
+
+-- as many are present, but for those who leave and enter
+pub balance-all : (f : Side) (line : List Placed) (runway : List Aircraft) (legs : Legs) (r : Request) (x : After f line runway legs r)
+    → length (x .line-after) + length (x .runway-after) + one (leaves (r .kind)) ≡ length line + length runway + one (isEntry (r .kind))
+balance-all f line runway legs r x =
+    let a = x .balance (λ d. true) in
+    let b = owners-all line runway in
+    let c = owners-all (x .line-after) (x .runway-after) in
+    let d = both (leaves (r .kind)) in
+    let e = both (isEntry (r .kind)) in
+    omega arith
+  where
+    both : (b : Bool) → one (b && true) ≡ one b
+    both true = refl
+    both false = refl
 
 -- a kind that moves an aircraft from zone to zone: no entry, no taxi, no exit, no miss
 abbrev pub staysOn : ℕ → Bool

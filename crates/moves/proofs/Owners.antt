@@ -5,7 +5,7 @@ use mathlib.Core.List.{List, [], _∷_, _++_, map}
 use Prim.Native.Nat.{ℕ, _+_}
 use native.Mathlib.Omega.{arith}
 use lib.Dec.{T, eqb}
-use lib.ListN.{length}
+use lib.ListN.{length, length-map}
 use lib.Ieee.Fits.{and-l, and-r}
 use Rattle.request.specs.Input.{within}
 use Rattle.field.specs.Boxes.{operation}
@@ -75,6 +75,14 @@ owned-on desk [] = refl
 owned-on desk (x ∷ runway) = ap (λ (n : ℕ). one (eqb (x .desk) desk) + n) (owned-on desk runway)
 
 -- all of them
-pub passing-all : (ds : List ℕ) → passing (λ d. true) ds ≡ length ds
+passing-all : (ds : List ℕ) → passing (λ d. true) ds ≡ length ds
 passing-all [] = refl
 passing-all (d ∷ ds) = let p = passing-all ds in omega arith
+
+pub owners-all : (line : List Placed) (runway : List Aircraft) → owners (λ d. true) line runway ≡ length line + length runway
+owners-all line runway =
+    let a = passing-all (desksIn line) in
+    let b = passing-all (desksOn runway) in
+    let c = length-map line (λ (p : Placed). p .aircraft .desk) in
+    let d = length-map runway (λ (x : Aircraft). x .desk) in
+    omega arith

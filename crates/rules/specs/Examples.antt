@@ -239,9 +239,13 @@ stuck =
       legs = allLegs 64;
     }
 
+-- a request of the kind for the head of a zone, of its own desk (02, 2.10)
+abbrev pub headAsks : Field → ℕ → ℕ → Request
+headAsks f kind z = fromDesk (aircraftAt f z 1 .desk) (ask kind 0 (aircraftAt f z 1 .number) 0)
+
 -- a field within the bounds with two aircraft, on which no request of kinds 3 to 11 for the head of a zone is accepted, and a tick moves nobody
 pub record NobodyMoves (f : Field) : Type 0 where
   pub within-bounds : T (withinBounds f)
   pub two-present : presentOn f ≡ 2
-  pub none-accepted : T (every (λ kind. every (λ z. not (eqb (stepOf f (ask kind 0 (aircraftAt f z 1 .number) 0) .answer .number) 0)) everywhere) (zonesFrom 3 9))
+  pub none-accepted : T (every (λ kind. every (λ z. not (eqb (stepOf f (headAsks f kind z) .answer .number) 0)) everywhere) (zonesFrom 3 9))
   pub tick-leaves : stepOf f (ask 12 0 0 64) .field ≡ f
