@@ -1,0 +1,4 @@
+pub mod Lists
+pub mod Stays
+pub mod Shown
+pub mod Isolation
