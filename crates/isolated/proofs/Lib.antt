@@ -2,3 +2,4 @@ pub mod Lists
 pub mod Stays
 pub mod Shown
 pub mod Isolation
+pub mod Weaker

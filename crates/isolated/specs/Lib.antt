@@ -1,1 +1,2 @@
 pub mod Isolated
+pub mod Weaker
