@@ -3,3 +3,4 @@ pub mod Stays
 pub mod Shown
 pub mod Isolation
 pub mod Weaker
+pub mod WithIndex

@@ -20,12 +20,14 @@ use Rattle.field.specs.Edits.{withoutHead, withTail, appended, removed, withZon
 use Rattle.tick.specs.Tick.{tickedAircraft, tickedZone, ticked}
 use Rattle.rules.specs.Kinds.{startsFrom, mayApproach, baseFree, mayMerge, headGone, tailPut, moved, outOfSequence, fixTaken, entered, madeRoom, enteredAbove, approached, landed, exited, fixAfterMiss, missedApproach, held, belongsTo, shownTo, shownAt3000}
 use Rattle.rules.specs.Step.{checksOf, effectOf, numberOf, numberAndZeros, acceptance, answerOf, stepOf}
+use Rattle.finder.specs.Finder.{entryOf, isBefore, firstOf, secondOf, indexOf, sameEntry, sameIndex, withinBoundsIndexed}
 use Rattle.rules.specs.declared.Answer.{Answer}
 use Rattle.rules.specs.Cases.{ask, allLegs}
 use Rattle.rules.specs.Examples.{fromDesk}
 use Rattle.rules.specs.Play.{fieldAfter}
 use Rattle.renaming.specs.Renaming.{Renaming, exchanged}
 use Rattle.renaming.proofs.Exchanged.{exchange-apart, exchange-renames}
+use Rattle.indexed.specs.Indexed.{withIndex, numberIndexed, stepIndexed}
 use Rattle.isolated.specs.Isolated.{Each, FixesOne, FixesAircraft, KeepsOwn}
 use Rattle.isolated.specs.Weaker.{OnlyAccepted, OnlyNamed, NotApart, ZeroToo, EachNeeded}
 
@@ -79,6 +81,7 @@ unfolding
     startsFrom mayApproach baseFree mayMerge headGone tailPut moved
     outOfSequence fixTaken entered madeRoom enteredAbove approached landed exited fixAfterMiss missedApproach held belongsTo shownTo shownAt3000 checksOf effectOf numberOf numberAndZeros acceptance
     answerOf stepOf
+    entryOf isBefore firstOf secondOf indexOf sameEntry sameIndex withinBoundsIndexed withIndex numberIndexed stepIndexed
     neg add sub mul div ofInt round lt le eq
 each-needed =
     record {
@@ -118,4 +121,12 @@ each-needed =
           let rs : List Request = lets 2 8 ∷ seven ∷ [] in
           let c : KeepsOwn 1 swap nobodyOn rs = record { renaming = swap-renames; requests = ((λ e. not-own e), ((λ e. refl), tt)); aircraft = none-on swap } in
           true≢false (ap (λ (n : ℕ). eqb n 9) (claim nobodyOn refl tt 1 rs swap c 7 refl));
+      -- 8 is in the index, and 9 on the field: 0 and 10
+      index-in-order =
+          λ claim.
+          let g : Field = fieldAfter nobodyOn (lets 2 8 ∷ []) in
+          let theirs : Each (FixesOne 1 swap) (inZone g 2) = ((λ e. not-own e), tt) in
+          let on : FixesAircraft 1 swap g = each-zone (λ (z : ℕ). Each (FixesOne 1 swap) (inZone g z)) (tt, (theirs, (tt, (tt, (tt, (tt, (tt, (tt, (tt, (tt, (tt, (tt, (tt, tt))))))))))))) in
+          let c : KeepsOwn 1 swap g (seven ∷ []) = record { renaming = swap-renames; requests = ((λ e. refl), tt); aircraft = on } in
+          true≢false (ap (λ (ps : List (Request × Answer)). eqb (numberFirst ps) 10) (claim (withIndex g) refl tt 1 (seven ∷ []) swap c));
     }

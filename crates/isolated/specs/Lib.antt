@@ -1,2 +1,3 @@
 pub mod Isolated
 pub mod Weaker
+pub mod WithIndex

@@ -9,9 +9,12 @@ use Rattle.request.specs.declared.Request.{Request}
 use Rattle.field.specs.declared.Field.{Field}
 use Rattle.questions.specs.Find.{leaderOf}
 use Rattle.bounds.specs.Bounds.{withinBounds}
+use Rattle.finder.specs.declared.Indexed.{Indexed}
+use Rattle.finder.specs.Finder.{withinBoundsIndexed}
 use Rattle.rules.specs.declared.Answer.{Answer}
 use Rattle.rules.specs.Play.{fieldAfter, played, ofDesk}
 use Rattle.renaming.specs.Renaming.{Renaming}
+use Rattle.indexed.specs.Indexed.{playedIndexed}
 use Rattle.isolated.specs.Isolated.{renamedOthers, renamedOtherRequest, renamedOtherRequests, Each, FixesRequests, FixesAircraft, KeepsOwn}
 
 -- ---- something less is asked of the new numbers
@@ -63,6 +66,12 @@ LeaderShown =
     → (n : ℕ) → π n ≡ n
     → leaderOf (fieldAfter (renamedOthers d π f) (renamedOtherRequests d π rs) .sequence) n ≡ leaderOf (fieldAfter f rs .sequence) n
 
+-- the index beside the field stays as it is (02, 2.9)
+abbrev pub IndexStays : Type 0
+IndexStays =
+    (x : Indexed) → length (x .field .zones) ≡ 13 → T (withinBoundsIndexed x) → (d : ℕ) (rs : List Request) (π : ℕ → ℕ) → KeepsOwn d π (x .field) rs
+    → ofDesk d (playedIndexed (record { field = renamedOthers d π (x .field); index = x .index }) (renamedOtherRequests d π rs)) ≡ ofDesk d (playedIndexed x rs)
+
 -- ---- none of these holds
 pub record EachNeeded : Type 0 where
   pub refused-too : ClaimWhere OnlyAccepted → ⊥
@@ -71,3 +80,4 @@ pub record EachNeeded : Type 0 where
   pub zero-stays : ClaimWhere ZeroToo → ⊥
   pub others-refused-too : RefusedStay → ⊥
   pub leader-hidden : LeaderShown → ⊥
+  pub index-in-order : IndexStays → ⊥
