@@ -1,3 +1,4 @@
 pub mod Isolated
-pub mod Weaker
 pub mod WithIndex
+pub mod Weaker
+pub mod Seen
