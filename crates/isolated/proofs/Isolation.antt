@@ -25,7 +25,7 @@ use Rattle.laws.proofs.BoundLaws.{within-e}
 use Rattle.rules.specs.declared.Answer.{Answer}
 use Rattle.rules.specs.Step.{stepOf}
 use Rattle.rules.specs.Play.{played, ofDesk}
-use Rattle.renaming.specs.Renaming.{Renaming, renamedAircraft, renamedZone, renamedSequence, renamedField, renamedRequest, renamedPair}
+use Rattle.renaming.specs.Renaming.{Renaming, renamedAircraft, renamedZone, renamedField, renamedRequest, renamedPair}
 use Rattle.renaming.proofs.Theorems.{played-renamed}
 use Rattle.isolated.specs.Isolated.{Each, FixesRequest, FixesRequests, FixesOne, FixesAircraft, Isolation, renamedOther, renamedOthersIn, renamedOthers, renamedOtherRequest, renamedOtherRequests}
 use Rattle.isolated.proofs.Lists.{each-parts, each-places, maps-agree}
@@ -66,20 +66,19 @@ module _ (d : ℕ) {π : ℕ → ℕ} (p : Renaming π) where
   aircraft-is : (a : Aircraft) → FixesOne d π a → renamedOther d π a ≡ renamedAircraft π a
   aircraft-is a k =
       either-way (λ (b : Aircraft). b ≡ renamedAircraft π a) (eqb (a .desk) d) a (renamedAircraft π a)
-      (λ e i. record { number = sym (k (eqb-true (a .desk) d e)) i; fix = a .fix; speed = a .speed; progress = a .progress; waited = a .waited; leg = a .leg; desk = a .desk })
+      (λ e. rw (k (eqb-true (a .desk) d e)) refl)
       (λ e. refl)
 
   zone-is : (q : Zone) → StaysIn d π q → renamedOthersIn d π q ≡ renamedZone π q
-  zone-is q h = λ i. record { aircraft = maps-agree (FixesOne d π) (renamedOther d π) (renamedAircraft π) aircraft-is (q .aircraft) h i; length = q .length }
+  zone-is q h = rw (maps-agree (FixesOne d π) (renamedOther d π) (renamedAircraft π) aircraft-is (q .aircraft) h) refl
 
   field-is : (f : Field) → Stays d π f → renamedOthers d π f ≡ renamedField π f
-  field-is f h =
-      λ i. record { zones = maps-agree (StaysIn d π) (renamedOthersIn d π) (renamedZone π) zone-is (f .zones) h i; sequence = renamedSequence π (f .sequence); next = f .next; legs = f .legs }
+  field-is f h = rw (maps-agree (StaysIn d π) (renamedOthersIn d π) (renamedZone π) zone-is (f .zones) h) refl
 
   request-is : (r : Request) → FixesRequest d π r → renamedOtherRequest d π r ≡ renamedRequest π r
   request-is r k =
       either-way (λ (s : Request). s ≡ renamedRequest π r) (eqb (r .desk) d) r (renamedRequest π r)
-      (λ e i. record { kind = r .kind; side = r .side; number = sym (k (eqb-true (r .desk) d e)) i; amount = r .amount; desk = r .desk })
+      (λ e. rw (k (eqb-true (r .desk) d e)) refl)
       (λ e. refl)
 
   requests-are : (rs : List Request) → FixesRequests d π rs → renamedOtherRequests d π rs ≡ map (renamedRequest π) rs

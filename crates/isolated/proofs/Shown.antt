@@ -45,15 +45,7 @@ module _ (d : ℕ) {π : ℕ → ℕ} (p : Renaming π) where
         let at = placeOf g (r .number) in
         let ahead = placeOf g (leaderOf (g .sequence) (r .number)) in
         either-way (λ (a : Answer). renamedAnswer π a ≡ a) (eqb (r .kind) 12) (numberAndZeros 0) _ (λ e. zeros-stay 0)
-        (λ e i.
-        record {
-          number = 0;
-          aircraft = k own i;
-          zone = at .zone;
-          fix = aircraftAt g (at .zone) (at .place) .fix;
-          leader = shown-at-stays g (effect-stays d p f r k h) (r .desk) (ahead .zone) (ahead .place) own i;
-          along = along-stays (zoneBefore f r) i;
-        })
+        (λ e. rw (k own, shown-at-stays g (effect-stays d p f r k h) (r .desk) (ahead .zone) (ahead .place) own, along-stays (zoneBefore f r)) refl)
 
     -- a request of the desk and its answer, accepted or refused
     pub answer-stays : renamedAnswer π (stepOf f r .answer) ≡ stepOf f r .answer
@@ -64,4 +56,4 @@ module _ (d : ℕ) {π : ℕ → ℕ} (p : Renaming π) where
         (λ e. answer-of-stays) (λ e. zeros-stay (numberOf f r))
 
     pub pair-stays : renamedPair π (r, stepOf f r .answer) ≡ (r, stepOf f r .answer)
-    pair-stays i = (record { kind = r .kind; side = r .side; number = k own i; amount = r .amount; desk = r .desk }, answer-stays i)
+    pair-stays = rw (k own, answer-stays) refl
