@@ -1,0 +1,6 @@
+pub mod Lists
+pub mod Stays
+pub mod Shown
+pub mod Isolation
+pub mod WithIndex
+pub mod Computed
