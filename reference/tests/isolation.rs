@@ -140,7 +140,6 @@ struct Example {
 const SWAPPED: &[(u16, u16)] = &[(5, 6), (6, 5)];
 const MINUTE: By = (2, 12, 0, 0, 64);
 
-/// Each is as small as it can be: one request less, and nothing is noticed.
 const EXAMPLES: &[Example] = &[
     Example {
         without: Without::Nothing,
@@ -283,10 +282,10 @@ fn renamed_start(renaming: &Renaming, start: &Indexed, without: Without) -> Inde
     renamed
 }
 
-/// Desk 1's replies in both runs.
-fn both_runs(example: &Example, list: &[By], without: Without) -> [Vec<[u16; 6]>; 2] {
+/// Desk 1's replies in both runs, from the field after the first list.
+fn both_runs(example: &Example, before: &[By], list: &[By], without: Without) -> [Vec<[u16; 6]>; 2] {
     let mut start = started();
-    accepted(&mut start, example.before);
+    lines(&mut start, before);
     let renaming = Renaming { desk: 1, pairs: example.pairs.to_vec() };
     let mut other = renamed_start(&renaming, &start, without);
     let mut replies = [vec![], vec![]];
@@ -302,35 +301,51 @@ fn both_runs(example: &Example, list: &[By], without: Without) -> [Vec<[u16; 6]>
     replies
 }
 
-/// With the part left out, desk 1 notices, at its last request and not before; with it, or with no number renamed, it does not.
+/// What does not hold of the renaming.
+fn broken(example: &Example) -> Vec<Condition> {
+    let mut start = started();
+    accepted(&mut start, example.before);
+    let renaming = Renaming { desk: 1, pairs: example.pairs.to_vec() };
+    let list: Vec<_> = example.list.iter().map(|&by| Asked::Request(request(by))).collect();
+    renaming.broken(&History::new(start), &list)
+}
+
+/// With the part left out, desk 1 notices; with it, or with no number renamed, it does not.
 #[test]
 fn each_part_is_needed() {
     for example in EXAMPLES {
-        let (without, list) = (example.without, example.list);
-        let mut start = started();
-        accepted(&mut start, example.before);
-        let renaming = Renaming { desk: 1, pairs: example.pairs.to_vec() };
-        let all = asked(&list.iter().map(|&by| request(by)).collect::<Vec<_>>());
-        let broken = renaming.broken(&History::new(start), &all);
+        let &Example { without, before, list, replies, .. } = example;
         match without {
-            Without::This(condition) => assert_eq!(broken, [condition]),
-            _ => assert_eq!(broken, []),
+            Without::This(condition) => assert_eq!(broken(example), [condition]),
+            _ => assert_eq!(broken(example), []),
         }
-        let [one, two] = both_runs(example, list, without);
-        assert_eq!([one.last(), two.last()], [Some(&example.replies[0]), Some(&example.replies[1])]);
-        let (last, others) = list.split_last().expect("a request");
-        assert_eq!(last.0, 1);
-        let [one, two] = both_runs(example, others, without);
-        assert_eq!(one, two);
-        let noticed = example.replies[0] != example.replies[1];
-        assert_eq!(noticed, without != Without::Nothing);
+        let [one, two] = both_runs(example, before, list, without);
+        assert_eq!([one.last(), two.last()], [Some(&replies[0]), Some(&replies[1])]);
+        assert_eq!(replies[0] != replies[1], without != Without::Nothing);
         if !matches!(without, Without::This(_)) {
-            let [one, two] = both_runs(example, list, Without::Nothing);
+            let [one, two] = both_runs(example, before, list, Without::Nothing);
             assert_eq!(one, two);
         }
-        let unchanged = Example { pairs: &[], ..*example };
-        let [one, two] = both_runs(&unchanged, list, without);
+        let [one, two] = both_runs(&Example { pairs: &[], ..*example }, before, list, without);
         assert_eq!(one, two);
+    }
+}
+
+fn less(list: &[By], place: usize) -> Vec<By> {
+    [&list[..place], &list[place + 1..]].concat()
+}
+
+/// With any one request less, before the runs or in them, nothing is noticed.
+#[test]
+fn no_example_is_longer_than_needed() {
+    for example in EXAMPLES {
+        let &Example { without, before, list, .. } = example;
+        let fewer = (0..before.len()).map(|place| (less(before, place), list.to_vec()));
+        let shorter = (0..list.len()).map(|place| (before.to_vec(), less(list, place)));
+        for (before, list) in fewer.chain(shorter) {
+            let [one, two] = both_runs(example, &before, &list, without);
+            assert_eq!(one, two, "{without:?} {before:?} {list:?}");
+        }
     }
 }
 
