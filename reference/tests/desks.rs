@@ -250,14 +250,47 @@ fn one_desk_alone() {
     }
 }
 
+/// With everybody of one desk.
+fn of_one(field: &Field, desk: u8) -> Field {
+    let mut field = field.clone();
+    field.zones.iter_mut().flatten().for_each(|aircraft| aircraft.desk = desk);
+    field
+}
+
+/// By its own desk a request is played as if there were one desk, apart from what is hidden and whose the aircraft are: on every field that
+/// is reached, and on some within the bounds.
+#[test]
+fn as_by_one_desk() {
+    let mut dice = Dice(2);
+    let (mut shown, mut hidden) = (0, 0);
+    let fields = Reached::all().fields.into_iter().chain(within_bounds(&mut Dice(3), 20));
+    for field in fields {
+        let field = dice.shared(&field).field;
+        let ticks = [1, 2].map(|desk| TICK.by(desk));
+        for request in requests(&field).into_iter().chain(ticks) {
+            let request = if request.kind <= 2 { request.by(dice.desk()) } else { request };
+            let (mut two, mut one) = (field.clone(), of_one(&field, request.desk));
+            let (answer, alone) = (two.step(&request), one.step(&request));
+            assert_eq!(of_one(&two, request.desk), one);
+            let of_own =
+                |number| two.find(number).filter(|(_, a)| a.desk == request.desk).map_or(0, |_| number);
+            let expected = alone.map(|a| Answer { leader: of_own(a.leader), along: of_own(a.along), ..a });
+            assert_eq!(answer, expected);
+            let same = answer == alone;
+            shown += usize::from(same && answer.is_ok_and(|a| a.leader != 0 || a.along != 0));
+            hidden += usize::from(!same);
+        }
+    }
+    assert!(shown > 2000 && hidden > 2000, "{shown} {hidden}");
+}
+
 /// A press asks as the aircraft's own desk, and ticks as desk 1; it moves whoever it would move if all were of one desk.
 #[test]
 fn the_button() {
     let mut dice = Dice(6);
     for field in Reached::all().fields {
         let mut shared = dice.shared(&field).field;
-        let mut alone = shared.clone();
-        alone.zones.iter_mut().flatten().for_each(|aircraft| aircraft.desk = 2);
+        let alone = of_one(&shared, 2);
         let moved = proposed(&shared).expect("within the bounds");
         let by_one = proposed(&alone).expect("within the bounds");
         assert_eq!(moved.map(|request| request.by(0)), by_one.map(|request| request.by(0)));
