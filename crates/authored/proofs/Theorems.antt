@@ -1,6 +1,6 @@
 -- What the program `author` prints, and how it is read (02, 2.11). Assumes nothing.
-use mathlib.Core.Path.{_≡_, refl, sym, ap, _∙_}
-use mathlib.Core.List.{List, [], _∷_}
+use mathlib.Core.Path.{_≡_, refl, sym, ap, _∙_, subst}
+use mathlib.Core.List.{List, [], _∷_, map}
 use mathlib.Core.Bool.{Bool, true, false, cond, _&&_}
 use Prim.Native.Nat.{ℕ, _+_, _%_, _≤_, _<_}
 use native.Mathlib.Omega.{arith}
@@ -10,16 +10,16 @@ use lib.Seq.{getD-take, drop-drop, length-take-le}
 use borrow.Author.Tests.{eq-eqb, ne-eqb, leb-true, leb-false, le-leb}
 use Rattle.limits.specs.Limits.{mostRequests}
 use Rattle.request.specs.declared.Request.{Request}
-use Rattle.request.specs.Input.{word, firstRefused, kindAllowed, sideAllowed, numberAllowed, amountAllowed, inputNumber}
+use Rattle.request.specs.Input.{word, firstRefused, deskAllowed, kindAllowed, sideAllowed, numberAllowed, amountAllowed, inputNumber}
 use Rattle.request.proofs.Tests.{both-right, left-fails, right-fails}
 use Rattle.practice.specs.declared.FileLegs.{FileLegs}
 use Rattle.practice.specs.File.{number16, legsOf, legsAllowed, legsBody, requestsBody, fileNumber}
 use Rattle.practice.specs.Requests.{requestsOf}
-use Rattle.practice.specs.Practice.{holds, practiceOf, encoded}
+use Rattle.practice.specs.Practice.{holds, practiceOf, fromFile, encoded}
 use Rattle.practice.proofs.Requests.{count}
 use Rattle.practice.proofs.Accepted.{accepted, whole-of}
 use Rattle.practice.proofs.Meaning.{held}
-use Rattle.practice.proofs.ReadBack.{read-back}
+use Rattle.practice.proofs.ReadBack.{read-back, from-bytes}
 use Rattle.writer.specs.Writer.{fileOf, listAllowed, firstOffence, hasRoom, writingNumber}
 use Rattle.writer.proofs.Bytes.{AreBytes}
 use Rattle.writer.proofs.Numbers.{firstNumber, file-size, allowed}
@@ -40,7 +40,7 @@ pub printed-read : (input : List ℕ) → authoredNumber input ≡ 0 → practic
 printed-read input e =
     let z = sym (number-long input (long-enough input e)) ∙ e in
     let a = allowed (legsGiven input) (requestsGiven input) fileRoom z in
-    ap practiceOf (file-printed input e) ∙ read-back (legsGiven input) (requestsOf (requestsGiven input)) (a .few) (a .legal)
+    ap practiceOf (file-printed input e) ∙ read-back (legsGiven input) (requestsOf (requestsGiven input)) (a .few) (a .legal) ∙ ap (holds (legsGiven input)) (from-bytes (requestsGiven input))
 
 -- ---- every file that is allowed fits the buffer, so that 28 is never printed
 few-bytes : (bytes : List ℕ) → listAllowed bytes ≡ true → length (requestsOf bytes) ≤ mostRequests
@@ -64,13 +64,14 @@ first-small true true false d = omega arith
 first-small true true true false = omega arith
 first-small true true true true = omega arith
 
-input-small : (r : Request) → inputNumber r ≤ 4
-unfolding inputNumber
-input-small r = first-small (kindAllowed r) (sideAllowed r) (numberAllowed r) (amountAllowed r)
+-- what a file holds is asked by desk 1, so that 31 is not among them
+input-small : (r : Request) → inputNumber (fromFile r) ≤ 4
+unfolding inputNumber deskAllowed
+input-small r = let q = fromFile r in first-small (kindAllowed q) (sideAllowed q) (numberAllowed q) (amountAllowed q)
 
-offence-small : (rs : List Request) → firstOffence rs ≤ 4
+offence-small : (rs : List Request) → firstOffence (map fromFile rs) ≤ 4
 offence-small [] = omega arith
-offence-small (r ∷ rest) = either-small 4 (eqb (inputNumber r) 0) (firstOffence rest) (inputNumber r) (λ e. offence-small rest) (λ e. input-small r)
+offence-small (r ∷ rest) = either-small 4 (eqb (inputNumber (fromFile r)) 0) (firstOffence (map fromFile rest)) (inputNumber (fromFile r)) (λ e. offence-small rest) (λ e. input-small r)
 
 number-small : (a l : Bool) (o : ℕ) (f : Bool) → o ≤ 4 → (l ≡ true → f ≡ true) → firstNumber a l o f ≤ 7
 number-small false l o f h k = omega arith
@@ -83,7 +84,7 @@ at-most-7 input =
     let legs = legsGiven input in
     let bytes = requestsGiven input in
     either-small 7 (leb 8 (length input)) (writingNumber legs bytes fileRoom) 7
-    (λ e. number-small (legsAllowed legs) (listAllowed bytes) (firstOffence (requestsOf bytes)) (hasRoom legs bytes fileRoom) (offence-small (requestsOf bytes)) (fits-all legs bytes))
+    (λ e. number-small (legsAllowed legs) (listAllowed bytes) (firstOffence (requestsOf bytes)) (hasRoom legs bytes fileRoom) (subst (λ (rs : List Request). firstOffence rs ≤ 4) (from-bytes bytes) (offence-small (requestsOf bytes))) (fits-all legs bytes))
     (λ e. omega arith)
 
 -- ---- an input that is longer than any that is written: one byte more than the longest is enough to read

@@ -5,7 +5,7 @@ use Prim.Native.Nat.{ℕ}
 use lib.Dec.{eqb, leb}
 use lib.ListN.{length, drop}
 use lib.Ieee.{Float, eq}
-use Rattle.limits.specs.Limits.{fastest}
+use Rattle.limits.specs.Limits.{fastest, desks}
 use Rattle.leg.specs.Progress.{whole, waitedWithin, withinLeg, legalLeg, legalMissedLeg}
 use Rattle.leg.specs.declared.Progress.{Progress}
 use Rattle.leg.specs.declared.Progress.the-variants.{Waiting, Flying}
@@ -48,10 +48,10 @@ abbrev pub isWaiting : Progress → Bool
 isWaiting Waiting = true
 isWaiting (Flying miles) = false
 
--- "places past them are as said", all zero and waiting, where a float's zero, of the miles waited and of the own leg (02, 2.7), "is one that compares
+-- "places past them are as said", all zero, the desk too (02, 2.10), and waiting, where a float's zero, of the miles waited and of the own leg (02, 2.7), "is one that compares
 -- equal to 0" (02, 2.2)
 unfoldable pub isNobody : Aircraft → Bool
-isNobody a = eqb (a .number) 0 && eqb (a .fix) 0 && eqb (a .speed) 0 && eq (a .waited) (whole 0) && eq (a .leg) (whole 0) && isWaiting (a .progress)
+isNobody a = eqb (a .number) 0 && eqb (a .fix) 0 && eqb (a .speed) 0 && eqb (a .desk) 0 && eq (a .waited) (whole 0) && eq (a .leg) (whole 0) && isWaiting (a .progress)
 
 unfoldable pub zoneKept : Zone → Bool
 zoneKept q = leb (q .length) 4 && every isNobody (drop (q .length) (q .aircraft))
@@ -75,13 +75,13 @@ boundF f = alternate (map (fixOf f) (orderOf (f .sequence)) ++ (f .next ∷ []))
 
 -- ---- g. "Sides are 1 or 2, speeds 1 to 512; miles compare between 0 and the leg; legs compare between 1/64 and 64 miles; flying
 -- exactly in zones 7 to 12." The miles waited are part of it, "between 0 and 4,096" (02, 2.2), and so is the own leg, against which the miles are measured
--- (02, 2.7): "1/64 to 128 miles in zones 7 and 8", the field's leg in zones 9 to 12, and elsewhere, "while waiting", 0, as `legOf` of `field` has it.
+-- (02, 2.7): "1/64 to 128 miles in zones 7 and 8", the field's leg in zones 9 to 12, and elsewhere, "while waiting", 0, as `legOf` of `field` has it. Each aircraft has desk 1 or 2 (02, 2.10).
 unfoldable pub legFits : Legs → ℕ → Float → Bool
 legFits legs z leg = cond (eqb z (missed right) || eqb z (missed left)) (legalMissedLeg leg) (eq leg (legOf legs z))
 
 unfoldable pub fitsZone : Legs → ℕ → Aircraft → Bool
 fitsZone legs z a =
-    isSide (a .fix) && (leb 1 (a .speed) && leb (a .speed) fastest) && waitedWithin (a .waited) && legFits legs z (a .leg)
+    isSide (a .fix) && (leb 1 (a .speed) && leb (a .speed) fastest) && (leb 1 (a .desk) && leb (a .desk) desks) && waitedWithin (a .waited) && legFits legs z (a .leg)
     && cond (isFlyingZone z) (not (isWaiting (a .progress)) && withinLeg (a .progress) (a .leg)) (isWaiting (a .progress))
 
 unfoldable pub legalLegs : Legs → Bool

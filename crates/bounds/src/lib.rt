@@ -23,6 +23,7 @@ use leg::legal;
 use leg::legal_missed;
 use leg::waited_within;
 use leg::within;
+use limits::DESKS;
 use limits::FASTEST;
 use numbers::numbers_differ;
 use numbers::sequence_exact;
@@ -35,6 +36,8 @@ use questions::find::fix_of;
 use questions::find::is_first;
 ghost use mathlib.Core.Path.{_≡_};
 ghost use mathlib.Core.List.{map};
+ghost use mathlib.Core.Bool.{_&&_};
+ghost use Rattle.limits.specs.Limits.{desks};
 ghost use lib.Dec.{leb};
 ghost use lib.ListN.{getD};
 ghost use Rattle.field.specs.Boxes.{zonesFrom, everywhere, zoneOf, queueOf, inZone, orderOf};
@@ -149,6 +152,9 @@ pub fn is_nobody(a: Aircraft) -> bool
         return false;
     }
     if a.speed != 0 {
+        return false;
+    }
+    if a.desk != 0 {
         return false;
     }
     if a.waited == 0.0 {
@@ -269,8 +275,19 @@ pub fn leg_fits(legs: Legs, zone: usize, leg: f64) -> bool
     leg == leg_of(legs, zone)
 }
 
-// Whether an aircraft of a zone has a side as fix, a speed from 1 to the highest, miles waited from 0 to the most and an own leg that fits,
-// and flies within that leg where the zone is flown in and waits elsewhere.
+// Whether a number is a desk's.
+fn is_desk(desk: u8) -> bool
+    ensures { λ r. ⌜ r ≡ (leb 1 desk && leb desk desks) ⌝ }
+{
+    let d = desk as u16;
+    if d < 1 {
+        return false;
+    }
+    d <= DESKS
+}
+
+// Whether an aircraft of a zone has a side as fix, a speed from 1 to the highest, a desk, miles waited from 0 to the most and an own leg
+// that fits, and flies within that leg where the zone is flown in and waits elsewhere.
 pub fn fits_zone(legs: Legs, zone: usize, a: Aircraft) -> bool
     ensures { λ r. ⌜ r ≡ fitsZone legs zone a ⌝ }
 {
@@ -281,6 +298,9 @@ pub fn fits_zone(legs: Legs, zone: usize, a: Aircraft) -> bool
         return false;
     }
     if FASTEST < a.speed {
+        return false;
+    }
+    if !is_desk(a.desk) {
         return false;
     }
     if !waited_within(a.waited) {

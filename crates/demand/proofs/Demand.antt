@@ -1,10 +1,10 @@
 -- Demand 3 holds of every list of requests from an empty field with legal legs. Assumes nothing.
-use mathlib.Core.Path.{_≡_, sym, ap, _∙_, subst}
-use mathlib.Core.Bool.{_&&_}
-use mathlib.Core.List.{List, []}
+use mathlib.Core.Path.{_≡_, refl, sym, ap, _∙_, subst}
+use mathlib.Core.Bool.{true, cond, _&&_}
+use mathlib.Core.List.{List, [], _∷_}
 use Prim.Native.Nat.{ℕ, _+_, _≤_, _<_}
 use native.Mathlib.Omega.{arith}
-use lib.Dec.{T, leb, leb→le}
+use lib.Dec.{T, eqb, leb, leb→le}
 use lib.ListN.{length}
 use lib.Ieee.Fits.{and-l, and-r}
 use Rattle.limits.specs.Limits.{mostMoves}
@@ -13,22 +13,24 @@ use Rattle.request.specs.declared.Request.{Request}
 use Rattle.field.specs.declared.Aircraft.{Aircraft}
 use Rattle.field.specs.declared.Legs.{Legs}
 use Rattle.field.specs.declared.Field.{Field}
-use Rattle.field.specs.Boxes.{emptyField, zonesFrom}
-use Rattle.questions.specs.Counts.{howMany, presentOn, inOperation, inArea, perFix}
+use Rattle.field.specs.Boxes.{emptyField, zonesFrom, inZone, operation}
+use Rattle.questions.specs.Counts.{howMany, presentOn, presentFor, ownedBy, inOperation, inArea, perFix}
 use Rattle.field.specs.Lists.{every}
 use Rattle.bounds.specs.Bounds.{legalLegs, boundA, boundB, boundC, boundD, lateralRule}
 use Rattle.field.proofs.Shapes.{one-of-two}
 use Rattle.order.specs.Model.{Side, right}
 use Rattle.order.proofs.Facts.{okay-empty, okay-zones, weight-small}
-use Rattle.rules.specs.Play.{fieldAfter, played, accepted, moves, addsMoves}
+use Rattle.rules.specs.Play.{fieldAfter, played, ofDesk, letIn, taxiedOff, exitedFrom, accepted, moves, addsMoves}
+use Rattle.rules.specs.declared.Answer.{Answer}
 use Rattle.demand.specs.Demand.{allFlownOut, MovesOn, Demand3}
 use Rattle.field.proofs.Tests.{every-from}
-use Rattle.line.proofs.Line.{Placed, zonesIn, fieldOf, empty-is}
-use Rattle.line.proofs.Counted.{in-operation, all-counted, how-many-runway}
+use Rattle.line.proofs.Line.{Placed, zonesIn, inside, fieldOf, empty-is}
+use Rattle.line.proofs.Counted.{total-same, in-line, on-runway, in-operation, all-counted, how-many-runway}
 use Rattle.line.proofs.Orderly.{Orderly, length-zones}
 use Rattle.line.proofs.Within.{a-holds, b-holds, c-holds, d-holds}
 use Rattle.moves.proofs.After.{weightOf}
-use Rattle.demand.proofs.Runs.{Run, runs}
+use Rattle.moves.proofs.Owners.{owners, owners-all, owned-in, owned-on}
+use Rattle.demand.proofs.Runs.{askedBy, Run, runs}
 use Rattle.demand.proofs.Unstuck.{unstuck}
 
 -- nobody yet
@@ -86,13 +88,31 @@ module _ (f : Side) (line : List Placed) (runway : List Aircraft) (legs : Legs) 
       let d = how-many-runway f line runway legs in
       omega arith
 
+  -- and so are those of a desk
+  present-for : (desk : ℕ) → presentFor F desk ≡ owners (λ d. eqb d desk) line runway
+  unfolding presentFor
+  present-for desk =
+      let a = total-same (λ z. ownedBy desk (inZone F z)) (λ z. ownedBy desk (inside z line)) operation tt (λ z t. ap (ownedBy desk) (in-line f line runway legs z t)) in
+      let b = owned-in desk line (okay-zones f (zonesIn line) (o .okay-line)) in
+      let c = ap (ownedBy desk) (on-runway f line runway legs) ∙ owned-on desk runway in
+      omega arith
+
   pub light : weightOf line runway ≤ mostMoves
   light = let a = weight-small f (zonesIn line) (o .okay-line) in let b = o .one-landed in omega arith
 
+-- ---- those of all desks, and of one
+asked-by-all : (ps : List (Request × Answer)) → askedBy (λ d. true) ps ≡ ps
+asked-by-all [] = refl
+asked-by-all (p ∷ ps) = ap (λ (l : List (Request × Answer)). p ∷ l) (asked-by-all ps)
+
+asked-by-desk : (desk : ℕ) (ps : List (Request × Answer)) → askedBy (λ d. eqb d desk) ps ≡ ofDesk desk ps
+asked-by-desk desk [] = refl
+asked-by-desk desk (p ∷ ps) = ap (λ (l : List (Request × Answer)). cond (eqb (p .0 .desk) desk) (p ∷ l) l) (asked-by-desk desk ps)
+
 -- ---- every list
 module _ (legs : Legs) (l : T (legalLegs legs)) (rs : List Request) where
-  pub from-empty : Run legs (emptyField legs) 0 (weightOf [] []) rs
-  from-empty = subst (λ (g : Field). Run legs g 0 (weightOf [] []) rs) (sym (empty-is legs)) (runs legs rs right [] [] (empty-orderly legs l))
+  pub from-empty : Run legs (emptyField legs) (λ who. 0) (weightOf [] []) rs
+  from-empty = subst (λ (g : Field). Run legs g (λ who. 0) (weightOf [] []) rs) (sym (empty-is legs)) (runs legs rs right [] [] (empty-orderly legs l))
 
   -- what holds of the order's field holds of the field after the list
   carry : (P : Field → Type 0) → P (fieldOf (from-empty .first-then) (from-empty .line-then) (from-empty .runway-then) legs) → P (fieldAfter (emptyField legs) rs)
@@ -114,7 +134,21 @@ module _ (legs : Legs) (l : T (legalLegs legs)) (rs : List Request) where
         holdings = carry (λ (g : Field). (zone : ℕ) → T (within 1 4 zone) → howMany g zone ≤ 1) (one-in-holding f line runway legs o);
         balance =
             let p : presentOn (fieldAfter (emptyField legs) rs) ≡ length line + length runway = ap presentOn (from-empty .stands) ∙ present in
-            let b = from-empty .balance in
+            let b = from-empty .balance (λ d. true) in
+            let k = owners-all line runway in
+            let every-one = asked-by-all (played (emptyField legs) rs) in
+            let i = ap letIn every-one in
+            let j = ap taxiedOff every-one in
+            let x = ap exitedFrom every-one in
+            omega arith;
+        balance-each =
+            λ desk.
+            let p : presentFor (fieldAfter (emptyField legs) rs) desk ≡ owners (λ d. eqb d desk) line runway = ap (λ (g : Field). presentFor g desk) (from-empty .stands) ∙ present-for f line runway legs o desk in
+            let b = from-empty .balance (λ d. eqb d desk) in
+            let own = asked-by-desk desk (played (emptyField legs) rs) in
+            let i = ap letIn own in
+            let j = ap taxiedOff own in
+            let x = ap exitedFrom own in
             omega arith;
         never-stuck =
             carry (λ (g : Field). 0 < presentOn g → T (allFlownOut g) → MovesOn g)

@@ -37,7 +37,6 @@ use Rattle.moves.proofs.Carried.{Each, onRunway, Came, stayed, went, turned, fo
 use Rattle.moves.proofs.After.{zone-in}
 use Rattle.rules.proofs.StepLaws.{number-is, field-accepted, field-refused, input-of, zone-answered}
 use Rattle.moves.proofs.Outcomes.{Accepted, outcome}
-use Rattle.demand.proofs.Runs.{refusable-range}
 use Rattle.demand.proofs.Demand.{empty-orderly}
 use Rattle.demand.proofs.Flights.{legs-legal, Known, known-waiting, known-ticked, known-onward, known-turned, known-along, known-entry}
 
@@ -210,7 +209,7 @@ exact-runs w (r ∷ rs) f line runway o s p q =
           let both = accepted-known w f line runway o r s p q a in
           one-more (subst (λ (h : Field). Kept w h more rs) (sym e) (exact-runs w rs (b .first-after) (b .line-after) (b .runway-after) (b .orderly) more (both .0) (both .1)))
       | inr t ↦
-          let z = refusable-range (numberOf g r) t .0 in
+          let z : numberOf g r ≡ 0 → ⊥ = λ q. let n = t .not-0 in omega arith in
           let e : stepOf g r .field ≡ g = field-refused g r z in
           one-more (subst (λ (h : Field). Kept w h more rs) (sym e) (exact-runs w rs f line runway o more (refused-known w f line runway o r s z line p) (refused-known w f line runway o r s z (map onRunway runway) q)))
     ]

@@ -9,11 +9,11 @@ use native.Mathlib.Omega.{arith}
 use lib.Dec.{T, leb, eqb, leb→le}
 use lib.ListN.{length}
 use lib.Ieee.Fits.{and-l, and-r}
-use borrow.Author.Tests.{eqb-false}
+use borrow.Author.Tests.{eqb-false, eq-eqb}
 use Rattle.request.specs.Input.{within, firstRefused}
 use Rattle.request.specs.declared.Request.{Request}
 use Rattle.request.proofs.Tests as input
-use Rattle.request.proofs.ByKind.{move-allowed}
+use Rattle.request.proofs.ByKind.{DeskKnown, move-allowed}
 use Rattle.field.specs.declared.Aircraft.{Aircraft}
 use Rattle.field.specs.declared.Legs.{Legs}
 use Rattle.field.specs.declared.Field.{Field}
@@ -22,10 +22,11 @@ use Rattle.field.specs.Boxes.{sideOf, opposite, at2000, inZone, isFlyingZone, l
 use Rattle.questions.specs.Counts.{howMany, isEmpty}
 use Rattle.questions.specs.Find.{placeOf, aircraftAt, isFirst, leaderZone}
 use Rattle.field.specs.Lists.{every}
+use Rattle.bounds.specs.Bounds.{fitsZone}
 use Rattle.order.specs.Model as model
 use Rattle.order.specs.Model.{Side, count, free, needs}
 use Rattle.order.proofs.Facts.{headKind, head-moves}
-use Rattle.rules.specs.Kinds.{placeBefore, zoneBefore, startsFrom, headChecks, mayApproach, mayMerge, baseFree}
+use Rattle.rules.specs.Kinds.{placeBefore, zoneBefore, startsFrom, belongsTo, headChecks, mayApproach, mayMerge, baseFree}
 use Rattle.rules.specs.Step.{checksOf}
 use Rattle.demand.specs.Demand.{allFlownOut, movesOn, MovesOn}
 use Rattle.field.proofs.Tests.{passed, failed, each-zone, every-from}
@@ -37,36 +38,47 @@ use Rattle.questions.proofs.FindLaws.{at}
 use Rattle.line.proofs.Located.{located, located-runway, inside-at, first-there, head-there}
 use Rattle.line.proofs.Leaders.{nonzero}
 use Rattle.line.proofs.Orderly.{Orderly}
-use Rattle.moves.proofs.After.{zone-in}
-use Rattle.rules.proofs.Checks.{checks-at, besides}
+use Rattle.moves.proofs.After.{zone-in, fit-here}
+use Rattle.moves.proofs.Heads.{runway-head}
+use Rattle.laws.proofs.Fits.{fits-parts}
+use Rattle.rules.proofs.Checks.{checks-at, besides, owned}
 use Rattle.rules.proofs.StepLaws.{number-is}
 use Rattle.moves.proofs.Outcomes.{accepted-by}
 
--- a request of a kind by a number
-abbrev pub move : ℕ → ℕ → Request
-move kind number = record { kind = kind; side = 0; number = number; amount = 0 }
+-- a request of a kind for an aircraft, by its own desk
+abbrev pub move : ℕ → Aircraft → Request
+move kind a = record { kind = kind; side = 0; number = a .number; amount = 0; desk = a .desk }
 
 positive : (n : ℕ) → T (nonzero n) → 1 ≤ n
 positive n t = pos-of-ne-zero (eqb-false n 0 (failed {b = eqb n 0} t))
 
-module _ (f : Side) (line : List Placed) (runway : List Aircraft) (legs : Legs) (o : Orderly f line runway legs) (k n : ℕ) where
+-- an aircraft that fits its zone has a desk
+desk-of : (legs : Legs) (z : ℕ) (a : Aircraft) → T (fitsZone legs z a) → DeskKnown (a .desk)
+desk-of legs z a t = let d = fits-parts legs z a t .desk in record { low = d .least; high = d .most }
+
+module _ (f : Side) (line : List Placed) (runway : List Aircraft) (legs : Legs) (o : Orderly f line runway legs) (k : ℕ) (a : Aircraft) where
   abbrev F : Field
   F = fieldOf f line runway legs
 
+  abbrev r : Request
+  r = move k a
+
   -- a move whose checks pass is accepted
-  accept : 3 ≤ k → k ≤ 11 → T (movesOn k) → T (nonzero n) → firstRefused (checksOf F (move k n)) ≡ 0 → MovesOn F
-  accept l h t z c =
+  accept : 3 ≤ k → k ≤ 11 → T (movesOn k) → T (nonzero (a .number)) → DeskKnown (a .desk) → firstRefused (checksOf F r) ≡ 0 → MovesOn F
+  accept l h t z d c =
       record {
-        request = move k n;
+        request = r;
         kind = t;
-        accepted = number-is F (move k n) ∙ accepted-by f line runway legs o (move k n) (move-allowed (move k n) l h (record { side = refl; number = positive n z; amount = refl })) c .number-0;
+        accepted = number-is F r ∙ accepted-by f line runway legs o r (move-allowed r l h (record { side = refl; number = positive (a .number) z; amount = refl }) d) c .number-0;
       }
 
-  -- 12, 13 and 14 pass for one at the head of a zone that the kind starts from
-  head-checks : (z : ℕ) → placeOf F n ≡ at z 1 → T (not (eqb z 0)) → T (startsFrom k z) → (rest : List (ℕ × Bool)) → firstRefused rest ≡ 0 → firstRefused (headChecks k (placeBefore F (move k n)) ++ rest) ≡ 0
-  head-checks z p t u rest e =
-      ap (λ (q : Place). firstRefused ((12, not (eqb (q .zone) 0)) ∷ (13, startsFrom k (q .zone)) ∷ (14, eqb (q .place) 1) ∷ rest)) p
-      ∙ ap (λ (b : Bool). cond b (firstRefused ((13, startsFrom k z) ∷ rest)) 12) (passed {b = not (eqb z 0)} t)
+  -- 12, 26, 13 and 14 pass for the one at the head of a zone that the kind starts from
+  head-checks : (z : ℕ) → placeOf F (a .number) ≡ at z 1 → aircraftAt F z 1 ≡ a → T (not (eqb z 0)) → T (startsFrom k z) → (rest : List (ℕ × Bool)) → firstRefused rest ≡ 0 → firstRefused (headChecks k (placeBefore F r) (owned F r) ++ rest) ≡ 0
+  unfolding belongsTo
+  head-checks z p w t u rest e =
+      ap (λ (q : Place). firstRefused ((12, not (eqb (q .zone) 0)) ∷ (26, eqb (aircraftAt F (q .zone) (q .place) .desk) (a .desk)) ∷ (13, startsFrom k (q .zone)) ∷ (14, eqb (q .place) 1) ∷ rest)) p
+      ∙ ap (λ (b : Bool). cond b (firstRefused ((26, eqb (aircraftAt F z 1 .desk) (a .desk)) ∷ (13, startsFrom k z) ∷ rest)) 12) (passed {b = not (eqb z 0)} t)
+      ∙ ap (λ (b : Bool). cond b (firstRefused ((13, startsFrom k z) ∷ rest)) 26) (eq-eqb (aircraftAt F z 1 .desk) (a .desk) (ap (λ (x : Aircraft). x .desk) w))
       ∙ ap (λ (b : Bool). cond b (firstRefused rest) 13) (passed {b = startsFrom k z} u)
       ∙ e
 
@@ -75,10 +87,9 @@ taxi : (f : Side) (line : List Placed) (x : Aircraft) (legs : Legs) → Orderly 
 unfolding startsFrom
 taxi f line x legs o =
     let F = fieldOf f line (x ∷ []) legs in
-    let r = move 8 (x .number) in
     let al = alone (numbersOf line) (x .number) [] (o .different) in
-    accept f line (x ∷ []) legs o 8 (x .number) (omega arith) (omega arith) tt (and-l (nonzero (x .number)) true (every-right nonzero (numbersOf line) (x .number ∷ []) (o .nonzeros)))
-    (ap firstRefused (checks-at F r {k = 8} refl) ∙ head-checks f line (x ∷ []) legs o 8 (x .number) 13 (located-runway f line x legs (al .ahead)) tt tt [] refl)
+    accept f line (x ∷ []) legs o 8 x (omega arith) (omega arith) tt (and-l (nonzero (x .number)) true (every-right nonzero (numbersOf line) (x .number ∷ []) (o .nonzeros))) (desk-of legs 13 x (and-l (fitsZone legs 13 x) true (o .fit-runway)))
+    (ap firstRefused (checks-at F (move 8 x) {k = 8} refl) ∙ head-checks f line (x ∷ []) legs o 8 x 13 (located-runway f line x legs (al .ahead)) (runway-head f line x legs) tt tt [] refl)
 
 -- ---- the first of the sequence, with nobody on the runway
 module _ (f : Side) (e : Placed) (b : List Placed) (legs : Legs) (o : Orderly f (e ∷ b) [] legs) (flown : T (allFlownOut (fieldOf f (e ∷ b) [] legs))) where
@@ -88,8 +99,11 @@ module _ (f : Side) (e : Placed) (b : List Placed) (legs : Legs) (o : Orderly f 
   abbrev z : ℕ
   z = e .zone
 
+  abbrev x : Aircraft
+  x = e .aircraft
+
   abbrev m : ℕ
-  m = e .aircraft .number
+  m = x .number
 
   z-in : T (within 1 12 z)
   z-in = zone-in f [] e b [] legs o
@@ -100,7 +114,7 @@ module _ (f : Side) (e : Placed) (b : List Placed) (legs : Legs) (o : Orderly f 
   place : placeOf G m ≡ at z 1
   place = located f [] e b [] legs (o .different) z-in
 
-  before-is : (k : ℕ) → zoneBefore G (move k m) ≡ z
+  before-is : (k : ℕ) → zoneBefore G (move k x) ≡ z
   before-is k = ap (λ (p : Place). p .zone) place
 
   first : isFirst (G .sequence) m ≡ true
@@ -116,7 +130,7 @@ module _ (f : Side) (e : Placed) (b : List Placed) (legs : Legs) (o : Orderly f 
   flown-in y u t =
       every-from (λ y. every legFlownOut (inZone G y)) 7 6 t y (leb→le 7 y (and-l (leb 7 y) (leb y 12) u)) (let h = leb→le y 12 (and-r (leb 7 y) (leb y 12) u) in omega arith)
 
-  flown-out : (k : ℕ) → T (isFlyingZone z) → legFlownOut (aircraftAt G (zoneBefore G (move k m)) 1) ≡ true
+  flown-out : (k : ℕ) → T (isFlyingZone z) → legFlownOut (aircraftAt G (zoneBefore G (move k x)) 1) ≡ true
   unfolding allFlownOut
   flown-out k u =
       let t = flown-in z u flown in
@@ -129,10 +143,10 @@ module _ (f : Side) (e : Placed) (b : List Placed) (legs : Legs) (o : Orderly f 
   free-empty w t u = ap (λ (c : ℕ). eqb c 0) (how-many f (e ∷ b) [] legs w t) ∙ passed u
 
   -- a kind whose other checks pass
-  by-kind : (k : ℕ) → 3 ≤ k → k ≤ 11 → T (movesOn k) → T (startsFrom k z) → checksOf G (move k m) ≡ headChecks k (placeBefore G (move k m)) ++ besides G (move k m) k → firstRefused (besides G (move k m) k) ≡ 0 → MovesOn G
+  by-kind : (k : ℕ) → 3 ≤ k → k ≤ 11 → T (movesOn k) → T (startsFrom k z) → checksOf G (move k x) ≡ headChecks k (placeBefore G (move k x)) (owned G (move k x)) ++ besides G (move k x) k → firstRefused (besides G (move k x) k) ≡ 0 → MovesOn G
   by-kind k l h t s c d =
-      accept f (e ∷ b) [] legs o k m l h t named
-      (ap firstRefused c ∙ head-checks f (e ∷ b) [] legs o k m z place (not-zero z z-in) s (besides G (move k m) k) d)
+      accept f (e ∷ b) [] legs o k x l h t named (desk-of legs z x (fit-here f [] e b [] legs o))
+      (ap firstRefused c ∙ head-checks f (e ∷ b) [] legs o k x z place (head-there f [] e b [] legs (o .different) z-in refl) (not-zero z z-in) s (besides G (move k x) k) d)
     where
       not-zero : (y : ℕ) → T (within 1 12 y) → T (not (eqb y 0))
       not-zero y t = Rattle.field.proofs.Tests.fail (borrow.Author.Tests.ne-eqb y 0 (λ q. let l = leb→le 1 y (and-l (leb 1 y) (leb y 12) t) in omega arith))
@@ -144,27 +158,27 @@ module _ (f : Side) (e : Placed) (b : List Placed) (legs : Legs) (o : Orderly f 
       let holds = each-zone (λ (y : ℕ). z ≡ y → T (eqb y 12 || needs (headKind y) [] y (zonesIn b)) → MovesOn G) in
       let down : (y : ℕ) → z ≡ y → T (startsFrom 3 y) → T (within 1 12 (at2000 y)) → T (free (y ∷ zonesIn b) (at2000 y)) → MovesOn G =
       λ y q s t u.
-      by-kind 3 (omega arith) (omega arith) tt (subst (λ (v : ℕ). T (startsFrom 3 v)) (sym q) s) (checks-at G (move 3 m) {k = 3} refl)
+      by-kind 3 (omega arith) (omega arith) tt (subst (λ (v : ℕ). T (startsFrom 3 v)) (sym q) s) (checks-at G (move 3 x) {k = 3} refl)
       (ap (λ (v : ℕ). cond (isEmpty G (at2000 v)) 0 21) (before-is 3 ∙ q) ∙ ap (λ (c : Bool). cond c 0 21) (free-empty (at2000 y) t (subst (λ (v : ℕ). T (free (v ∷ zonesIn b) (at2000 y))) (sym q) u))) in
       let led : (low high : ℕ) → (isFirst (G .sequence) m || within low high (leaderZone G m)) ≡ true = λ low high. ap (λ (c : Bool). c || within low high (leaderZone G m)) first in
       let in-to-base : (y : ℕ) → z ≡ y → T (startsFrom 4 y) → (within 5 6 y || baseFree G (sideOf y)) ≡ true → MovesOn G =
       λ y q s u.
-      by-kind 4 (omega arith) (omega arith) tt (subst (λ (v : ℕ). T (startsFrom 4 v)) (sym q) s) (checks-at G (move 4 m) {k = 4} refl)
-      (input.none-refused (besides G (move 4 m) 4) (
-        (ap (λ (c : Bool). within 5 6 (zoneBefore G (move 4 m)) || c) (led 9 12) ∙ or-true (within 5 6 (zoneBefore G (move 4 m)))),
+      by-kind 4 (omega arith) (omega arith) tt (subst (λ (v : ℕ). T (startsFrom 4 v)) (sym q) s) (checks-at G (move 4 x) {k = 4} refl)
+      (input.none-refused (besides G (move 4 x) 4) (
+        (ap (λ (c : Bool). within 5 6 (zoneBefore G (move 4 x)) || c) (led 9 12) ∙ or-true (within 5 6 (zoneBefore G (move 4 x)))),
         ((ap (λ (v : ℕ). within 5 6 v || baseFree G (sideOf v)) (before-is 4 ∙ q) ∙ u), tt),
       )) in
       let base-of : (y w : ℕ) → z ≡ y → T (within 1 12 w) → T (leb (count (y ∷ zonesIn b) w) 1) → leb (howMany G w) 1 ≡ true =
       λ y w q t u. ap (λ (c : ℕ). leb c 1) (how-many f (e ∷ b) [] legs w t) ∙ passed (subst (λ (v : ℕ). T (leb (count (v ∷ zonesIn b) w) 1)) (sym q) u) in
-      let flies : (k y : ℕ) → z ≡ y → T (isFlyingZone y) → legFlownOut (aircraftAt G (zoneBefore G (move k m)) 1) ≡ true = λ k y q u. flown-out k (subst (λ (v : ℕ). T (isFlyingZone v)) (sym q) u) in
+      let flies : (k y : ℕ) → z ≡ y → T (isFlyingZone y) → legFlownOut (aircraftAt G (zoneBefore G (move k x)) 1) ≡ true = λ k y q u. flown-out k (subst (λ (v : ℕ). T (isFlyingZone v)) (sym q) u) in
       let merges : (y : ℕ) → z ≡ y → T (startsFrom 5 y) → T (isFlyingZone y) → MovesOn G =
       λ y q s u.
-      by-kind 5 (omega arith) (omega arith) tt (subst (λ (v : ℕ). T (startsFrom 5 v)) (sym q) s) (checks-at G (move 5 m) {k = 5} refl)
-      (input.none-refused (besides G (move 5 m) 5) (flies 5 y q u, (led 11 12, tt))) in
+      by-kind 5 (omega arith) (omega arith) tt (subst (λ (v : ℕ). T (startsFrom 5 v)) (sym q) s) (checks-at G (move 5 x) {k = 5} refl)
+      (input.none-refused (besides G (move 5 x) 5) (flies 5 y q u, (led 11 12, tt))) in
       let holding : (y : ℕ) → z ≡ y → T (startsFrom 11 y) → T (isFlyingZone y) → MovesOn G =
       λ y q s u.
-      by-kind 11 (omega arith) (omega arith) tt (subst (λ (v : ℕ). T (startsFrom 11 v)) (sym q) s) (checks-at G (move 11 m) {k = 11} refl)
-      (input.none-refused (besides G (move 11 m) 11) (flies 11 y q u, tt)) in
+      by-kind 11 (omega arith) (omega arith) tt (subst (λ (v : ℕ). T (startsFrom 11 v)) (sym q) s) (checks-at G (move 11 x) {k = 11} refl)
+      (input.none-refused (besides G (move 11 x) 11) (flies 11 y q u, tt)) in
       holds (
         (λ q u. down 1 q tt tt u),
         (
@@ -186,9 +200,9 @@ module _ (f : Side) (e : Placed) (b : List Placed) (legs : Legs) (o : Orderly f 
                         (
                           (λ q u. merges 10 q tt tt),
                           (
-                            (λ q u. by-kind 6 (omega arith) (omega arith) tt (subst (λ (v : ℕ). T (startsFrom 6 v)) (sym q) tt) (checks-at G (move 6 m) {k = 6} refl) (input.none-refused (besides G (move 6 m) 6) (flies 6 11 q tt, tt))),
+                            (λ q u. by-kind 6 (omega arith) (omega arith) tt (subst (λ (v : ℕ). T (startsFrom 6 v)) (sym q) tt) (checks-at G (move 6 x) {k = 6} refl) (input.none-refused (besides G (move 6 x) 6) (flies 6 11 q tt, tt))),
                             (
-                              (λ q u. by-kind 7 (omega arith) (omega arith) tt (subst (λ (v : ℕ). T (startsFrom 7 v)) (sym q) tt) (checks-at G (move 7 m) {k = 7} refl) (input.none-refused (besides G (move 7 m) 7) (flies 7 12 q tt, (ap (λ (c : ℕ). eqb c 0) (how-many-runway f (e ∷ b) [] legs), tt)))),
+                              (λ q u. by-kind 7 (omega arith) (omega arith) tt (subst (λ (v : ℕ). T (startsFrom 7 v)) (sym q) tt) (checks-at G (move 7 x) {k = 7} refl) (input.none-refused (besides G (move 7 x) 7) (flies 7 12 q tt, (ap (λ (c : ℕ). eqb c 0) (how-many-runway f (e ∷ b) [] legs), tt)))),
                               ((λ q u. absurd (let t = leb→le z 12 (and-r (leb 1 z) (leb z 12) z-in) in omega arith)), tt),
                             ),
                           ),

@@ -10,11 +10,11 @@ use Rattle.request.specs.declared.Request.{Request}
 use Rattle.field.specs.declared.Legs.{Legs}
 use Rattle.field.specs.declared.Field.{Field}
 use Rattle.field.specs.Boxes.{emptyField, inZone, legFlownOut, zonesFrom}
-use Rattle.questions.specs.Counts.{howMany, presentOn, inOperation, inArea, perFix}
+use Rattle.questions.specs.Counts.{howMany, presentOn, presentFor, inOperation, inArea, perFix}
 use Rattle.field.specs.Lists.{every}
 use Rattle.rules.specs.declared.Answer.{Answer}
 use Rattle.rules.specs.Step.{stepOf}
-use Rattle.rules.specs.Play.{fieldAfter, played, accepted, addsMoves, letIn, taxiedOff, exitedFrom, moves}
+use Rattle.rules.specs.Play.{fieldAfter, played, ofDesk, accepted, addsMoves, letIn, taxiedOff, exitedFrom, moves}
 
 -- no answer in the list has the number
 abbrev pub neverAnswers : ℕ → List (Request × Answer) → Bool
@@ -50,6 +50,8 @@ pub record Demand3Of (answers : List (Request × Answer)) (f : Field) : Type 0 w
   pub holdings : (zone : ℕ) → T (within 1 4 zone) → howMany f zone ≤ 1
   -- let in = taxied off + exited + present
   pub balance : letIn answers ≡ taxiedOff answers + exitedFrom answers + presentOn f
+  -- and so for each desk by itself, an aircraft counting for the desk that let it in (02, 2.10)
+  pub balance-each : (desk : ℕ) → letIn (ofDesk desk answers) ≡ taxiedOff (ofDesk desk answers) + exitedFrom (ofDesk desk answers) + presentFor f desk
   -- "then, if anyone is present, there is a request of kinds 3 to 8 or 11 that is accepted on that field"
   pub never-stuck : 0 < presentOn f → T (allFlownOut f) → MovesOn f
   -- at most 27 moves are accepted before the next entry or miss (02, 2.14, in place of the last sentence of "Any list of requests")

@@ -1,5 +1,5 @@
 -- On any field within the bounds whose arrays have their places, whoever is at 3000 of a side may descend where nobody is at 2000. Assumes nothing.
-use mathlib.Core.Path.{_≡_, refl, ap, _∙_}
+use mathlib.Core.Path.{_≡_, refl, ap, _∙_, subst}
 use mathlib.Core.Bool.{Bool, true, false, not, _&&_, _||_, true≢false}
 use mathlib.Core.List.{List, [], _∷_, _++_}
 use Prim.Native.Nat.{ℕ, _≤_}
@@ -12,7 +12,7 @@ use Rattle.leg.specs.Ticks.{Between}
 use Rattle.request.specs.Input.{firstRefused}
 use Rattle.request.specs.declared.Request.{Request}
 use Rattle.request.proofs.Tests as input
-use Rattle.request.proofs.ByKind.{move-allowed}
+use Rattle.request.proofs.ByKind.{DeskKnown, move-allowed}
 use Rattle.field.specs.declared.Aircraft.{Aircraft}
 use Rattle.field.specs.declared.Field.{Field}
 use Rattle.questions.specs.declared.Place.{Place}
@@ -21,8 +21,8 @@ use Rattle.field.specs.Lists.{isIn, every, allDifferent}
 use Rattle.questions.specs.Counts.{howMany, isEmpty}
 use Rattle.questions.specs.Find.{aircraftAt, numbersIn}
 use Rattle.numbers.specs.Numbers.{numbersDiffer}
-use Rattle.bounds.specs.Bounds.{lateralRule, boundC, withinBounds}
-use Rattle.rules.specs.Kinds.{placeBefore, startsFrom, headChecks, descendNeeds, moved}
+use Rattle.bounds.specs.Bounds.{lateralRule, boundC, fitsZone, withinBounds}
+use Rattle.rules.specs.Kinds.{placeBefore, startsFrom, belongsTo, headChecks, descendNeeds, moved}
 use Rattle.rules.specs.Step.{effectOf, numberOf}
 use Rattle.rules.specs.Reason.{hasPlaces}
 use Rattle.rules.proofs.Checks.{checks-at, effect-at}
@@ -34,6 +34,7 @@ use Rattle.field.proofs.Lists.{every-listed, zone-listed}
 use Rattle.field.proofs.Shapes.{one-of-two}
 use Rattle.questions.proofs.FindLaws.{numbers, at, in-zones, own-place}
 use Rattle.laws.proofs.EditLaws.{Shaped}
+use Rattle.laws.proofs.Fits.{all-fit, fits-parts}
 use Rattle.laws.proofs.BoundLaws.{within-each, within-e, numbers-different, shaped-within}
 use Rattle.line.proofs.Counted.{none}
 use Rattle.reason.proofs.Invariant.{places-parts}
@@ -90,6 +91,14 @@ module _ (f : Field) (t : T (withinBounds f)) (side : ℕ) (b : Between 1 2 side
         let here = ap (λ (l : List Aircraft). isIn n (numbers l)) (alone-above occupied) ∙ ap (λ (c : Bool). c || false) (same n) in
         input.nonzero-known n (passed (every-listed (λ m. not (eqb m 0)) ns n d (in-zones f n side everywhere (zone-listed side zone-is) here)))
 
+    -- it has a desk
+    pub desked : DeskKnown (aircraftAt f (at3000 side) 1 .desk)
+    desked =
+        let x = aircraftAt f side 1 in
+        let u = subst (λ (l : List Aircraft). T (every (fitsZone (f .legs) side) l)) (alone-above occupied) (all-fit f (within-each f t .bound-g) side (b .least) (let m = b .most in omega arith)) in
+        let d = fits-parts (f .legs) side x (and-l (fitsZone (f .legs) side x) true u) .desk in
+        record { low = d .least; high = d .most }
+
 -- ---- the descend
 module _ (f : Field) (h : T (hasPlaces f)) (t : T (withinBounds f)) (side : ℕ) (b : Between 1 2 side) (occupied : isEmpty f (at3000 side) ≡ false) (free : isEmpty f (at2000 side) ≡ true) where
   abbrev r : Request
@@ -98,22 +107,22 @@ module _ (f : Field) (h : T (hasPlaces f)) (t : T (withinBounds f)) (side : ℕ)
   moves-down : effectOf f r ≡ moved f (at3000 side) (at2000 side)
   moves-down = effect-at f r {k = 3} refl ∙ ap (λ (p : Place). moved f (p .zone) (at2000 (p .zone))) (found-above f t side b occupied)
 
-  -- none of 12 to 14 and 21 refuses
-  unrefused : firstRefused (headChecks 3 (at side 1) ++ descendNeeds f side) ≡ 0
-  unfolding startsFrom
+  -- none of 12, 26, 13, 14 and 21 refuses
+  unrefused : firstRefused (headChecks 3 (at side 1) (belongsTo f (at side 1) (r .desk)) ++ descendNeeds f side) ≡ 0
+  unfolding startsFrom belongsTo
   unrefused =
-      input.none-refused (headChecks 3 (at side 1) ++ descendNeeds f side) (
+      input.none-refused (headChecks 3 (at side 1) (belongsTo f (at side 1) (r .desk)) ++ descendNeeds f side) (
         input.nonzero-yes side (b .least),
-        (one-of-two (λ (s : ℕ). startsFrom 3 s ≡ true) 1 side (b .least) (let m = b .most in omega arith) refl refl, (refl, (free, tt))),
+        (same (r .desk), (one-of-two (λ (s : ℕ). startsFrom 3 s ≡ true) 1 side (b .least) (let m = b .most in omega arith) refl refl, (refl, (free, tt)))),
       )
 
   number-0 : numberOf f r ≡ 0
   number-0 =
       accepts f r
       (record {
-        input = move-allowed r (omega arith) (omega arith) (record { side = refl; number = numbered f t side b occupied; amount = refl });
+        input = move-allowed r (omega arith) (omega arith) (record { side = refl; number = numbered f t side b occupied; amount = refl }) (desked f t side b occupied);
         before = passed t;
-        checks = ap firstRefused (checks-at f r {k = 3} refl) ∙ ap (λ (p : Place). firstRefused (headChecks 3 p ++ descendNeeds f (p .zone))) (found-above f t side b occupied) ∙ unrefused;
+        checks = ap firstRefused (checks-at f r {k = 3} refl) ∙ ap (λ (p : Place). firstRefused (headChecks 3 p (belongsTo f p (r .desk)) ++ descendNeeds f (p .zone))) (found-above f t side b occupied) ∙ unrefused;
         after =
             ap withinBounds (moves-down ∙ moved-down f (shaped f h t) side b (aircraftAt f side 1) (alone-above f t side b occupied) (none-below f t side b free))
             ∙ passed (within-down f (shaped f h t) t side b (aircraftAt f side 1) (alone-above f t side b occupied) (none-below f t side b free));

@@ -1,6 +1,6 @@
 -- Document 02, 2.5, of any field: 20 is never answered; and an accepted entry beside an occupied 3000, on a field whose arrays have their places, is
 -- the descend of the one there and then the entry. Assumes nothing.
-use mathlib.Core.Path.{_≡_, sym, ap, _∙_}
+use mathlib.Core.Path.{_≡_, sym, ap, _∙_, refl, subst}
 use mathlib.Core.Logic.{inl, inr}
 use mathlib.Core.Bool.{Bool, true, false, cond, not, _||_, true≢false}
 use mathlib.Core.List.{List, [], _∷_, _++_}
@@ -24,10 +24,10 @@ use Rattle.questions.specs.Counts.{howMany, isEmpty, countedFor, approachHolds,
 use Rattle.questions.specs.Find.{placeOf, aircraftAt}
 use Rattle.bounds.specs.Bounds.{withinBounds}
 use Rattle.rules.specs.declared.Answer.{Answer}
-use Rattle.rules.specs.Kinds.{placeBefore, zoneBefore, zoneAhead, absentChecks, headChecks, presenceChecks, verticalNeeds, lateralNeeds, descendNeeds, approachNeeds, mergeNeeds, flownOutNeeds, landNeeds, exitNeeds, descended, entered, numberAt3000}
-use Rattle.rules.specs.Step.{needsFor, checksOf, effectOf, numberOf, numberAndZeros, acceptance, alongFor, answerOf, stepOf}
+use Rattle.rules.specs.Kinds.{placeBefore, zoneBefore, zoneAhead, absentChecks, headChecks, presenceChecks, verticalNeeds, lateralNeeds, descendNeeds, approachNeeds, mergeNeeds, flownOutNeeds, landNeeds, exitNeeds, descended, entered, shownTo, shownAt3000}
+use Rattle.rules.specs.Step.{needsFor, checksOf, effectOf, numberOf, numberAndZeros, acceptance, acceptanceOn, alongFor, answerOf, stepOf}
 use Rattle.rules.specs.Reason.{hasPlaces}
-use Rattle.rules.proofs.Checks.{refused-append, by-kind, presence-refuses, checks-refuse, input-numbered, checks-at}
+use Rattle.rules.proofs.Checks.{Never, never-without, never-append, by-kind, owned, inputNumbers, presence-refuses, checks-refuse, input-numbered, checks-at}
 use Rattle.rules.proofs.StepLaws.{number-is, field-accepted, answer-accepted}
 use Rattle.rules.proofs.Refusals.{Passes, accepts, passes}
 use Rattle.field.proofs.Tests.{passed, pass, failed, decided, if-true, if-false, either-way}
@@ -43,17 +43,13 @@ use Rattle.descent.proofs.Descent.{shaped, alone-above, none-below, des
 
 -- a list of checks does not answer 20
 abbrev Not20 : List (ℕ × Bool) → Type 0
-Not20 cs = firstRefused cs ≡ 20 → ⊥
+Not20 = Never 20
 
--- one that has no such number
 without-20 : (cs : List (ℕ × Bool)) → T (every (λ c. not (eqb (c .0) 20)) cs) → Not20 cs
-without-20 [] t e = omega arith
-without-20 ((n, true) ∷ cs) t e = without-20 cs (and-r (not (eqb n 20)) (every (λ c. not (eqb (c .0) 20)) cs) t) e
-without-20 ((n, false) ∷ cs) t e = true≢false (sym (eq-eqb n 20 e) ∙ failed (and-l (not (eqb n 20)) (every (λ c. not (eqb (c .0) 20)) cs) t))
+without-20 = never-without 20 (omega arith)
 
--- nor do two lists one after the other
 append-20 : (cs ds : List (ℕ × Bool)) → input.Numbered cs → Not20 cs → Not20 ds → Not20 (cs ++ ds)
-append-20 cs ds k p q e = either-way (λ (n : ℕ). n ≡ 20 → ⊥) (eqb (firstRefused cs) 0) (firstRefused ds) (firstRefused cs) (λ u. q) (λ u. p) (sym (refused-append cs ds k) ∙ e)
+append-20 = never-append 20
 
 -- those in the holdings of a side are counted for it
 holdings-counted : (f : Field) (side : ℕ) → 1 ≤ side → side ≤ 2 → howMany f (at3000 side) + howMany f (at2000 side) ≤ potentialOf f side
@@ -87,7 +83,7 @@ vertical-20 f side l h e =
 checks-20 : (f : Field) (r : Request) → inputNumber r ≡ 0 → Not20 (checksOf f r)
 unfolding checksOf
 checks-20 f r i =
-    append-20 (presenceChecks (r .kind) at) (needsFor (r .kind) f r at ahead) (presence-refuses (r .kind) at) presence
+    append-20 (presenceChecks (r .kind) at (owned f r)) (needsFor (r .kind) f r at ahead) (presence-refuses (r .kind) at (owned f r)) presence
     (by-kind Not20 (r .kind) (
       (λ k. let known = entry-known r i (kind-known r i .low) (omega arith) in vertical-20 f (r .side) (known .side-low) (known .side-high)),
       (λ k. without-20 (lateralNeeds f (r .side)) tt),
@@ -109,10 +105,10 @@ checks-20 f r i =
     ahead : ℕ
     ahead = zoneAhead f r
 
-    presence : Not20 (presenceChecks (r .kind) at)
+    presence : Not20 (presenceChecks (r .kind) at (owned f r))
     presence =
-        either-way Not20 (isEntry (r .kind)) (absentChecks at) (cond (isTick (r .kind)) [] (headChecks (r .kind) at)) (λ e. without-20 (absentChecks at) tt)
-        (λ e. either-way Not20 (isTick (r .kind)) [] (headChecks (r .kind) at) (λ u. without-20 [] tt) (λ u. without-20 (headChecks (r .kind) at) tt))
+        either-way Not20 (isEntry (r .kind)) (absentChecks at) (cond (isTick (r .kind)) [] (headChecks (r .kind) at (owned f r))) (λ e. without-20 (absentChecks at) tt)
+        (λ e. either-way Not20 (isTick (r .kind)) [] (headChecks (r .kind) at (owned f r)) (λ u. without-20 [] tt) (λ u. without-20 (headChecks (r .kind) at (owned f r)) tt))
 
 -- 20 is never answered, on any field at all.
 pub never-20 : (f : Field) (r : Request) → stepOf f r .answer .number ≡ 20 → ⊥
@@ -121,10 +117,8 @@ never-20 f r e =
     elim (input-numbered r) [
       | inl i ↦ judged i (sym (if-true _ (inputNumber r) (eq-eqb (inputNumber r) 0 i)) ∙ n)
       | inr t ↦
-          let low = leb→le 1 (inputNumber r) (and-l (leb 1 (inputNumber r)) (leb (inputNumber r) 4) t) in
-          let high = leb→le (inputNumber r) 4 (and-r (leb 1 (inputNumber r)) (leb (inputNumber r) 4) t) in
-          let own : inputNumber r ≡ 20 = sym (if-false _ (inputNumber r) (ne-eqb (inputNumber r) 0 (λ z. omega arith))) ∙ n in
-          omega arith
+          let own : inputNumber r ≡ 20 = sym (if-false _ (inputNumber r) (ne-eqb (inputNumber r) 0 (λ z. subst (λ (m : ℕ). T (inputNumbers m)) z t))) ∙ n in
+          absurd (subst (λ (m : ℕ). T (inputNumbers m)) own t)
     ]
   where
     n : numberOf f r ≡ 20
@@ -136,6 +130,12 @@ never-20 f r e =
         (append-20 (checksOf f r) ((25, withinBounds (effectOf f r)) ∷ []) (checks-refuse f r) (checks-20 f r i) (without-20 ((25, withinBounds (effectOf f r)) ∷ []) tt))
 
 -- ---- an accepted entry beside an occupied 3000
+
+-- nobody is shown as 0
+shown-nobody : (desk : ℕ) → shownTo desk nobody ≡ 0
+unfolding shownTo
+shown-nobody desk = either-way (λ (n : ℕ). n ≡ 0) (eqb 0 desk) 0 0 (λ e. refl) (λ e. refl)
+
 module _ (f : Field) (h : T (hasPlaces f)) (r : Request) (k : r .kind ≡ 1) (accepted : stepOf f r .answer .number ≡ 0) (occupied : isEmpty f (at3000 (r .side)) ≡ false) where
   abbrev side : ℕ
   side = r .side
@@ -220,25 +220,26 @@ module _ (f : Field) (h : T (hasPlaces f)) (r : Request) (k : r .kind ≡ 1) (ac
   then-0 = accepts g r then-passes
 
   -- the answer of an entry on a field
-  answer-is : (q : Field) → numberOf q r ≡ 0 → stepOf q r .answer ≡ acceptance (effectOf q r) (placeOf (effectOf q r) (r .number)) (r .number) (numberAt3000 q side)
+  answer-is : (q : Field) → numberOf q r ≡ 0 → stepOf q r .answer ≡ acceptanceOn (effectOf q r) r (shownAt3000 q (r .desk) side)
   unfolding answerOf
-  answer-is q e = answer-accepted q r e ∙ ap (λ (j : ℕ). cond (eqb j 12) (numberAndZeros 0) (acceptance (effectOf q r) (placeOf (effectOf q r) (r .number)) (r .number) (alongFor j q r (zoneBefore q r)))) k
+  answer-is q e = answer-accepted q r e ∙ ap (λ (j : ℕ). cond (eqb j 12) (numberAndZeros 0) (acceptanceOn (effectOf q r) r (alongFor j q r (zoneBefore q r)))) k
 
   -- Document 02, 2.5: it is the descend of the one at 3000 and then the entry.
   pub in-two-steps : InTwoSteps f r
-  unfolding acceptance numberAt3000 aircraftAt
+  unfolding acceptance shownAt3000 aircraftAt
   in-two-steps =
       record {
         descend-accepted = descends f h t side b occupied below .accepted;
         same-field = field-accepted f r number-0 ∙ sym same-effect ∙ sym (field-accepted g r then-0) ∙ ap (λ (q : Field). stepOf q r .field) (sym first-step);
         same-answer =
             ap butAlong (answer-is f number-0)
-            ∙ ap (λ (q : Field). butAlong (acceptance q (placeOf q (r .number)) (r .number) 0)) (sym same-effect)
+            ∙ ap (λ (q : Field). butAlong (acceptanceOn q r 0)) (sym same-effect)
             ∙ sym (ap butAlong (answer-is g then-0))
             ∙ ap (λ (q : Field). butAlong (stepOf q r .answer)) (sym first-step);
         along = ap (λ (a : Answer). a .along) (answer-is f number-0);
         then-nobody =
             ap (λ (q : Field). stepOf q r .answer .along) first-step
             ∙ ap (λ (a : Answer). a .along) (answer-is g then-0)
-            ∙ ap (λ (q : List Aircraft). getD (nobody ∷ q) 1 nobody .number) nobody-above;
+            ∙ ap (λ (q : List Aircraft). shownTo (r .desk) (getD (nobody ∷ q) 1 nobody)) nobody-above
+            ∙ shown-nobody (r .desk);
       }

@@ -7,11 +7,12 @@ use Rattle.field.specs.Boxes.{at3000, at2000}
 use Rattle.questions.specs.Find.{aircraftAt}
 use Rattle.rules.specs.Kinds.{moved}
 use Rattle.rules.specs.Step.{stepOf}
-use Rattle.rules.specs.Cases.{ask}
 
--- the request of the one at 3000 of a side to descend
+-- the request of the one at 3000 of a side to descend, as its own desk asks it (02, 2.10)
 abbrev pub descendFrom : Field → ℕ → Request
-descendFrom f side = ask 3 0 (aircraftAt f (at3000 side) 1 .number) 0
+descendFrom f side =
+    let a = aircraftAt f (at3000 side) 1 in
+    record { kind = 3; side = 0; number = a .number; amount = 0; desk = a .desk }
 
 -- it is accepted, and the one at 3000 is then at 2000
 pub record Descends (f : Field) (side : ℕ) : Type 0 where

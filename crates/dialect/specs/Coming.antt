@@ -62,11 +62,11 @@ listAllowed bytes = eqb (length bytes % 8) 0 && leb (length (entriesIn bytes)) 5
 unfoldable pub fixIn : ℕ → ℕ
 fixIn fix = cond (isSide fix) fix 0
 
--- one of the list in its zone, waiting, at the end of the sequence, with the speed "from the caller", nothing waited and no leg of its own; "the next fix
+-- one of the list in its zone, waiting, at the end of the sequence, with the speed "from the caller", nothing waited, no leg of its own and desk 1 as its owner; "the next fix
 -- follows our rules": it is the opposite of this one's
 unfoldable pub withEntry : Field → ℕ → Entry → Field
 withEntry f speed e =
-    withSequence (withZone f (e .location) (withTail (zoneOf f (e .location)) (entering (e .number) (fixIn (e .fix)) speed)))
+    withSequence (withZone f (e .location) (withTail (zoneOf f (e .location)) (entering (e .number) (fixIn (e .fix)) speed 1)))
     (appended (f .sequence) (e .number)) (opposite (fixIn (e .fix)))
 
 -- one after the other, on a field

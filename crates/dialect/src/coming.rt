@@ -118,7 +118,7 @@ fn with_entry(f: Field, speed: u16, e: Entry) -> Field
 {
     let zone = e.location as usize;
     let fix = fix_in(e.fix);
-    let q = with_tail(zone_of(f, zone), entering(e.number, fix, speed));
+    let q = with_tail(zone_of(f, zone), entering(e.number, fix, speed, 1));
     let s = appended(f.sequence, e.number);
     with_sequence(with_zone(f, zone, q), s, opposite(fix))
 }

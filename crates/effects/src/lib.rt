@@ -33,7 +33,7 @@ use tick::ticked;
 ghost use mathlib.Core.Path.{_≡_};
 ghost use mathlib.Core.Bool.{cond, _&&_};
 ghost use Rattle.field.specs.Boxes.{at2000, base};
-ghost use Rattle.rules.specs.Kinds.{mayApproach, baseFree, headGone, tailPut, moved, descended, outOfSequence, fixTaken, entered, madeRoom, enteredAbove, approached, landed, exited, fixAfterMiss, missedApproach, held, numberAt3000};
+ghost use Rattle.rules.specs.Kinds.{mayApproach, baseFree, headGone, tailPut, moved, descended, outOfSequence, fixTaken, entered, madeRoom, enteredAbove, approached, landed, exited, fixAfterMiss, missedApproach, held, shownTo, shownAt3000};
 ghost use Rattle.rules.specs.Step.{effectFor};
 
 // The field with the head of a zone taken off it.
@@ -99,7 +99,7 @@ fn entered(f: Field, r: Request, zone: usize) -> Field
     ensures { λ g. ⌜ g ≡ entered f r zone ⌝ }
 {
     let fix = fix_taken(f, r.side);
-    let g = tail_put(f, zone, entering(r.number, fix, r.amount));
+    let g = tail_put(f, zone, entering(r.number, fix, r.amount, r.desk));
     let s = f.sequence;
     with_sequence(g, appended(s, r.number), opposite(fix))
 }
@@ -197,12 +197,18 @@ fn held(f: Field, zone: usize) -> Field
     moved(f, zone, side)
 }
 
-// The aircraft at 3000 of a side, which an entry or a hold there moves, by its number; 0 where there is none.
-pub fn number_at_3000(f: Field, side: u8) -> u16
-    ensures { λ n. ⌜ n ≡ numberAt3000 f side ⌝ }
+// The number of an aircraft as a desk is shown it: 0 where it is another desk's.
+pub fn shown_to(desk: u8, a: Aircraft) -> u16
+    ensures { λ n. ⌜ n ≡ shownTo desk a ⌝ }
 {
-    let a = aircraft_at(f, side as usize, 1);
-    a.number
+    if a.desk == desk { a.number } else { 0 }
+}
+
+// The aircraft at 3000 of a side, which an entry or a hold there moves, as a desk is shown its number; 0 where there is none.
+pub fn shown_at_3000(f: Field, desk: u8, side: u8) -> u16
+    ensures { λ n. ⌜ n ≡ shownAt3000 f desk side ⌝ }
+{
+    shown_to(desk, aircraft_at(f, side as usize, 1))
 }
 
 // The field after a request whose needs are met, its aircraft in a zone and its leader in zone `ahead`, by its kind; any other number than 1

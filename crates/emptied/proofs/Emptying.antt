@@ -32,10 +32,9 @@ use Rattle.rules.proofs.StepLaws.{number-is, field-accepted}
 use Rattle.line.proofs.Line.{Placed, fieldOf}
 use Rattle.line.proofs.Orderly.{Orderly}
 use Rattle.line.proofs.Within.{within-bounds}
-use Rattle.moves.proofs.After.{After, leaves, weightOf}
+use Rattle.moves.proofs.After.{balance-all, After, leaves, weightOf}
 use Rattle.moves.proofs.Outcomes.{outcome}
 use Rattle.demand.specs.Demand.{allFlownOut, movesOn, MovesOn}
-use Rattle.demand.proofs.Runs.{refusable-range}
 use Rattle.demand.proofs.Unstuck.{unstuck}
 use Rattle.demand.proofs.Demand.{from-empty, present-is, light, demand-3}
 use Rattle.press.specs.declared.Proposal.{Proposal}
@@ -78,7 +77,7 @@ module _ {legs : Legs} {g : Field} {w : ℕ} (s : Stands legs g w) where
         let n : numberOf (fieldOf (s .first) (s .line) (s .runway) legs) r ≡ 0 = sym (ap (λ (f : Field). numberOf f r) (s .stands)) ∙ e in
         elim (outcome (s .first) (s .line) (s .runway) legs (s .orderly) r) [
           | inl a ↦ a .after
-          | inr t ↦ absurd (refusable-range (numberOf (fieldOf (s .first) (s .line) (s .runway) legs) r) t .0 n)
+          | inr t ↦ absurd (let z = t .not-0 in omega arith)
         ]
 
     -- leaves such a field, with one move less where it is a move
@@ -104,7 +103,7 @@ module _ {legs : Legs} {g : Field} {w : ℕ} (s : Stands legs g w) where
         let a = after in
         let before = ap presentOn (s .stands) ∙ present-is (s .first) (s .line) (s .runway) legs (s .orderly) in
         let then = ap presentOn (field-accepted g r e ∙ ap (λ (f : Field). effectOf f r) (s .stands) ∙ a .effect) ∙ present-is (a .first-after) (a .line-after) (a .runway-after) legs (a .orderly) in
-        omega (arith, a .balance)
+        omega (arith, balance-all (s .first) (s .line) (s .runway) legs r a)
 
 -- kinds 3 to 8 and 11 are no entry and no miss
 no-more-moves : (k : ℕ) → T (movesOn k) → addsMoves k ≡ false

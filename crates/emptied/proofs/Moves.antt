@@ -24,9 +24,9 @@ use Rattle.questions.specs.Counts.{howMany, presentOn, total}
 use Rattle.questions.specs.Find.{aircraftAt, numbersIn}
 use Rattle.questions.proofs.FindLaws.{found-exactly, found-there, place-within}
 use Rattle.bounds.specs.Bounds.{withinBounds}
-use Rattle.rules.specs.Kinds.{placeBefore, startsFrom, absentChecks, headChecks, presenceChecks}
+use Rattle.rules.specs.Kinds.{placeBefore, startsFrom, absentChecks, belongsTo, headChecks, presenceChecks}
 use Rattle.rules.specs.Step.{checksOf, numberOf}
-use Rattle.rules.proofs.Checks.{checks-at, besides, HeadPassed, head-passed}
+use Rattle.rules.proofs.Checks.{checks-at, besides, owned, HeadPassed, head-passed}
 use Rattle.rules.proofs.Refusals.{passes}
 use Rattle.rules.proofs.StepLaws.{number-is, input-of}
 use Rattle.demand.specs.Demand.{movesOn}
@@ -76,12 +76,13 @@ module _ (f : Field) (r : Request) (m : T (movesOn (r .kind))) (e : numberOf f r
   no-tick = ne-eqb k 12 (λ q. let l = moves-low k m in omega (arith, l .1))
 
   -- its aircraft stands at the head of a zone that the kind starts from
-  heads : HeadPassed k (placeBefore f r) (besides f r k)
+  heads : HeadPassed k (placeBefore f r) (owned f r) (besides f r k)
   heads =
       let at = placeBefore f r in
-      let presence : presenceChecks k at ≡ headChecks k at = if-false (absentChecks at) (cond (isTick k) [] (headChecks k at)) no-entry ∙ if-false [] (headChecks k at) no-tick in
-      let checks : checksOf f r ≡ headChecks k at ++ besides f r k = checks-at f r {k = k} refl ∙ ap (λ (l : List (ℕ × Bool)). l ++ besides f r k) presence in
-      head-passed k at (besides f r k) (sym (ap firstRefused checks) ∙ passes f r e .checks)
+      let all = headChecks k at (owned f r) in
+      let presence : presenceChecks k at (owned f r) ≡ all = if-false (absentChecks at) (cond (isTick k) [] all) no-entry ∙ if-false [] all no-tick in
+      let checks : checksOf f r ≡ all ++ besides f r k = checks-at f r {k = k} refl ∙ ap (λ (l : List (ℕ × Bool)). l ++ besides f r k) presence in
+      head-passed k at (owned f r) (besides f r k) (sym (ap firstRefused checks) ∙ passes f r e .checks)
 
   abbrev z : ℕ
   z = placeBefore f r .zone
@@ -97,6 +98,12 @@ module _ (f : Field) (r : Request) (m : T (movesOn (r .kind))) (e : numberOf f r
       let one = eqb-true (placeBefore f r .place) 1 (heads .first) in
       sym (ap (λ (p : ℕ). aircraftAt f z p .number) one) ∙ found .has
 
+  own : aircraftAt f z 1 .desk ≡ r .desk
+  unfolding belongsTo
+  own =
+      let one = eqb-true (placeBefore f r .place) 1 (heads .first) in
+      sym (ap (λ (p : ℕ). aircraftAt f z p .desk) one) ∙ eqb-true (aircraftAt f z (placeBefore f r .place) .desk) (r .desk) (heads .owned-by)
+
   -- so it is the move of a candidate
   is-head : headMove f (k, z) ≡ r
   is-head =
@@ -104,7 +111,7 @@ module _ (f : Field) (r : Request) (m : T (movesOn (r .kind))) (e : numberOf f r
       let side : r .side ≡ 0 = (let h = within-high 0 0 (r .side) (sym (ap (λ (b : Bool). inRange (cond b (range 1 2) (range 0 0)) (r .side)) no-entry) ∙ kept .side) in omega arith) in
       let amount : r .amount ≡ 0 =
       (let h = within-high 0 0 (r .amount) (sym (ap (λ (b : Bool). inRange (cond b (range 1 fastest) (cond (isTick k) (range 1 longestTick) (range 0 0))) (r .amount)) no-entry ∙ ap (λ (b : Bool). inRange (cond b (range 1 longestTick) (range 0 0)) (r .amount)) no-tick) ∙ kept .amount) in omega arith) in
-      λ i. record { kind = k; side = sym side i; number = there i; amount = sym amount i }
+      λ i. record { kind = k; side = sym side i; number = there i; amount = sym amount i; desk = own i }
 
   among : T (isPair k z candidates)
   among =

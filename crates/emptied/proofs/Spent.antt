@@ -20,7 +20,7 @@ use Rattle.questions.specs.Find.{aircraftAt}
 use Rattle.rules.specs.Step.{stepOf}
 use Rattle.rules.specs.Play.{fieldAfter}
 use Rattle.rules.specs.Cases.{ask}
-use Rattle.rules.specs.Examples.{stuck, NobodyMoves}
+use Rattle.rules.specs.Examples.{headAsks, stuck, NobodyMoves}
 use Rattle.rules.proofs.Cases.{nobody-moves}
 use Rattle.rules.proofs.StepLaws.{number-is}
 use Rattle.press.specs.declared.Proposal.the-variants.{None, Play}
@@ -45,7 +45,7 @@ module _ (f : Field) (still : NobodyMoves f) where
       let kh = leb→le (c .0) 11 (and-r (leb 3 (c .0)) (leb (c .0) 11) k) in
       let zl = leb→le 1 (c .1) (and-l (leb 1 (c .1)) (leb (c .1) 13) z) in
       let zh = leb→le (c .1) 13 (and-r (leb 1 (c .1)) (leb (c .1) 13) z) in
-      let test : ℕ → ℕ → Bool = λ kind y. not (eqb (stepOf f (ask kind 0 (aircraftAt f y 1 .number) 0) .answer .number) 0) in
+      let test : ℕ → ℕ → Bool = λ kind y. not (eqb (stepOf f (headAsks f kind y) .answer .number) 0) in
       let here = every-from (test (c .0)) 1 13 (every-from (λ kind. every (test kind) everywhere) 3 9 (still .none-accepted) (c .0) kl (omega arith)) (c .1) zl (omega arith) in
       eqb-false (stepOf f (headMove f c) .answer .number) 0 (failed here)
 

@@ -35,7 +35,7 @@ pub leg-not-flown : (legs : Legs) (z : ℕ) → isFlyingZone z ≡ false → leg
 unfolding isFlyingZone
 leg-not-flown legs z e = leg-elsewhere legs z (λ low high. true≢false (sym (simp (le-leb 7 z low, le-leb z 12 high)) ∙ e))
 
--- It keeps its number, fix, speed and miles waited, and its progress is the zone's.
+-- It keeps its number, fix, speed, miles waited and desk, and its progress is the zone's.
 pub record Into (z : ℕ) (leg : Float) (a after : Aircraft) : Type 0 where
   pub number : after .number ≡ a .number
   pub fix : after .fix ≡ a .fix
@@ -43,11 +43,12 @@ pub record Into (z : ℕ) (leg : Float) (a after : Aircraft) : Type 0 where
   pub waited : after .waited ≡ a .waited
   pub progress : after .progress ≡ progressInto z
   pub leg-is : after .leg ≡ leg
+  pub desk : after .desk ≡ a .desk
 
 pub into-arrived : (legs : Legs) (z : ℕ) (a : Aircraft) → Into z (legOf legs z) a (arrived legs z a)
 unfolding arrived onLeg
-into-arrived legs z a = record { number = refl; fix = refl; speed = refl; waited = refl; progress = refl; leg-is = refl }
+into-arrived legs z a = record { number = refl; fix = refl; speed = refl; waited = refl; progress = refl; leg-is = refl; desk = refl }
 
 pub into-turned-away : (legs : Legs) (z : ℕ) (a : Aircraft) → Into z (missedLeg (legs .missed) (a .progress) (a .leg)) a (turnedAway legs z a)
 unfolding turnedAway onLeg
-into-turned-away legs z a = record { number = refl; fix = refl; speed = refl; waited = refl; progress = refl; leg-is = refl }
+into-turned-away legs z a = record { number = refl; fix = refl; speed = refl; waited = refl; progress = refl; leg-is = refl; desk = refl }

@@ -89,7 +89,7 @@ isFlyingZone z = leb 7 z && leb z 12
 
 -- "Places past a length are all zero and waiting.": a place as the empty field has it
 abbrev pub nobody : Aircraft
-nobody = record { number = 0; fix = 0; speed = 0; progress = Waiting; waited = whole 0; leg = whole 0 }
+nobody = record { number = 0; fix = 0; speed = 0; progress = Waiting; waited = whole 0; leg = whole 0; desk = 0 }
 
 -- a zone at length 0
 abbrev pub emptyZone : Zone
@@ -147,13 +147,13 @@ unfoldable pub progressInto : ℕ → Progress
 progressInto z = cond (isFlyingZone z) (Flying (whole 0)) Waiting
 
 -- an aircraft as it enters: waiting, in a holding or a lateral zone, with no miles waited: they are added up "from entry to leaving" (02, 2.2); its own
--- leg is "0 while waiting" (02, 2.7)
-unfoldable pub entering : ℕ → ℕ → ℕ → Aircraft
-entering number fix speed = record { number = number; fix = fix; speed = speed; progress = Waiting; waited = whole 0; leg = whole 0 }
+-- leg is "0 while waiting" (02, 2.7); it belongs to the desk that lets it in (02, 2.10)
+unfoldable pub entering : ℕ → ℕ → ℕ → ℕ → Aircraft
+entering number fix speed desk = record { number = number; fix = fix; speed = speed; progress = Waiting; waited = whole 0; leg = whole 0; desk = desk }
 
--- an aircraft with another progress and another leg of its own (02, 2.7); all else stays, the miles waited too (02, 2.2)
+-- an aircraft with another progress and another leg of its own (02, 2.7); all else stays, the miles waited (02, 2.2) and the desk (02, 2.10) too
 unfoldable pub onLeg : Aircraft → Progress → Float → Aircraft
-onLeg a p leg = record { number = a .number; fix = a .fix; speed = a .speed; progress = p; waited = a .waited; leg = leg }
+onLeg a p leg = record { number = a .number; fix = a .fix; speed = a .speed; progress = p; waited = a .waited; leg = leg; desk = a .desk }
 
 -- an aircraft as it comes into zone z from another zone: its own leg is "the field's leg in zones 9 to 12" and "0 while waiting" (02, 2.7)
 unfoldable pub arrived : Legs → ℕ → Aircraft → Aircraft
@@ -164,9 +164,9 @@ arrived legs z a = onLeg a (progressInto z) (legOf legs z)
 unfoldable pub turnedAway : Legs → ℕ → Aircraft → Aircraft
 turnedAway legs z a = onLeg a (progressInto z) (missedLeg (legs .missed) (a .progress) (a .leg))
 
--- an aircraft with another fix; all else stays, the miles waited (02, 2.2) and its own leg (02, 2.7) too
+-- an aircraft with another fix; all else stays, the miles waited (02, 2.2), its own leg (02, 2.7) and its desk (02, 2.10) too
 unfoldable pub withFix : Aircraft → ℕ → Aircraft
-withFix a fix = record { number = a .number; fix = fix; speed = a .speed; progress = a .progress; waited = a .waited; leg = a .leg }
+withFix a fix = record { number = a .number; fix = fix; speed = a .speed; progress = a .progress; waited = a .waited; leg = a .leg; desk = a .desk }
 
 -- "the leg flown out: miles equal to the leg's length", of its own leg (02, 2.7)
 unfoldable pub legFlownOut : Aircraft → Bool

@@ -63,6 +63,7 @@ pub fn nobody() -> Aircraft
         progress: Progress::Waiting,
         waited: 0.0,
         leg: 0.0,
+        desk: 0,
     }
 }
 
@@ -131,9 +132,9 @@ pub fn progress_into(zone: usize) -> Progress
     }
 }
 
-// An aircraft as it enters, with nothing waited.
-pub fn entering(number: u16, fix: u8, speed: u16) -> Aircraft
-    ensures { λ r. ⌜ r ≡ entering number fix speed ⌝ }
+// An aircraft as a desk lets it in, with nothing waited.
+pub fn entering(number: u16, fix: u8, speed: u16, desk: u8) -> Aircraft
+    ensures { λ r. ⌜ r ≡ entering number fix speed desk ⌝ }
 {
     Aircraft {
         number: number,
@@ -142,6 +143,7 @@ pub fn entering(number: u16, fix: u8, speed: u16) -> Aircraft
         progress: Progress::Waiting,
         waited: 0.0,
         leg: 0.0,
+        desk: desk,
     }
 }
 
@@ -156,6 +158,7 @@ pub fn on_leg(a: Aircraft, p: Progress, leg: f64) -> Aircraft
         progress: p,
         waited: a.waited,
         leg: leg,
+        desk: a.desk,
     }
 }
 
@@ -186,6 +189,7 @@ pub fn with_fix(a: Aircraft, fix: u8) -> Aircraft
         progress: p,
         waited: a.waited,
         leg: a.leg,
+        desk: a.desk,
     }
 }
 

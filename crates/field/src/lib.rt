@@ -7,7 +7,7 @@ pub mod zones;
 
 // Document 01's aircraft: a number (never 0), a fix (the side for its missed approach), a speed in 64ths of a mile
 // per minute, and a progress; and document 02's miles waited, those past the ends of its legs added up since it entered,
-// and the length of its own leg in miles.
+// the length of its own leg in miles, and the desk that let it in.
 pub struct Aircraft {
     pub number: u16,
     pub fix: u8,
@@ -15,6 +15,7 @@ pub struct Aircraft {
     pub progress: Progress,
     pub waited: f64,
     pub leg: f64,
+    pub desk: u8,
 }
 
 // Document 01's zone: a first-in first-out queue kept as a fixed array with its length, the head at place 0.

@@ -20,16 +20,22 @@ ghost use mathlib.Core.Path.{_≡_};
 ghost use mathlib.Core.Bool.{false, cond};
 ghost use lib.Dec.{T, eqb};
 ghost use Rattle.request.specs.Input.{within, inputNumber};
-ghost use Rattle.questions.specs.Find.{placeOf, leaderOf};
+ghost use Rattle.questions.specs.Find.{leaderOf};
 ghost use Rattle.bounds.specs.Bounds.{withinBounds};
 ghost use Rattle.finder.specs.Finder.{indexOf, foundIn, withinBoundsIndexed};
-ghost use Rattle.rules.specs.Step.{numberOf, numberAndZeros, acceptance};
+ghost use Rattle.rules.specs.Step.{numberOf, numberAndZeros, acceptanceOn};
 ghost use Rattle.indexed.specs.Indexed.{withIndex, numberIndexed, stepIndexed};
 
 // The answer to a request, and the field with its index after it.
 pub struct SteppedIndexed {
     pub answer: Answer,
     pub after: Indexed,
+}
+
+// The answer to a request that is accepted, and the index of the field after it.
+pub struct AnswerAndIndex {
+    pub answer: Answer,
+    pub index: Index,
 }
 
 // A field with its own index beside it.
@@ -66,29 +72,40 @@ fn zone_ahead(index: Index, s: Sequence, r: Request) -> usize
     }
 }
 
-// The step of a request that is accepted, with the field `g` after it and the index of the field before: a tick leaves the index, and after
-// any other request it is made anew.
-fn accepted(index: Index, g: Field, r: Request, along: u16) -> SteppedIndexed
+// The answer to a request that is accepted and the index of the field `g` after it, from the index of the field before: a tick leaves the
+// index, and after any other request it is made anew.
+fn answered(index: Index, g: Field, r: Request, along: u16) -> AnswerAndIndex
     requires { ⌜ T (withinBounds g) × (r .kind ≡ 12 → index ≡ indexOf g) ⌝ }
-    ensures { λ s. ⌜ s ≡ record { answer = cond (eqb (r .kind) 12) (numberAndZeros 0) (acceptance g (placeOf g (r .number)) (r .number) along); after = withIndex g } ⌝ }
+    ensures { λ a. ⌜ a ≡ record { answer = cond (eqb (r .kind) 12) (numberAndZeros 0) (acceptanceOn g r along); index = indexOf g } ⌝ }
 {
     let kind = r.kind;
     if kind == 12 {
-        return SteppedIndexed {
+        return AnswerAndIndex {
             answer: number_and_zeros(0),
-            after: Indexed {
-                field: g,
-                index: index,
-            },
+            index: index,
         };
     }
     let number = r.number;
+    let s = g.sequence;
     let made = index_of(g);
+    let ahead = find(made, leader_of(s, number));
+    AnswerAndIndex {
+        answer: acceptance(g, find(made, number), ahead, r, along),
+        index: made,
+    }
+}
+
+// The step of a request that is accepted, by its answer and the field with its index after it.
+fn accepted(a: AnswerAndIndex, g: Field) -> SteppedIndexed
+    ensures { λ s. ⌜ s ≡ record { answer = a .answer; after = record { field = g; index = a .index } } ⌝ }
+{
+    let answer = a.answer;
+    let index = a.index;
     SteppedIndexed {
-        answer: acceptance(g, find(made, number), number, along),
+        answer: answer,
         after: Indexed {
             field: g,
-            index: made,
+            index: index,
         },
     }
 }
@@ -116,7 +133,7 @@ fn step_by_index(x: Indexed, r: Request, judged: bool) -> SteppedIndexed
             return turned_away(x, 25);
         }
     }
-    accepted(index, g, r, along)
+    accepted(answered(index, g, r, along), g)
 }
 
 // The step: the answer to a request, and the field with its index after it. Both are judged before, and the field after.

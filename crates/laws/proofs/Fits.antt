@@ -3,13 +3,13 @@
 use mathlib.Core.Path.{_≡_, refl, sym, _∙_, subst}
 use mathlib.Core.Logic.{_⊎_, inl, inr}
 use mathlib.Core.Bool.{Bool, true, false, cond, not, _&&_, _||_, true≢false}
-use Prim.Native.Nat.{ℕ}
+use Prim.Native.Nat.{ℕ, _≤_}
 use native.Mathlib.Omega.{arith}
 use borrow.Author.Tests.{eqb-true}
 use lib.Dec.{T, eqb, leb, leb→le, le→leb, lit<}
 use lib.Ieee.{Float, eq, ofInt}
 use lib.Ieee.Fits.{and-i, and-l, and-r}
-use Rattle.limits.specs.Limits.{fastest, longestOwnLegMiles}
+use Rattle.limits.specs.Limits.{fastest, longestOwnLegMiles, desks}
 use Rattle.leg.specs.Progress.{whole, waitedWithin, legalLeg, legalMissedLeg, missedLeg, withinLeg}
 use Rattle.leg.specs.Ticks.{Between}
 use Rattle.leg.specs.declared.Progress.{Progress}
@@ -18,11 +18,13 @@ use Rattle.leg.proofs.Theorems.{zero-within-up-to, zero-waited, missed-leg-lega
 use Rattle.leg.proofs.Missed.{equal-legal, equal-self, longer-legal}
 use Rattle.field.specs.declared.Aircraft.{Aircraft}
 use Rattle.field.specs.declared.Legs.{Legs}
-use Rattle.field.specs.Boxes.{right, left, missed, finalApproach, isSide, isFlyingZone, legOf, entering, arrived, turnedAway, withFix}
-use Rattle.bounds.specs.Bounds.{isWaiting, legFits, fitsZone, legalLegs}
+use Rattle.field.specs.declared.Field.{Field}
+use Rattle.field.specs.Lists.{every}
+use Rattle.field.specs.Boxes.{right, left, missed, finalApproach, everywhere, inZone, isSide, isFlyingZone, legOf, entering, arrived, turnedAway, withFix}
+use Rattle.bounds.specs.Bounds.{isWaiting, legFits, fitsZone, legalLegs, boundG}
 use Rattle.field.proofs.Arrival.{progress-by, leg-not-flown, Into, into-arrived, into-turned-away}
 use Rattle.field.proofs.Parts.{or-else}
-use Rattle.field.proofs.Tests.{pass, passed, decided, if-true, if-false, either-way, each-from}
+use Rattle.field.proofs.Tests.{pass, passed, decided, if-true, if-false, either-way, each-from, every-from}
 
 -- ---- an aircraft that fits its zone
 
@@ -30,6 +32,7 @@ use Rattle.field.proofs.Tests.{pass, passed, decided, if-true, if-false, either
 pub record Fits (legs : Legs) (z : ℕ) (a : Aircraft) : Type 0 where
   pub side : T (isSide (a .fix))
   pub speeds : Between 1 fastest (a .speed)
+  pub desk : Between 1 desks (a .desk)
   pub waited : T (waitedWithin (a .waited))
   pub own : T (legFits legs z (a .leg))
   pub flies : isFlyingZone z ≡ true → T (not (isWaiting (a .progress)))
@@ -40,8 +43,11 @@ module _ (legs : Legs) (z : ℕ) (a : Aircraft) where
   abbrev fast : Bool
   fast = leb 1 (a .speed) && leb (a .speed) fastest
 
+  abbrev owned : Bool
+  owned = leb 1 (a .desk) && leb (a .desk) desks
+
   abbrev numbers : Bool
-  numbers = isSide (a .fix) && fast
+  numbers = isSide (a .fix) && fast && owned
 
   abbrev flown : Bool
   flown = not (isWaiting (a .progress)) && withinLeg (a .progress) (a .leg)
@@ -58,11 +64,14 @@ module _ (legs : Legs) (z : ℕ) (a : Aircraft) where
       let two = and-l (numbers && waitedWithin (a .waited)) own three in
       let one = and-l numbers (waitedWithin (a .waited)) two in
       let p = and-r (numbers && waitedWithin (a .waited) && own) progressed t in
-      let s = and-r (isSide (a .fix)) fast one in
+      let two-numbers = and-l (isSide (a .fix) && fast) owned one in
+      let s = and-r (isSide (a .fix)) fast two-numbers in
+      let d = and-r (isSide (a .fix) && fast) owned one in
       let here : isFlyingZone z ≡ true → T flown = λ e. subst T (if-true flown (isWaiting (a .progress)) e) p in
       record {
-        side = and-l (isSide (a .fix)) fast one;
+        side = and-l (isSide (a .fix)) fast two-numbers;
         speeds = record { least = leb→le 1 (a .speed) (and-l (leb 1 (a .speed)) (leb (a .speed) fastest) s); most = leb→le (a .speed) fastest (and-r (leb 1 (a .speed)) (leb (a .speed) fastest) s) };
+        desk = record { least = leb→le 1 (a .desk) (and-l (leb 1 (a .desk)) (leb (a .desk) desks) d); most = leb→le (a .desk) desks (and-r (leb 1 (a .desk)) (leb (a .desk) desks) d) };
         waited = and-r numbers (waitedWithin (a .waited)) two;
         own = and-r (numbers && waitedWithin (a .waited)) own three;
         flies = λ e. and-l (not (isWaiting (a .progress))) (withinLeg (a .progress) (a .leg)) (here e);
@@ -77,10 +86,19 @@ module _ (legs : Legs) (z : ℕ) (a : Aircraft) where
       and-i (numbers && waitedWithin (a .waited) && legFits legs z (a .leg)) progressed
       (and-i (numbers && waitedWithin (a .waited)) (legFits legs z (a .leg))
       (and-i numbers (waitedWithin (a .waited))
+      (and-i (isSide (a .fix) && fast) owned
       (and-i (isSide (a .fix)) fast (p .side) (and-i (leb 1 (a .speed)) (leb (a .speed) fastest) (le→leb 1 (a .speed) (p .speeds .least)) (le→leb (a .speed) fastest (p .speeds .most))))
+      (and-i (leb 1 (a .desk)) (leb (a .desk) desks) (le→leb 1 (a .desk) (p .desk .least)) (le→leb (a .desk) desks (p .desk .most))))
       (p .waited))
       (p .own))
       (either-way (λ (b : Bool). T b) (isFlyingZone z) flown (isWaiting (a .progress)) (λ e. and-i (not (isWaiting (a .progress))) (withinLeg (a .progress) (a .leg)) (p .flies e) (p .along e)) (p .waits))
+
+-- Everyone in a zone fits it, where bound g holds.
+pub all-fit : (f : Field) → T (boundG f) → (z : ℕ) → 1 ≤ z → z ≤ 13 → T (every (fitsZone (f .legs) z) (inZone f z))
+unfolding boundG
+all-fit f t z l h =
+    let fit = every (λ z. every (fitsZone (f .legs) z) (inZone f z)) everywhere in
+    every-from (λ z. every (fitsZone (f .legs) z) (inZone f z)) 1 13 (and-l fit (isSide (f .next)) (and-l (fit && isSide (f .next)) (legalLegs (f .legs)) t)) z l (omega arith)
 
 -- The leg of a flying zone is legal where all legs are.
 pub leg-legal : (legs : Legs) → T (legalLegs legs) → (z : ℕ) → T (isFlyingZone z) → T (legalLeg (legOf legs z))
@@ -128,6 +146,7 @@ into-fits legs l from to leg a after i w t =
     (record {
       side = subst (λ (s : ℕ). T (isSide s)) (sym (i .fix)) (p .side);
       speeds = subst (Between 1 fastest) (sym (i .speed)) (p .speeds);
+      desk = subst (Between 1 desks) (sym (i .desk)) (p .desk);
       waited = subst (λ (x : Float). T (waitedWithin x)) (sym (i .waited)) (p .waited);
       own = subst (λ (x : Float). T (legFits legs to x)) (sym (i .leg-is)) w;
       flies = λ e. subst (λ (q : Progress). T (not (isWaiting q))) (sym (i .progress ∙ progress-by to e)) tt;
@@ -175,14 +194,14 @@ pub refixed-fits : (legs : Legs) (z fix : ℕ) (a : Aircraft) → T (isSide fix)
 unfolding withFix
 refixed-fits legs z fix a s t =
     let p = fits-parts legs z a t in
-    fits-of legs z (withFix a fix) (record { side = s; speeds = p .speeds; waited = p .waited; own = p .own; flies = p .flies; along = p .along; waits = p .waits })
+    fits-of legs z (withFix a fix) (record { side = s; speeds = p .speeds; desk = p .desk; waited = p .waited; own = p .own; flies = p .flies; along = p .along; waits = p .waits })
 
 -- ---- an aircraft that enters
 
--- It fits a zone that is not flown in, where its fix is a side and its speed is allowed.
-pub entering-fits : (legs : Legs) (z number fix speed : ℕ) → T (isSide fix) → Between 1 fastest speed → isFlyingZone z ≡ false → T (fitsZone legs z (entering number fix speed))
+-- It fits a zone that is not flown in, where its fix is a side, its speed is allowed and its desk is one.
+pub entering-fits : (legs : Legs) (z number fix speed desk : ℕ) → T (isSide fix) → Between 1 fastest speed → Between 1 desks desk → isFlyingZone z ≡ false → T (fitsZone legs z (entering number fix speed desk))
 unfolding entering legFits eq ofInt
-entering-fits legs z number fix speed s r e =
+entering-fits legs z number fix speed desk s r d e =
     let own : T (legFits legs z (whole 0)) = subst T (sym (if-false (legalMissedLeg (whole 0)) (eq (whole 0) (legOf legs z)) (not-missed z e))) (subst (λ (x : Float). T (eq (whole 0) x)) (sym (leg-not-flown legs z e)) tt) in
-    fits-of legs z (entering number fix speed)
-    (record { side = s; speeds = r; waited = zero-waited; own = own; flies = λ u. absurd (true≢false (sym u ∙ e)); along = λ u. absurd (true≢false (sym u ∙ e)); waits = λ u. tt })
+    fits-of legs z (entering number fix speed desk)
+    (record { side = s; speeds = r; desk = d; waited = zero-waited; own = own; flies = λ u. absurd (true≢false (sym u ∙ e)); along = λ u. absurd (true≢false (sym u ∙ e)); waits = λ u. tt })

@@ -72,7 +72,7 @@ waiting-kept p speed amount leg = waits (progressAfter p speed amount leg) ∙ a
 
 -- the numbers of an aircraft are 0
 abbrev zeros : Aircraft → Bool
-zeros a = eqb (a .number) 0 && eqb (a .fix) 0 && eqb (a .speed) 0
+zeros a = eqb (a .number) 0 && eqb (a .fix) 0 && eqb (a .speed) 0 && eqb (a .desk) 0
 
 never : (b : Bool) → (b && false) ≡ false
 never true = refl
@@ -95,6 +95,11 @@ module _ (amount z : ℕ) where
   pub fix-kept : (a : Aircraft) → tickedAt amount z a .fix ≡ a .fix
   unfolding tickedAircraft
   fix-kept = tick-keeps fixOfOne (λ a. refl)
+
+  -- .. its desk, ..
+  pub desk-kept : (a : Aircraft) → tickedAt amount z a .desk ≡ a .desk
+  unfolding tickedAircraft
+  desk-kept = tick-keeps (λ a. a .desk) (λ a. refl)
 
   -- .. and whether it is nobody.
   pub nobody-kept : (a : Aircraft) → isNobody (tickedAt amount z a) ≡ isNobody a
@@ -201,6 +206,7 @@ fits-ticked legs amount z l r a h = either-way (λ x. T (fitsZone legs z x)) (is
         (record {
           side = p .side;
           speeds = p .speeds;
+          desk = p .desk;
           waited = waited-kept-up-to longestOwnLegMiles (lit< tt) (a .progress) (a .leg) (a .waited) legal (p .speeds) r (p .along e) (p .waited);
           own = p .own;
           flies = λ u. subst (λ (b : Bool). T (not b)) (sym (waiting-kept (a .progress) (a .speed) amount (a .leg))) (p .flies u);

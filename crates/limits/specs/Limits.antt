@@ -29,6 +29,10 @@ mostRequests = 4096
 abbrev pub mostMoves : ℕ
 mostMoves = 27
 
+-- the desks that share the field: 1 and 2 (02, 2.10)
+abbrev pub desks : ℕ
+desks = 2
+
 -- the most miles past the ends of legs that are added up of an aircraft (02, 2.2)
 abbrev pub mostWaited : ℕ
 mostWaited = 4096

@@ -6,6 +6,9 @@ pub const LONGEST_TICK: u16 = 64;
 // The highest speed, in 64ths of a nautical mile per minute.
 pub const FASTEST: u16 = 512;
 
+// The desks that share the field, numbered from 1.
+pub const DESKS: u16 = 2;
+
 // The longest leg of a practice file, in 64ths of a mile.
 pub const LONGEST_LEG: u16 = 4096;
 

@@ -159,10 +159,35 @@ module _ (f : Side) (line : List Placed) (runway : List Aircraft) (legs : Legs) 
         (λ z t. ap (λ (n : ℕ). cond (isIn z (area s)) n (howManyWithFix F s z)) (how-many f line runway legs z t) ∙ ap (λ (n : ℕ). cond (isIn z (area s)) (count (zonesIn line) z) n) (how-many-with-fix f line runway legs a s z t))
 
 -- ---- the counts of the model over all zones add up to the list's length
-one-each : (z : ℕ) → T (within 1 12 z) → total (λ w. cond (eqb z w) 1 0) operation ≡ 1
-one-each z t =
-    each-zone (λ (z : ℕ). T (within 1 12 z) → total (λ w. cond (eqb z w) 1 0) operation ≡ 1)
-    ((λ u. refl), ((λ u. refl), ((λ u. refl), ((λ u. refl), ((λ u. refl), ((λ u. refl), ((λ u. refl), ((λ u. refl), ((λ u. refl), ((λ u. refl), ((λ u. refl), ((λ u. refl), ((λ u. absurd u), tt)))))))))))))
+
+-- what is counted in one zone is counted once
+pub one-each : (n z : ℕ) → T (within 1 12 z) → total (λ w. cond (eqb z w) n 0) operation ≡ n
+one-each n z t =
+    each-zone (λ (z : ℕ). T (within 1 12 z) → total (λ w. cond (eqb z w) n 0) operation ≡ n) (
+      (λ u. omega arith),
+      (
+        (λ u. omega arith),
+        (
+          (λ u. omega arith),
+          (
+            (λ u. omega arith),
+            (
+              (λ u. omega arith),
+              (
+                (λ u. omega arith),
+                (
+                  (λ u. omega arith),
+                  (
+                    (λ u. omega arith),
+                    ((λ u. omega arith), ((λ u. omega arith), ((λ u. omega arith), ((λ u. omega arith), ((λ u. absurd u), tt))))),
+                  ),
+                ),
+              ),
+            ),
+          ),
+        ),
+      ),
+    )
     z (lower z t) t
 
 pub total-add : (g h : ℕ → ℕ) (zs : List ℕ) → total (λ z. g z + h z) zs ≡ total g zs + total h zs
@@ -176,7 +201,7 @@ total-none (z ∷ zs) = let e = total-none zs in omega arith
 pub all-counted : (zs : List ℕ) → T (all (within 1 12) zs) → total (count zs) operation ≡ length zs
 all-counted [] t = refl
 all-counted (z ∷ zs) t =
-    let a = one-each z (and-l (within 1 12 z) (all (within 1 12) zs) t) in
+    let a = one-each 1 z (and-l (within 1 12 z) (all (within 1 12) zs) t) in
     let b = all-counted zs (and-r (within 1 12 z) (all (within 1 12) zs) t) in
     let c = total-add (λ w. cond (eqb z w) 1 0) (count zs) operation in
     omega arith

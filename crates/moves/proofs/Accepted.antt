@@ -32,7 +32,7 @@ use Rattle.line.proofs.Members.{count-append}
 use Rattle.line.proofs.Orderly.{Orderly, Split, first-in}
 use Rattle.moves.proofs.After.{After, zone-in, okay-split}
 use Rattle.moves.proofs.Heads.{Heading, heading}
-use Rattle.rules.proofs.Checks.{effect-at, head-passed, besides}
+use Rattle.rules.proofs.Checks.{effect-at, head-passed, besides, owned}
 use Rattle.moves.proofs.OnLine.{MissedZone, eleven-from, zone-before, from-kind, empty-free, after-3, after-4, after-5, after-6, after-11}
 use Rattle.moves.proofs.HoldBoth.{after-both}
 use Rattle.moves.proofs.AtEnds.{after-7, after-8, after-9, after-10}
@@ -122,13 +122,13 @@ module _ (f : Side) (line : List Placed) (runway : List Aircraft) (legs : Legs) 
   G = fieldOf f line runway legs
 
   -- the aircraft of a request whose kind starts from a zone of the line
-  moving : (k : ℕ) → r .kind ≡ k → T (within 1 13 k) → (k ≡ 8 → ⊥) → firstRefused (headChecks k (placeBefore G r) ++ besides G r k) ≡ 0
+  moving : (k : ℕ) → r .kind ≡ k → T (within 1 13 k) → (k ≡ 8 → ⊥) → firstRefused (headChecks k (placeBefore G r) (owned G r) ++ besides G r k) ≡ 0
       → ((h : Heading f line runway legs r) → Orderly f (h .ahead ++ h .here ∷ h .behind) runway legs → firstRefused (besides (fieldOf f (h .ahead ++ h .here ∷ h .behind) runway legs) r k) ≡ 0 → After f (h .ahead ++ h .here ∷ h .behind) runway legs r)
       → After f line runway legs r
   moving k h t n c go =
-      let p = head-passed k (placeBefore G r) (besides G r k) c in
+      let p = head-passed k (placeBefore G r) (owned G r) (besides G r k) c in
       let starts = ap (λ (j : ℕ). startsFrom j (zoneBefore G r)) h ∙ p .starts in
-      elim (heading f line runway legs o r (p .known) starts (p .first)) [
+      elim (heading f line runway legs o r (p .known) (p .owned-by) starts (p .first)) [
         | inl d ↦
             let w = d .whole in
             subst (λ (l : List Placed). After f l runway legs r) (sym w)
@@ -149,7 +149,7 @@ module _ (f : Side) (line : List Placed) (runway : List Aircraft) (legs : Legs) 
   zone-13 h q = lower (h .here .zone) (zone-in f (h .ahead) (h .here) (h .behind) runway legs q)
 
   -- kind 7
-  pub seven : r .kind ≡ 7 → firstRefused (headChecks 7 (placeBefore G r) ++ besides G r 7) ≡ 0 → After f line runway legs r
+  pub seven : r .kind ≡ 7 → firstRefused (headChecks 7 (placeBefore G r) (owned G r) ++ besides G r 7) ≡ 0 → After f line runway legs r
   seven k c =
       moving 7 k tt (λ u. omega arith) c
       (λ h q d.
@@ -163,21 +163,21 @@ module _ (f : Side) (line : List Placed) (runway : List Aircraft) (legs : Legs) 
       (after-7 f (h .here) (h .behind) legs (subst (λ (l : List Aircraft). Orderly f (h .here ∷ h .behind) l legs) n (subst (λ (l : List Placed). Orderly f l runway legs) w q)) r (h .named) k z)))
 
   -- kind 8
-  pub eight : r .kind ≡ 8 → firstRefused (headChecks 8 (placeBefore G r) ++ []) ≡ 0 → After f line runway legs r
+  pub eight : r .kind ≡ 8 → firstRefused (headChecks 8 (placeBefore G r) (owned G r) ++ []) ≡ 0 → After f line runway legs r
   eight k c =
-      let p = head-passed 8 (placeBefore G r) [] c in
+      let p = head-passed 8 (placeBefore G r) (owned G r) [] c in
       let starts = ap (λ (j : ℕ). startsFrom j (zoneBefore G r)) k ∙ p .starts in
-      elim (heading f line runway legs o r (p .known) starts (p .first)) [
+      elim (heading f line runway legs o r (p .known) (p .owned-by) starts (p .first)) [
         | inl h ↦
             let q = subst (λ (l : List Placed). Orderly f l runway legs) (h .whole) o in
             let t = zone-in f (h .ahead) (h .here) (h .behind) runway legs q in
             let z = eqb-true (h .here .zone) 13 (passed (taxi-from (h .here .zone) (lower (h .here .zone) t) (subst (λ (j : ℕ). T (startsFrom j (h .here .zone))) k (h .starts)))) in
             absurd (let u = leb→le (h .here .zone) 12 (and-r (leb 1 (h .here .zone)) (leb (h .here .zone) 12) t) in omega arith)
-        | inr d ↦ subst (λ (l : List Aircraft). After f line l legs r) (sym (d .whole)) (after-8 f line (d .one) legs (subst (λ (l : List Aircraft). Orderly f line l legs) (d .whole) o) r (d .named) k)
+        | inr d ↦ subst (λ (l : List Aircraft). After f line l legs r) (sym (d .whole)) (after-8 f line (d .one) legs (subst (λ (l : List Aircraft). Orderly f line l legs) (d .whole) o) r (d .named) k (d .owned-by))
       ]
 
   -- kind 9
-  pub nine : r .kind ≡ 9 → firstRefused (headChecks 9 (placeBefore G r) ++ besides G r 9) ≡ 0 → After f line runway legs r
+  pub nine : r .kind ≡ 9 → firstRefused (headChecks 9 (placeBefore G r) (owned G r) ++ besides G r 9) ≡ 0 → After f line runway legs r
   nine k c =
       moving 9 k tt (λ u. omega arith) c
       (λ h q d.
@@ -186,10 +186,10 @@ module _ (f : Side) (line : List Placed) (runway : List Aircraft) (legs : Legs) 
       let p = input.passed (besides F r 9) (tt, (tt, tt)) d in
       let a : h .ahead ≡ [] = nil-line (h .ahead) (sym (first-there f (h .ahead) (h .here) (h .behind) runway legs (q .different)) ∙ ap (isFirst (F .sequence)) (sym (h .named)) ∙ p .1 .0) in
       let w : h .ahead ++ h .here ∷ h .behind ≡ h .here ∷ h .behind = ap (λ (l : List Placed). l ++ h .here ∷ h .behind) a in
-      subst (λ (l : List Placed). After f l runway legs r) (sym w) (after-9 f (h .here) (h .behind) runway legs (subst (λ (l : List Placed). Orderly f l runway legs) w q) r (h .named) k z))
+      subst (λ (l : List Placed). After f l runway legs r) (sym w) (after-9 f (h .here) (h .behind) runway legs (subst (λ (l : List Placed). Orderly f l runway legs) w q) r (h .named) k z (h .owned-by)))
 
   -- kind 10
-  pub ten : r .kind ≡ 10 → firstRefused (headChecks 10 (placeBefore G r) ++ []) ≡ 0 → After f line runway legs r
+  pub ten : r .kind ≡ 10 → firstRefused (headChecks 10 (placeBefore G r) (owned G r) ++ []) ≡ 0 → After f line runway legs r
   ten k c =
       moving 10 k tt (λ u. omega arith) c
       (λ h q d.
@@ -199,7 +199,7 @@ module _ (f : Side) (line : List Placed) (runway : List Aircraft) (legs : Legs) 
       subst (λ (l : List Placed). After f l runway legs r) (sym w) (after-10 f (h .here) (h .behind) runway legs (subst (λ (l : List Placed). Orderly f l runway legs) w q) r (h .named) k z))
 
   -- kind 11
-  pub eleven : r .kind ≡ 11 → firstRefused (headChecks 11 (placeBefore G r) ++ besides G r 11) ≡ 0 → After f line runway legs r
+  pub eleven : r .kind ≡ 11 → firstRefused (headChecks 11 (placeBefore G r) (owned G r) ++ besides G r 11) ≡ 0 → After f line runway legs r
   eleven k c =
       moving 11 k tt (λ u. omega arith) c
       (λ h q d.
@@ -209,14 +209,14 @@ module _ (f : Side) (line : List Placed) (runway : List Aircraft) (legs : Legs) 
       ])
 
   -- kinds 3 to 6
-  pub three : r .kind ≡ 3 → firstRefused (headChecks 3 (placeBefore G r) ++ besides G r 3) ≡ 0 → After f line runway legs r
+  pub three : r .kind ≡ 3 → firstRefused (headChecks 3 (placeBefore G r) (owned G r) ++ besides G r 3) ≡ 0 → After f line runway legs r
   three k c = moving 3 k tt (λ u. omega arith) c (λ h q d. after-3 f (h .ahead) (h .here) (h .behind) runway legs q r (h .named) (h .heads) (h .place-is) (h .starts) k d)
 
-  pub four : r .kind ≡ 4 → firstRefused (headChecks 4 (placeBefore G r) ++ besides G r 4) ≡ 0 → After f line runway legs r
+  pub four : r .kind ≡ 4 → firstRefused (headChecks 4 (placeBefore G r) (owned G r) ++ besides G r 4) ≡ 0 → After f line runway legs r
   four k c = moving 4 k tt (λ u. omega arith) c (λ h q d. after-4 f (h .ahead) (h .here) (h .behind) runway legs q r (h .named) (h .heads) (h .place-is) (h .starts) k d)
 
-  pub five : r .kind ≡ 5 → firstRefused (headChecks 5 (placeBefore G r) ++ besides G r 5) ≡ 0 → After f line runway legs r
+  pub five : r .kind ≡ 5 → firstRefused (headChecks 5 (placeBefore G r) (owned G r) ++ besides G r 5) ≡ 0 → After f line runway legs r
   five k c = moving 5 k tt (λ u. omega arith) c (λ h q d. after-5 f (h .ahead) (h .here) (h .behind) runway legs q r (h .named) (h .heads) (h .place-is) (h .starts) k d)
 
-  pub six : r .kind ≡ 6 → firstRefused (headChecks 6 (placeBefore G r) ++ besides G r 6) ≡ 0 → After f line runway legs r
+  pub six : r .kind ≡ 6 → firstRefused (headChecks 6 (placeBefore G r) (owned G r) ++ besides G r 6) ≡ 0 → After f line runway legs r
   six k c = moving 6 k tt (λ u. omega arith) c (λ h q d. after-6 f (h .ahead) (h .here) (h .behind) runway legs q r (h .named) (h .heads) (h .place-is) (h .starts) k)

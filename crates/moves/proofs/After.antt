@@ -1,6 +1,6 @@
 -- What an accepted request leaves behind, said of the order that the field stands for; and the moves of the line that are made of it.
 -- Assumes nothing.
-use mathlib.Core.Path.{_≡_, sym, ap, _∙_, subst}
+use mathlib.Core.Path.{_≡_, refl, sym, ap, _∙_, subst}
 use mathlib.Core.Bool.{Bool, true, false, not, _&&_, _||_}
 use mathlib.Core.List.{List, _∷_, _++_, map}
 use Prim.Native.Nat.{ℕ, _+_, _≤_}
@@ -27,7 +27,8 @@ use Rattle.line.proofs.Line.{Placed, zonesIn, inside, fieldOf}
 use Rattle.line.proofs.Counted.{free-inside}
 use Rattle.line.proofs.Leaders.{all-at}
 use Rattle.line.proofs.Orderly.{Orderly, length-zones}
-use Rattle.moves.proofs.Moves.{into, MayMove, moved-line, same-length}
+use Rattle.moves.proofs.Moves.{into, MayMove, moved-line}
+use Rattle.moves.proofs.Owners.{owners, owners-all, passing, desksOn, same-desks}
 use Rattle.moves.proofs.Ticking.{tickPlaced}
 use Rattle.moves.proofs.Kept.{changed, placedFits}
 use Rattle.moves.proofs.Carried.{onward-into, Carried, carried-one}
@@ -48,11 +49,26 @@ pub record After (f : Side) (line : List Placed) (runway : List Aircraft) (legs 
   pub runway-after : List Aircraft
   pub effect : effectOf (fieldOf f line runway legs) r ≡ fieldOf first-after line-after runway-after legs
   pub orderly : Orderly first-after line-after runway-after legs
-  pub balance : length line-after + length runway-after + one (leaves (r .kind)) ≡ length line + length runway + one (isEntry (r .kind))
+  pub balance : (who : ℕ → Bool) → owners who line-after runway-after + one (leaves (r .kind) && who (r .desk)) ≡ owners who line runway + one (isEntry (r .kind) && who (r .desk))
   pub lighter : addsMoves (r .kind) ≡ false → weightOf line-after runway-after + one (within 3 11 (r .kind)) ≤ weightOf line runway
   pub carried : (r .kind ≡ 12 → ⊥) → Carried legs r line runway line-after runway-after
   pub ticked-on : r .kind ≡ 12 → line-after ≡ map (tickPlaced (r .amount)) line
   pub runway-on : r .kind ≡ 12 → runway-after ≡ runway
+
+-- as many are present, but for those who leave and enter
+pub balance-all : (f : Side) (line : List Placed) (runway : List Aircraft) (legs : Legs) (r : Request) (x : After f line runway legs r)
+    → length (x .line-after) + length (x .runway-after) + one (leaves (r .kind)) ≡ length line + length runway + one (isEntry (r .kind))
+balance-all f line runway legs r x =
+    let a = x .balance (λ d. true) in
+    let b = owners-all line runway in
+    let c = owners-all (x .line-after) (x .runway-after) in
+    let d = both (leaves (r .kind)) in
+    let e = both (isEntry (r .kind)) in
+    omega arith
+  where
+    both : (b : Bool) → one (b && true) ≡ one b
+    both true = refl
+    both false = refl
 
 -- a kind that moves an aircraft from zone to zone: no entry, no taxi, no exit, no miss
 abbrev pub staysOn : ℕ → Bool
@@ -61,9 +77,6 @@ staysOn kind = not (leaves kind) && not (addsMoves kind)
 pub one-le : (b : Bool) → one b ≤ 1
 one-le true = omega arith
 one-le false = omega arith
-
-pub not-one : (b : Bool) → T (not b) → one b ≡ 0
-not-one b t = ap one (failed {b = b} t)
 
 -- ---- the model's view of a line that is split
 pub zones-split : (a : List Placed) (e : Placed) (b : List Placed) → zonesIn (a ++ e ∷ b) ≡ zonesIn a ++ e .zone ∷ zonesIn b
@@ -118,7 +131,7 @@ module _ (f : Side) (a : List Placed) (e : Placed) (b : List Placed) (runway : L
         runway-after = runway;
         effect = eff ∙ moved-is w heads (m .none-behind) (m .other) (m .inside) (m .okay-after);
         orderly = moved-orderly w heads (m .none-behind) (m .other) (m .inside) (m .okay-after);
-        balance = stay-balance r s (same-length a (into legs w e) e b);
+        balance = λ who. stay-balance r s (who (r .desk)) (passing who (desksOn runway)) (ap (passing who) (same-desks a e (into legs w e) b (into-arrived legs w (e .aircraft) .desk)));
         lighter =
             λ h.
             let p = ap weight (zones-split a e b) in
@@ -131,8 +144,8 @@ module _ (f : Side) (a : List Placed) (e : Placed) (b : List Placed) (runway : L
         runway-on = λ h. absurd (tick h);
       }
     where
-      stay-balance : (r : Request) → T (staysOn (r .kind)) → {m n : ℕ} → m ≡ n → m + length runway + one (leaves (r .kind)) ≡ n + length runway + one (isEntry (r .kind))
-      stay-balance r s e =
-          let p = not-one (leaves (r .kind)) (and-l (not (leaves (r .kind))) (not (addsMoves (r .kind))) s) in
-          let q = ap one (or-false-left (isEntry (r .kind)) (eqb (r .kind) 10) (failed (and-r (not (leaves (r .kind))) (not (addsMoves (r .kind))) s))) in
+      stay-balance : (r : Request) → T (staysOn (r .kind)) → (t : Bool) (q : ℕ) → {m n : ℕ} → m ≡ n → m + q + one (leaves (r .kind) && t) ≡ n + q + one (isEntry (r .kind) && t)
+      stay-balance r s t q e =
+          let p = ap (λ (b : Bool). one (b && t)) (failed {b = leaves (r .kind)} (and-l (not (leaves (r .kind))) (not (addsMoves (r .kind))) s)) in
+          let v = ap (λ (b : Bool). one (b && t)) (or-false-left (isEntry (r .kind)) (eqb (r .kind) 10) (failed (and-r (not (leaves (r .kind))) (not (addsMoves (r .kind))) s))) in
           omega arith

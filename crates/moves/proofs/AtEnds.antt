@@ -1,6 +1,6 @@
 -- The kinds that take an aircraft out of the sequence, into it, or to its end: 7, 8, 9, 10, 1 and 2; and the tick. Assumes nothing.
 use mathlib.Core.Path.{_≡_, refl, sym, ap, _∙_, subst}
-use mathlib.Core.Bool.{Bool, true, false, not, _||_, true≢false}
+use mathlib.Core.Bool.{Bool, true, false, not, _&&_, _||_, true≢false}
 use mathlib.Core.List.{List, [], _∷_, _++_, map}
 use Prim.Native.Nat.{ℕ, suc, _+_, _≤_, _<_}
 use native.Mathlib.Omega.{arith}
@@ -9,6 +9,7 @@ use lib.ListN.{length, length-append}
 use lib.Ieee.Fits.{and-l}
 use Rattle.request.specs.Input.{within, isEntry}
 use Rattle.request.specs.declared.Request.{Request}
+use Rattle.request.proofs.ByKind.{DeskKnown}
 use Rattle.limits.specs.Limits.{longestTick, fastest}
 use Rattle.leg.specs.Ticks.{Between}
 use Rattle.field.specs.declared.Aircraft.{Aircraft}
@@ -33,6 +34,7 @@ use Rattle.line.proofs.Orderly.{Orderly, length-zones}
 use Rattle.moves.proofs.Leaves.{taxied, first-exits, first-lands}
 use Rattle.moves.proofs.Enters.{entryFix, entrant, enters, misser, misses-approach}
 use Rattle.moves.proofs.Ticking.{tickPlaced, ticks, zones-same}
+use Rattle.moves.proofs.Owners.{passing, owners, one-more, desks-ticked}
 use Rattle.moves.proofs.Kept.{side-fits, first-gone, landed-on, runway-left, come, ticked-orderly}
 use Rattle.moves.proofs.Carried.{Each, each-append, onRunway, onward-into, Turned, Entered, Came, went, turned, came-in, stay-all, stay-runway, apart-in}
 use Rattle.moves.proofs.After.{After, leaves, one-le, zone-in, room-for, fit-here}
@@ -65,15 +67,19 @@ module _ (f : Side) (e : Placed) (b : List Placed) (runway : List Aircraft) (leg
   runway-all Q = stay-runway legs r Q runway (absent-right (r .number) (numbersOf b) (numbers runway) behind-absent)
 
   -- kind 9
-  pub after-9 : r .kind ≡ 9 → e .zone ≡ 11 → After f (e ∷ b) runway legs r
-  after-9 h z =
+  pub after-9 : r .kind ≡ 9 → e .zone ≡ 11 → r .desk ≡ e .aircraft .desk → After f (e ∷ b) runway legs r
+  after-9 h z own =
       record {
         first-after = opp f;
         line-after = b;
         runway-after = runway;
         effect = effect-at F r h ∙ first-exits f e b runway legs (zone-in f [] e b runway legs o) room z r named;
         orderly = first-gone f e b runway legs o rest-okay;
-        balance = subst (λ (k : ℕ). length b + length runway + one (leaves k) ≡ suc (length b) + length runway + one (isEntry k)) (sym h) (omega arith);
+        balance =
+            λ who.
+            let m = owners who b runway in
+            let t = ap (λ (d : ℕ). one (who d)) own in
+            subst (λ (k : ℕ). m + one (leaves k && who (r .desk)) ≡ owners who (e ∷ b) runway + one (isEntry k && who (r .desk))) (sym h) (omega arith);
         lighter = λ u. let w = exit-lighter f (e .zone) (zonesIn b) z (o .okay-line) in let x = one-le (within 3 11 (r .kind)) in omega arith;
         carried = λ u. record { carry = λ Q p q. (behind-all Q p, runway-all Q q) };
         ticked-on = λ u. absurd (let n : 12 ≡ 9 = sym u ∙ h in omega arith);
@@ -100,7 +106,11 @@ module _ (f : Side) (e : Placed) (b : List Placed) (runway : List Aircraft) (leg
             (subst (λ (n : ℕ). T (nonzero n)) (sym same) (and-l (nonzero (e .aircraft .number)) (every nonzero (numbersOf b ++ numbers runway)) (o .nonzeros)))
             (ap (λ (n : ℕ). isIn n (numbersOf b ++ numbers runway)) same ∙ al .behind)
             (refixed-fits legs w (num (entryFix f (opp f) (zonesIn b))) (turnedAway legs w (e .aircraft)) (side-fits (entryFix f (opp f) (zonesIn b))) (turned-away-fits legs (o .legal) w (e .aircraft) (missed-zone f) (subst (λ (v : ℕ). T (fitsZone legs v (e .aircraft))) z (fit-here f [] e b runway legs o))));
-        balance = let p = length-append b (g ∷ []) in subst (λ (k : ℕ). length (b ++ (g ∷ [])) + length runway + one (leaves k) ≡ suc (length b) + length runway + one (isEntry k)) (sym h) (omega arith);
+        balance =
+            λ who.
+            let p = one-more who b g in
+            let t = ap (λ (d : ℕ). one (who d)) (into-turned-away legs w (e .aircraft) .desk) in
+            subst (λ (k : ℕ). owners who (b ++ (g ∷ [])) runway + one (leaves k && who (r .desk)) ≡ owners who (e ∷ b) runway + one (isEntry k && who (r .desk))) (sym h) (omega arith);
         lighter = λ u. absurd (true≢false (ap addsMoves (sym h) ∙ u));
         carried =
             let i = into-turned-away legs w (e .aircraft) in
@@ -126,7 +136,10 @@ after-7 f e b legs o r named h z =
           landed-on (opp f) b x legs (first-gone f e b [] legs o (rest-okay f e b [] legs o r named)) (subst (λ (m : ℕ). T (nonzero m)) (sym same) (and-l (nonzero n) (every nonzero (numbersOf b ++ [])) (o .nonzeros)))
           (ap (λ (m : ℕ). isIn m (numbersOf b)) same ∙ absent-left n (numbersOf b) [] (al .behind))
           (arrived-fits legs (o .legal) (e .zone) 13 (e .aircraft) (fit-here f [] e b [] legs o));
-      balance = subst (λ (k : ℕ). length b + 1 + one (leaves k) ≡ suc (length b) + 0 + one (isEntry k)) (sym h) (omega arith);
+      balance =
+          λ who.
+          let t = ap (λ (d : ℕ). one (who d)) (into-arrived legs 13 (e .aircraft) .desk) in
+          subst (λ (k : ℕ). owners who b (x ∷ []) + one (leaves k && who (r .desk)) ≡ owners who (e ∷ b) [] + one (isEntry k && who (r .desk))) (sym h) (omega arith);
       lighter = λ u. let w = landing-lighter f (e .zone) (zonesIn b) z (o .okay-line) in let y = one-le (within 3 11 (r .kind)) in omega arith;
       carried = λ u. record { carry = λ Q p q. (behind-all f e b [] legs o r named Q p, (went e (p .0) (onward-into legs 13 e) (sym named) (ap addsMoves h), tt)) };
       ticked-on = λ u. absurd (let n : 12 ≡ 7 = sym u ∙ h in omega arith);
@@ -134,15 +147,18 @@ after-7 f e b legs o r named h z =
     }
 
 -- kind 8
-pub after-8 : (f : Side) (line : List Placed) (x : Aircraft) (legs : Legs) (o : Orderly f line (x ∷ []) legs) (r : Request) → r .number ≡ x .number → r .kind ≡ 8 → After f line (x ∷ []) legs r
-after-8 f line x legs o r named h =
+pub after-8 : (f : Side) (line : List Placed) (x : Aircraft) (legs : Legs) (o : Orderly f line (x ∷ []) legs) (r : Request) → r .number ≡ x .number → r .kind ≡ 8 → r .desk ≡ x .desk → After f line (x ∷ []) legs r
+after-8 f line x legs o r named h own =
     record {
       first-after = f;
       line-after = line;
       runway-after = [];
       effect = effect-at (fieldOf f line (x ∷ []) legs) r h ∙ taxied f line x legs;
       orderly = runway-left f line (x ∷ []) legs o;
-      balance = subst (λ (k : ℕ). length line + 0 + one (leaves k) ≡ length line + 1 + one (isEntry k)) (sym h) (omega arith);
+      balance =
+          λ who.
+          let t = ap (λ (d : ℕ). one (who d)) own in
+          subst (λ (k : ℕ). owners who line [] + one (leaves k && who (r .desk)) ≡ owners who line (x ∷ []) + one (isEntry k && who (r .desk))) (sym h) (omega arith);
       lighter = λ u. let y = one-le (within 3 11 (r .kind)) in omega arith;
       carried = λ u. record { carry = λ Q p q. (stay-all legs r Q line (ap (λ (m : ℕ). isIn m (numbersOf line)) named ∙ not-in-line) p, tt) };
       ticked-on = λ u. absurd (let n : 12 ≡ 8 = sym u ∙ h in omega arith);
@@ -156,9 +172,9 @@ after-8 f line x legs o r named h =
 pub after-entry : (s f : Side) (line : List Placed) (runway : List Aircraft) (legs : Legs) (o : Orderly f line runway legs) (r : Request) (w : ℕ) → T (within 1 12 w) → T (not (isFlyingZone w)) → r .side ≡ num s
     → T (isEntry (r .kind)) → effectOf (fieldOf f line runway legs) r ≡ entered (fieldOf f line runway legs) r w
     → T (okay (firstFix s f (zonesIn line)) (zonesIn line ++ (w ∷ []))) → 1 ≤ r .number → isIn (r .number) (numbersOf line ++ numbers runway) ≡ false → Between 1 fastest (r .amount)
-    → (r .kind ≡ 12 → ⊥) → T (not (leaves (r .kind))) → After f line runway legs r
+    → DeskKnown (r .desk) → (r .kind ≡ 12 → ⊥) → T (not (leaves (r .kind))) → After f line runway legs r
 unfolding entering
-after-entry s f line runway legs o r w t u side kind eff k n d fast tick stays =
+after-entry s f line runway legs o r w t u side kind eff k n d fast desk tick stays =
     let room = let p = okay-length (firstFix s f (zonesIn line)) (zonesIn line ++ (w ∷ [])) k in let q = length-append (zonesIn line) (w ∷ []) in let v = length-zones line in let g : length line < 4 = omega arith in g in
     let e = entrant s f line runway legs r w t room side in
     record {
@@ -166,11 +182,12 @@ after-entry s f line runway legs o r w t u side kind eff k n d fast tick stays =
       line-after = line ++ (e ∷ []);
       runway-after = runway;
       effect = eff ∙ enters s f line runway legs r w t room side;
-      orderly = come s f line e runway legs o k refl (fail (borrow.Author.Tests.ne-eqb (r .number) 0 (λ q. omega arith))) d (entering-fits legs w (r .number) (num (entryFix s f (zonesIn line))) (r .amount) (side-fits (entryFix s f (zonesIn line))) fast (failed {b = isFlyingZone w} u));
+      orderly = come s f line e runway legs o k refl (fail (borrow.Author.Tests.ne-eqb (r .number) 0 (λ q. omega arith))) d (entering-fits legs w (r .number) (num (entryFix s f (zonesIn line))) (r .amount) (r .desk) (side-fits (entryFix s f (zonesIn line))) fast (record { least = desk .low; most = desk .high }) (failed {b = isFlyingZone w} u));
       balance =
-          let p = length-append line (e ∷ []) in
-          let q : one (isEntry (r .kind)) ≡ 1 = ap one (passed {b = isEntry (r .kind)} kind) in
-          let v : one (leaves (r .kind)) ≡ 0 = ap one (failed {b = leaves (r .kind)} stays) in
+          λ who.
+          let p = one-more who line e in
+          let q = ap (λ (b : Bool). one (b && who (r .desk))) (passed {b = isEntry (r .kind)} kind) in
+          let v = ap (λ (b : Bool). one (b && who (r .desk))) (failed {b = leaves (r .kind)} stays) in
           omega arith;
       lighter = λ v. absurd (true≢false (sym (adds kind) ∙ v));
       carried =
@@ -199,10 +216,9 @@ after-12 f line runway legs o r h amount =
       effect = effect-at (fieldOf f line runway legs) r h ∙ ticks (r .amount) f line runway legs four;
       orderly = ticked-orderly f line runway legs (r .amount) amount o;
       balance =
-          let p = length-zones line in
-          let q = length-zones (map (tickPlaced (r .amount)) line) in
-          let v = ap length (zones-same (r .amount) line) in
-          subst (λ (k : ℕ). length (map (tickPlaced (r .amount)) line) + length runway + one (leaves k) ≡ length line + length runway + one (isEntry k)) (sym h) (omega arith);
+          λ who.
+          let p = ap (passing who) (desks-ticked (r .amount) line) in
+          subst (λ (k : ℕ). owners who (map (tickPlaced (r .amount)) line) runway + one (leaves k && who (r .desk)) ≡ owners who line runway + one (isEntry k && who (r .desk))) (sym h) (omega arith);
       lighter =
           λ u.
           let p = ap weight (zones-same (r .amount) line) in

@@ -18,9 +18,11 @@ use Rattle.rules.specs.Step.{effectOf}
 use Rattle.rules.specs.Play.{addsMoves}
 use Rattle.rules.proofs.Checks.{effect-at}
 use Rattle.field.proofs.Tests.{if-true, if-false}
+use Rattle.field.proofs.Arrival.{into-arrived}
 use Rattle.line.proofs.Line.{Placed, zonesIn, fieldOf}
 use Rattle.line.proofs.Orderly.{Orderly}
-use Rattle.moves.proofs.Moves.{into, same-length}
+use Rattle.moves.proofs.Moves.{into}
+use Rattle.moves.proofs.Owners.{passing, same-desks}
 use Rattle.moves.proofs.Carried.{onward-into, followed-first}
 use Rattle.moves.proofs.After.{After, okay-split, moved-is, moved-orderly}
 
@@ -66,7 +68,7 @@ module _ (f : Side) (a : List Placed) (g : Placed) (b : List Placed) (runway : L
         runway-after = x .runway-after;
         effect = eff ∙ x .effect;
         orderly = x .orderly;
-        balance = let p = x .balance in let q = same-length a (into legs w g) g b in omega arith;
+        balance = λ who. let p = x .balance who in let q = ap (passing who) (same-desks a g (into legs w g) b (into-arrived legs w (g .aircraft) .desk)) in omega arith;
         lighter = λ u. absurd (true≢false (ap addsMoves (sym k) ∙ u));
         carried = λ u. followed-first legs r a g (into legs w g) b runway (x .line-after) (x .runway-after) other (onward-into legs w g) from to (x .carried u);
         ticked-on = λ u. absurd (let n : 12 ≡ 1 = sym u ∙ k in omega arith);

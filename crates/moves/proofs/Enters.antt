@@ -88,7 +88,7 @@ module _ (s f : Side) (line : List Placed) (runway : List Aircraft) (legs : Legs
 
   -- the one that has come in
   abbrev pub entrant : Placed
-  entrant = record { aircraft = entering (r .number) (num (entryFix s f (zonesIn line))) (r .amount); zone = w }
+  entrant = record { aircraft = entering (r .number) (num (entryFix s f (zonesIn line))) (r .amount) (r .desk); zone = w }
 
   by-length : (l : List Placed) → cond (eqb (length (numbersOf l)) 0) (num s) (num (nextFix f (zonesIn l))) ≡ num (entryFix s f (zonesIn l))
   by-length [] = refl
@@ -104,7 +104,7 @@ module _ (s f : Side) (line : List Placed) (runway : List Aircraft) (legs : Legs
   pub enters : entered F r w ≡ fieldOf (firstFix s f (zonesIn line)) (line ++ (entrant ∷ [])) runway legs
   unfolding entered tailPut withSequence fieldOf entering
   enters =
-      ap (λ (n : ℕ). withSequence (withZone F w (withTail (zoneOf F w) (entering (r .number) n (r .amount)))) (appended (F .sequence) (r .number)) (opposite n)) fix-taken
+      ap (λ (n : ℕ). withSequence (withZone F w (withTail (zoneOf F w) (entering (r .number) n (r .amount) (r .desk)))) (appended (F .sequence) (r .number)) (opposite n)) fix-taken
       ∙ ap (λ (g : Field). withSequence g (appended (F .sequence) (r .number)) (opposite (num (entryFix s f (zonesIn line))))) (at-tail line entrant runway (sequenceFor (numbersOf line)) (num (nextFix f (zonesIn line))) legs t room)
       ∙ ended s f line entrant runway legs room
 

@@ -1,4 +1,4 @@
--- An aircraft that a request of kinds 3 to 11 names and that passes 12 to 14 is one of the line, or the one on the runway, at the head of
+-- An aircraft that a request of kinds 3 to 11 names and that passes 12, 26, 13 and 14 is one of the line, or the one on the runway, at the head of
 -- a zone that the kind starts from. Assumes nothing.
 use mathlib.Core.Path.{_≡_, refl, sym, ap, _∙_, subst}
 use mathlib.Core.Logic.{_⊎_, inl, inr}
@@ -7,22 +7,23 @@ use mathlib.Core.List.{List, [], _∷_, _++_}
 use Prim.Native.Nat.{ℕ, suc, _≤_}
 use native.Mathlib.Omega.{arith}
 use lib.Dec.{T, eqb}
-use lib.ListN.{length}
+use lib.ListN.{length, getD}
 use borrow.Author.Tests.{eqb-true, eq-eqb}
 use Rattle.request.specs.declared.Request.{Request}
 use Rattle.field.specs.declared.Aircraft.{Aircraft}
 use Rattle.field.specs.declared.Legs.{Legs}
 use Rattle.field.specs.declared.Field.{Field}
 use Rattle.questions.specs.declared.Place.{Place}
+use Rattle.field.specs.Boxes.{nobody}
 use Rattle.field.specs.Lists.{isIn}
-use Rattle.questions.specs.Find.{placeOf}
+use Rattle.questions.specs.Find.{placeOf, aircraftAt}
 use Rattle.order.specs.Model.{Side, count, free}
-use Rattle.rules.specs.Kinds.{startsFrom, zoneBefore}
+use Rattle.rules.specs.Kinds.{startsFrom, belongsTo, zoneBefore}
 use Rattle.field.proofs.Tests.{decided, pass}
 use Rattle.line.proofs.Line.{Placed, zonesIn, numbersOf, inside, fieldOf}
-use Rattle.line.proofs.Counted.{length-inside}
+use Rattle.line.proofs.Counted.{on-runway, length-inside}
 use Rattle.questions.proofs.FindLaws.{at}
-use Rattle.line.proofs.Located.{located, located-runway, not-located}
+use Rattle.line.proofs.Located.{located, located-runway, not-located, aircraft-there}
 use Rattle.line.proofs.Orderly.{Orderly}
 use Rattle.moves.proofs.After.{zone-in}
 
@@ -53,6 +54,7 @@ pub record Heading (f : Side) (line : List Placed) (runway : List Aircraft) (leg
   pub heads : T (free (zonesIn ahead) (here .zone))
   pub place-is : placeOf (fieldOf f (ahead ++ here ∷ behind) runway legs) (r .number) ≡ at (here .zone) 1
   pub starts : T (startsFrom (r .kind) (here .zone))
+  pub owned-by : r .desk ≡ here .aircraft .desk
 
 -- the one on the runway
 pub record Landed (f : Side) (line : List Placed) (runway : List Aircraft) (legs : Legs) (r : Request) : Type 0 where
@@ -61,6 +63,11 @@ pub record Landed (f : Side) (line : List Placed) (runway : List Aircraft) (legs
   pub named : r .number ≡ one .number
   pub place-is : placeOf (fieldOf f line (one ∷ []) legs) (r .number) ≡ at 13 1
   pub starts : T (startsFrom (r .kind) 13)
+  pub owned-by : r .desk ≡ one .desk
+
+pub runway-head : (f : Side) (line : List Placed) (x : Aircraft) (legs : Legs) → aircraftAt (fieldOf f line (x ∷ []) legs) 13 1 ≡ x
+unfolding aircraftAt
+runway-head f line x legs = ap (λ (l : List Aircraft). getD (nobody ∷ l) 1 nobody) (on-runway f line (x ∷ []) legs)
 
 module _ (f : Side) (line : List Placed) (runway : List Aircraft) (legs : Legs) (o : Orderly f line runway legs) (r : Request) where
   abbrev F : Field
@@ -69,7 +76,16 @@ module _ (f : Side) (line : List Placed) (runway : List Aircraft) (legs : Legs) 
   abbrev n : ℕ
   n = r .number
 
-  module _ (known : not (eqb (zoneBefore F r) 0) ≡ true) (from : startsFrom (r .kind) (zoneBefore F r) ≡ true) (first : eqb (placeOf F n .place) 1 ≡ true) where
+  module _ (known : not (eqb (zoneBefore F r) 0) ≡ true) (own : belongsTo F (placeOf F n) (r .desk) ≡ true) (from : startsFrom (r .kind) (zoneBefore F r) ≡ true) (first : eqb (placeOf F n .place) 1 ≡ true) where
+    -- the desk of the one at the place is the request's
+    desk-is : {g : Field} {p : Place} {a : Aircraft} → F ≡ g → placeOf g n ≡ p → aircraftAt g (p .zone) (p .place) ≡ a → r .desk ≡ a .desk
+    unfolding belongsTo
+    desk-is {g} whole there has =
+        sym (eqb-true (aircraftAt F (placeOf F n .zone) (placeOf F n .place) .desk) (r .desk) own)
+        ∙ ap (λ (h : Field). aircraftAt h (placeOf h n .zone) (placeOf h n .place) .desk) whole
+        ∙ ap (λ (q : Place). aircraftAt g (q .zone) (q .place) .desk) there
+        ∙ ap (λ (x : Aircraft). x .desk) has
+
     in-the-line : InLine n line → Heading f line runway legs r
     in-the-line i =
         let a = i .ahead in
@@ -90,6 +106,7 @@ module _ (f : Side) (line : List Placed) (runway : List Aircraft) (legs : Legs) 
           heads = pass (eq-eqb (count (zonesIn a) (e .zone)) 0 (omega arith));
           place-is = p ∙ ap (at (e .zone)) k;
           starts = pass (ap (λ (x : Place). startsFrom (r .kind) (x .zone)) (sym (q ∙ p)) ∙ from);
+          owned-by = desk-is (ap (λ (l : List Placed). fieldOf f l runway legs) (i .whole)) p (aircraft-there f a e b runway legs (o₂ .different) (zone-in f a e b runway legs o₂));
         }
 
     on-the-runway : (rw : List Aircraft) → runway ≡ rw → length rw ≤ 1 → isIn n (numbersOf line) ≡ false → Landed f line runway legs r
@@ -103,7 +120,7 @@ module _ (f : Side) (line : List Placed) (runway : List Aircraft) (legs : Legs) 
           | inl b ↦
               let c : n ≡ x .number = sym (eqb-true (x .number) n b) in
               let p : placeOf (fieldOf f line (x ∷ []) legs) n ≡ at 13 1 = ap (placeOf (fieldOf f line (x ∷ []) legs)) c ∙ located-runway f line x legs (ap (λ (m : ℕ). isIn m (numbersOf line)) (sym c) ∙ d) in
-              record { one = x; whole = e; named = c; place-is = p; starts = pass (ap (λ (y : Place). startsFrom (r .kind) (y .zone)) (sym (q ∙ p)) ∙ from) }
+              record { one = x; whole = e; named = c; place-is = p; starts = pass (ap (λ (y : Place). startsFrom (r .kind) (y .zone)) (sym (q ∙ p)) ∙ from); owned-by = desk-is (ap (λ (l : List Aircraft). fieldOf f line l legs) e) p (runway-head f line x legs) }
           | inr b ↦ absurd (false≢true (ap (λ (y : Place). not (eqb (y .zone) 0)) (sym (q ∙ not-located f line (x ∷ []) legs n d (ap (λ (t : Bool). t || false) b))) ∙ known))
         ]
     on-the-runway (x ∷ y ∷ rest) e h d = absurd (omega arith)

@@ -1,6 +1,6 @@
 -- Kind 11 beside an occupied 3000: the aircraft there goes to 2000, and the one from the missed zone to 3000. Assumes nothing.
 use mathlib.Core.Path.{_≡_, sym, ap, _∙_, subst}
-use mathlib.Core.Bool.{false, not, _||_, true≢false}
+use mathlib.Core.Bool.{Bool, false, not, _&&_, _||_, true≢false}
 use mathlib.Core.List.{List, _∷_, _++_, append-assoc}
 use Prim.Native.Nat.{ℕ, _+_}
 use native.Mathlib.Omega.{arith}
@@ -27,7 +27,8 @@ use Rattle.line.proofs.Line.{Placed, zonesIn, numbersOf, fieldOf}
 use Rattle.line.proofs.Counted.{lower}
 use Rattle.line.proofs.Members.{count-append}
 use Rattle.line.proofs.Orderly.{Orderly}
-use Rattle.moves.proofs.Moves.{into, same-length}
+use Rattle.moves.proofs.Moves.{into}
+use Rattle.moves.proofs.Owners.{passing, desksIn, desksOn, same-desks}
 use Rattle.moves.proofs.Carried.{onward-into, Carried, apart-in, carried-one, followed-first}
 use Rattle.moves.proofs.After.{After, one-le, zone-in, moved-is, moved-orderly, zones-split}
 
@@ -160,10 +161,11 @@ module _ (f : Side) (a : List Placed) (g : Placed) (b : List Placed) (e : Placed
         effect = eff ∙ moved-up;
         orderly = up-orderly;
         balance =
-            let p = same-length a₂ (into legs y e) e c in
-            let q = ap (λ (l : List Placed). length l) (regroup e) in
-            let m = same-length a (into legs w g) g (b ++ e ∷ c) in
-            kind-balance (r .kind) h (p ∙ sym q ∙ m);
+            λ who.
+            let p = ap (passing who) (same-desks a₂ e (into legs y e) c (into-arrived legs y (e .aircraft) .desk)) in
+            let q = ap (λ (l : List Placed). passing who (desksIn l)) (regroup e) in
+            let m = ap (passing who) (same-desks a g (into legs w g) (b ++ e ∷ c) (into-arrived legs w (g .aircraft) .desk)) in
+            kind-balance (who (r .desk)) (passing who (desksOn runway)) (r .kind) h (p ∙ sym q ∙ m);
         lighter =
             λ u.
             let p = ap weight (zones-split a₂ (into legs y e) c ∙ zones-after) in
@@ -176,5 +178,5 @@ module _ (f : Side) (a : List Placed) (g : Placed) (b : List Placed) (e : Placed
         runway-on = λ u. absurd (let n : 12 ≡ 11 = sym u ∙ h in omega arith);
       }
     where
-      kind-balance : (k : ℕ) → k ≡ 11 → {m n : ℕ} → m ≡ n → m + length runway + one (eqb k 8 || eqb k 9) ≡ n + length runway + one (within 1 2 k)
-      kind-balance k h {m} {n} q = subst (λ (j : ℕ). m + length runway + one (eqb j 8 || eqb j 9) ≡ n + length runway + one (within 1 2 j)) (sym h) (omega arith)
+      kind-balance : (t : Bool) (x k : ℕ) → k ≡ 11 → {m n : ℕ} → m ≡ n → m + x + one ((eqb k 8 || eqb k 9) && t) ≡ n + x + one (within 1 2 k && t)
+      kind-balance t x k h {m} {n} q = subst (λ (j : ℕ). m + x + one ((eqb j 8 || eqb j 9) && t) ≡ n + x + one (within 1 2 j && t)) (sym h) (omega arith)

@@ -2,6 +2,7 @@ pub mod Moves
 pub mod Leaves
 pub mod Enters
 pub mod Ticking
+pub mod Owners
 pub mod Kept
 pub mod Carried
 pub mod After

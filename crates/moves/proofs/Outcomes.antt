@@ -2,14 +2,12 @@
 -- that is neither 10 nor 25. Assumes nothing.
 use mathlib.Core.Path.{_≡_, sym, ap, _∙_, subst}
 use mathlib.Core.Logic.{_⊎_, inl, inr}
-use mathlib.Core.Bool.{Bool, true, cond, _||_}
+use mathlib.Core.Bool.{Bool, true, cond}
 use mathlib.Core.List.{List, [], _∷_, _++_}
-use Prim.Native.Nat.{ℕ}
 use native.Mathlib.Omega.{arith}
-use lib.Dec.{T, leb, eqb, leb→le}
-use lib.Ieee.Fits.{and-l}
+use lib.Dec.{eqb}
 use borrow.Author.Tests.{eqb-true, eqb-false, eq-eqb, ne-eqb}
-use Rattle.request.specs.Input.{within, firstRefused, inputNumber}
+use Rattle.request.specs.Input.{firstRefused, inputNumber}
 use Rattle.request.specs.declared.Request.{Request}
 use Rattle.field.specs.declared.Aircraft.{Aircraft}
 use Rattle.field.specs.declared.Legs.{Legs}
@@ -17,18 +15,14 @@ use Rattle.field.specs.declared.Field.{Field}
 use Rattle.bounds.specs.Bounds.{withinBounds}
 use Rattle.order.specs.Model.{Side}
 use Rattle.rules.specs.Step.{checksOf, effectOf, numberOf}
-use Rattle.field.proofs.Tests.{passed, decided, or-left, or-right, if-true, if-false}
+use Rattle.field.proofs.Tests.{passed, decided, if-true, if-false}
 use Rattle.line.proofs.Line.{Placed, fieldOf}
 use Rattle.line.proofs.Orderly.{Orderly}
 use Rattle.line.proofs.Within.{within-bounds}
 use Rattle.moves.proofs.After.{After}
-use Rattle.rules.proofs.Checks.{refused-in, refused-append, checks-numbered, checks-refuse, input-numbered}
+use Rattle.rules.proofs.Checks.{NeverOthers, needNumbers, need-never, input-never, refused-by, refused-append, checks-numbered, checks-refuse, input-numbered}
 use Rattle.rules.proofs.Refusals.{accepts}
 use Rattle.moves.proofs.Steps.{accepted-after}
-
--- ---- the number of a refusal on an orderly field: 1 to 4, or 11 to 24
-abbrev pub refusable : ℕ → Bool
-refusable n = within 1 4 n || within 11 24 n
 
 pub record Accepted (f : Side) (line : List Placed) (runway : List Aircraft) (legs : Legs) (r : Request) : Type 1 where
   pub number-0 : numberOf (fieldOf f line runway legs) r ≡ 0
@@ -59,24 +53,24 @@ module _ (f : Side) (line : List Placed) (runway : List Aircraft) (legs : Legs) 
         after = a;
       }
 
-  by-checks : inputNumber r ≡ 0 → Accepted f line runway legs r ⊎ T (refusable (numberOf F r))
+  by-checks : inputNumber r ≡ 0 → Accepted f line runway legs r ⊎ NeverOthers (numberOf F r)
   by-checks i =
       elim (decided (eqb (firstRefused (checksOf F r)) 0)) [
         | inl e ↦ inl (accepted-by i (eqb-true (firstRefused (checksOf F r)) 0 e))
         | inr e ↦
             let n = eqb-false (firstRefused (checksOf F r)) 0 e in
             let q : numberOf F r ≡ firstRefused (checksOf F r) = number-of i ∙ refused-append (checksOf F r) ((25, withinBounds (effectOf F r)) ∷ []) (checks-refuse F r) ∙ if-false (cond (withinBounds (effectOf F r)) 0 25) (firstRefused (checksOf F r)) e in
-            elim (refused-in 11 24 (checksOf F r) (checks-numbered F r)) [
+            elim (refused-by needNumbers (checksOf F r) (checks-numbered F r)) [
               | inl z ↦ absurd (n z)
-              | inr t ↦ inr (subst (λ (m : ℕ). T (refusable m)) (sym q) (or-right (within 1 4 (firstRefused (checksOf F r))) (within 11 24 (firstRefused (checksOf F r))) t))
+              | inr t ↦ inr (subst NeverOthers (sym q) (need-never (firstRefused (checksOf F r)) t))
             ]
       ]
 
-  pub outcome : Accepted f line runway legs r ⊎ T (refusable (numberOf F r))
+  pub outcome : Accepted f line runway legs r ⊎ NeverOthers (numberOf F r)
   outcome =
       elim (input-numbered r) [
         | inl i ↦ by-checks i
         | inr t ↦
-            let q = number-input (λ z. let l = leb→le 1 (inputNumber r) (and-l (leb 1 (inputNumber r)) (leb (inputNumber r) 4) t) in omega arith) in
-            inr (subst (λ (m : ℕ). T (refusable m)) (sym q) (or-left (within 1 4 (inputNumber r)) (within 11 24 (inputNumber r)) t))
+            let never = input-never (inputNumber r) t in
+            inr (subst NeverOthers (sym (number-input (λ z. let l = never .not-0 in omega arith))) never)
       ]

@@ -37,7 +37,7 @@ use Rattle.line.proofs.Located.{located, located-runway}
 use Rattle.line.proofs.Orderly.{Orderly, Split, first-in}
 use Rattle.moves.proofs.After.{After, zone-in, zones-split, okay-split}
 use Rattle.moves.proofs.Heads.{find-line}
-use Rattle.rules.proofs.Checks.{besides, checks-at, effect-at}
+use Rattle.rules.proofs.Checks.{besides, owned, checks-at, effect-at}
 use Rattle.field.proofs.Arrival.{into-arrived}
 use Rattle.moves.proofs.Moves.{into, same-numbers}
 use Rattle.moves.proofs.EnterAbove.{enters-empty, enters-occupied, lowered, lowered-is, lowered-orderly, after-above}
@@ -117,7 +117,7 @@ module _ (f : Side) (line : List Placed) (runway : List Aircraft) (legs : Legs) 
       into-empty l q ns may e =
           after-entry s f l runway legs q r (at3000 (num s)) (v .high-in) (v .high-waits) side (subst (λ (j : ℕ). T (isEntry j)) (sym k) tt)
           (enters-empty (fieldOf f l runway legs) r k e ∙ ap (λ (n : ℕ). entered (fieldOf f l runway legs) r (at3000 n)) side)
-          (enter f s (zonesIn l) (q .okay-line) may) (known .number) (subst (λ (m : List ℕ). isIn (r .number) (m ++ numbers runway) ≡ false) ns (new-number (needs-met .0))) (record { least = known .speed-low; most = known .speed-high }) (λ u. let n : 12 ≡ 1 = sym u ∙ k in omega arith) (subst (λ (j : ℕ). T (not (eqb j 8 || eqb j 9))) (sym k) tt)
+          (enter f s (zonesIn l) (q .okay-line) may) (known .number) (subst (λ (m : List ℕ). isIn (r .number) (m ++ numbers runway) ≡ false) ns (new-number (needs-met .0))) (record { least = known .speed-low; most = known .speed-high }) (known .desk) (λ u. let n : 12 ≡ 1 = sym u ∙ k in omega arith) (subst (λ (j : ℕ). T (not (eqb j 8 || eqb j 9))) (sym k) tt)
 
       -- beside one at 3000, with nobody at 2000
       beside : isEmpty F (at3000 (r .side)) ≡ false → Split (at3000 (num s)) line → After f line runway legs r
@@ -169,7 +169,7 @@ module _ (f : Side) (line : List Placed) (runway : List Aircraft) (legs : Legs) 
         let t16 : eqb (potential f zs (num s)) 0 ≡ true = ap (λ (n : ℕ). eqb n 0) (sym (potential-is f line runway legs (o .alternates) (num s)) ∙ ap (potentialOf F) (sym side)) ∙ p .1 .0 in
         after-entry s f line runway legs o r (lateral (num s)) tl tf side (subst (λ (j : ℕ). T (isEntry j)) (sym k) tt)
         (effect-at F r k ∙ ap (λ (n : ℕ). entered F r (lateral n)) side)
-        (enter-lateral f s zs (o .okay-line) (pass t16)) (known .number) (new-number (p .0)) (record { least = known .speed-low; most = known .speed-high }) (λ u. let n : 12 ≡ 2 = sym u ∙ k in omega arith) (subst (λ (j : ℕ). T (not (eqb j 8 || eqb j 9))) (sym k) tt)
+        (enter-lateral f s zs (o .okay-line) (pass t16)) (known .number) (new-number (p .0)) (record { least = known .speed-low; most = known .speed-high }) (known .desk) (λ u. let n : 12 ≡ 2 = sym u ∙ k in omega arith) (subst (λ (j : ℕ). T (not (eqb j 8 || eqb j 9))) (sym k) tt)
 
   one-side : (s : Side) → r .side ≡ num s → r .kind ≡ 1 → EntryKnown r → firstRefused (absentChecks (placeBefore F r) ++ verticalNeeds F (r .side)) ≡ 0 → After f line runway legs r
   unfolding isFlyingZone
@@ -185,7 +185,7 @@ module _ (f : Side) (line : List Placed) (runway : List Aircraft) (legs : Legs) 
   pub accepted-after : inputNumber r ≡ 0 → firstRefused (checksOf F r) ≡ 0 → After f line runway legs r
   accepted-after i c =
       let known = kind-known r i in
-      let at-kind : (k : ℕ) → r .kind ≡ k → firstRefused (presenceChecks k (placeBefore F r) ++ besides F r k) ≡ 0 = λ k h. ap firstRefused (sym (checks-at F r h)) ∙ c in
+      let at-kind : (k : ℕ) → r .kind ≡ k → firstRefused (presenceChecks k (placeBefore F r) (owned F r) ++ besides F r k) ≡ 0 = λ k h. ap firstRefused (sym (checks-at F r h)) ∙ c in
       let side : r .kind ≤ 2 → (s : Side) × (r .side ≡ num s) = λ h. let e = entry-known r i (known .low) h in side-known (r .side) (e .side-low) (e .side-high) in
       each-zone (λ (k : ℕ). r .kind ≡ k → After f line runway legs r) (
         (λ h. let s = side (omega arith) in one-side (s .0) (s .1) h (entry-known r i (known .low) (omega arith)) (at-kind 1 h)),

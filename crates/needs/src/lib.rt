@@ -27,7 +27,7 @@ ghost use lib.Dec.{eqb};
 ghost use Rattle.request.specs.Input.{within, firstRefused};
 ghost use Rattle.field.specs.Boxes.{at3000, at2000, lateral, missed};
 ghost use Rattle.questions.specs.Counts.{isEmpty};
-ghost use Rattle.rules.specs.Kinds.{startsFrom, headChecks, presenceChecks, flownOutCheck, mayApproach, mayMerge, baseFree, verticalNeeds, lateralNeeds, descendNeeds, approachNeeds, mergeNeeds, flownOutNeeds, landNeeds, exitNeeds};
+ghost use Rattle.rules.specs.Kinds.{startsFrom, belongsTo, headChecks, presenceChecks, flownOutCheck, mayApproach, mayMerge, baseFree, verticalNeeds, lateralNeeds, descendNeeds, approachNeeds, mergeNeeds, flownOutNeeds, landNeeds, exitNeeds};
 ghost use Rattle.rules.specs.Step.{needsFor, checksFor};
 
 // Whether a kind starts from a zone.
@@ -48,14 +48,26 @@ fn with_need(before: u16, number: u16, met: bool) -> u16
     if met { 0 } else { number }
 }
 
-// The first need of a request for an aircraft at the head of its zone that is not met, by its number: 12, 13 or 14; 0 where all are.
-fn head_number(kind: u8, at: Place) -> u16
-    ensures { λ n. ⌜ n ≡ firstRefused (headChecks kind at) ⌝ }
+// Whether the aircraft at a place belongs to a desk.
+fn belongs_to(f: Field, at: Place, desk: u8) -> bool
+    ensures { λ b. ⌜ b ≡ belongsTo f at desk ⌝ }
+{
+    let a = aircraft_at(f, at.zone as usize, at.place);
+    a.desk == desk
+}
+
+// The first need of a request for an aircraft at the head of its zone, its desk's own or not, that is not met, by its number: 12, 26, 13 or
+// 14; 0 where all are.
+fn head_number(kind: u8, at: Place, own: bool) -> u16
+    ensures { λ n. ⌜ n ≡ firstRefused (headChecks kind at own) ⌝ }
 {
     let zone = at.zone;
     let place = at.place;
     if zone == 0 {
         return 12;
+    }
+    if !own {
+        return 26;
     }
     if !starts_from(kind, zone) {
         return 13;
@@ -66,9 +78,10 @@ fn head_number(kind: u8, at: Place) -> u16
     0
 }
 
-// What a kind asks of where its aircraft is, by the number that refuses: 11 of an entry, 12 to 14 of kinds 3 to 11; 0 where it is met.
-fn presence_number(kind: u8, at: Place) -> u16
-    ensures { λ n. ⌜ n ≡ firstRefused (presenceChecks kind at) ⌝ }
+// What a kind asks of where its aircraft is, its desk's own or not, by the number that refuses: 11 of an entry, 12, 26, 13 or 14 of kinds 3
+// to 11; 0 where it is met.
+fn presence_number(kind: u8, at: Place, own: bool) -> u16
+    ensures { λ n. ⌜ n ≡ firstRefused (presenceChecks kind at own) ⌝ }
 {
     if in_range(Range(1, 2), kind as usize) {
         return with_need(0, 11, at.zone == 0);
@@ -76,7 +89,7 @@ fn presence_number(kind: u8, at: Place) -> u16
     if kind == 12 {
         return 0;
     }
-    head_number(kind, at)
+    head_number(kind, at, own)
 }
 
 // Whether the aircraft with a number is first in a sequence, or its leader, who is in zone `ahead`, is on the approach.
@@ -242,7 +255,8 @@ fn needs_number(f: Field, r: Request, at: Place, ahead: usize) -> u16
 pub fn check_number(f: Field, r: Request, at: Place, ahead: usize) -> u16
     ensures { λ n. ⌜ n ≡ firstRefused (checksFor (r .kind) f r at ahead) ⌝ }
 {
-    let n = presence_number(r.kind, at);
+    let own = belongs_to(f, at, r.desk);
+    let n = presence_number(r.kind, at, own);
     if n != 0 {
         return n;
     }

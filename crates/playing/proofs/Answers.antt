@@ -9,7 +9,7 @@ use lib.Dec.{T, leb, eqb, leb→le}
 use lib.ListN.{getD}
 use lib.Ieee.Fits.{and-l, and-r}
 use borrow.Author.Tests.{eqb-true}
-use Rattle.request.specs.Input.{firstRefused, inputNumber}
+use Rattle.request.specs.Input.{within, firstRefused, inputNumber}
 use Rattle.request.specs.declared.Request.{Request}
 use Rattle.field.specs.declared.Aircraft.{Aircraft}
 use Rattle.field.specs.declared.Legs.{Legs}
@@ -22,23 +22,39 @@ use Rattle.bounds.specs.Bounds.{fitsZone, legalLegs, boundG, withinBounds}
 use Rattle.rules.specs.declared.Answer.{Answer}
 use Rattle.rules.specs.declared.Stepped.{Stepped}
 use Rattle.rules.specs.Kinds.{zoneBefore}
-use Rattle.rules.specs.Step.{checksOf, effectOf, numberOf, numberAndZeros, acceptance, alongFor, answerOf, stepOf}
-use Rattle.field.proofs.Tests.{passed, decided}
+use Rattle.rules.specs.Step.{checksOf, effectOf, numberOf, numberAndZeros, acceptance, acceptanceOn, alongFor, answerOf, stepOf}
+use Rattle.field.proofs.Tests.{pass, passed, decided}
 use Rattle.laws.proofs.BoundLaws.{within-each}
 use Rattle.laws.proofs.Fits.{fits-parts}
 use Rattle.questions.proofs.FindLaws.{place-within}
 use Rattle.rules.proofs.StepLaws.{number-is, field-accepted}
 use Rattle.rules.proofs.Refusals.{accepted-within}
-use Rattle.rules.proofs.Checks.{numberedIn, checks-numbered, input-numbered}
+use Rattle.rules.proofs.Checks.{inputNumbers, needNumbers, numberedBy, checks-numbered, input-numbered}
 
 -- ---- the number
 
+-- none of a need's numbers is over 26
+need-low : (n : ℕ) → T (needNumbers n) → n ≤ 26
+need-low n t =
+    elim (decided (within 11 24 n)) [
+      | inl e ↦ (let h = leb→le n 24 (and-r (leb 11 n) (leb n 24) (pass e)) in omega arith)
+      | inr e ↦ (let h = eqb-true n 26 (passed (subst (λ (b : Bool). T (b || eqb n 26)) e t)) in omega arith)
+    ]
+
+-- nor of an input rule's over 31
+input-low : (n : ℕ) → T (inputNumbers n) → n ≤ 31
+input-low n t =
+    elim (decided (within 1 4 n)) [
+      | inl e ↦ (let h = leb→le n 4 (and-r (leb 1 n) (leb n 4) (pass e)) in omega arith)
+      | inr e ↦ (let h = eqb-true n 31 (passed (subst (λ (b : Bool). T (b || eqb n 31)) e t)) in omega arith)
+    ]
+
 -- the checks of a kind and refusal 25 after them
-last-number : (cs : List (ℕ × Bool)) (b : Bool) → T (numberedIn 11 24 cs) → firstRefused (cs ++ ((25, b) ∷ [])) ≤ 25
+last-number : (cs : List (ℕ × Bool)) (b : Bool) → T (numberedBy needNumbers cs) → firstRefused (cs ++ ((25, b) ∷ [])) ≤ 31
 last-number [] true t = omega arith
 last-number [] false t = omega arith
-last-number ((n, true) ∷ cs) b t = last-number cs b (and-r (leb 11 n && leb n 24) (numberedIn 11 24 cs) t)
-last-number ((n, false) ∷ cs) b t = let h = leb→le n 24 (and-r (leb 11 n) (leb n 24) (and-l (leb 11 n && leb n 24) (numberedIn 11 24 cs) t)) in omega arith
+last-number ((n, true) ∷ cs) b t = last-number cs b (and-r (needNumbers n) (numberedBy needNumbers cs) t)
+last-number ((n, false) ∷ cs) b t = let h = need-low n (and-l (needNumbers n) (numberedBy needNumbers cs) t) in omega arith
 
 module _ (f : Field) (r : Request) where
   abbrev fieldNumber : ℕ
@@ -48,10 +64,14 @@ module _ (f : Field) (r : Request) where
   unfolding numberOf
   number-by e = ap (λ (b : Bool). cond b fieldNumber (inputNumber r)) e
 
-  number-low : numberOf f r ≤ 25
-  number-low = elim (decided (eqb (inputNumber r) 0)) [ inl e ↦ subst (λ (n : ℕ). n ≤ 25) (sym (number-by e)) (low (withinBounds f)) | inr e ↦ subst (λ (n : ℕ). n ≤ 25) (sym (number-by e)) (elim (input-numbered r) [ inl z ↦ omega arith | inr t ↦ (let h = leb→le (inputNumber r) 4 (and-r (leb 1 (inputNumber r)) (leb (inputNumber r) 4) t) in omega arith) ]) ]
+  number-low : numberOf f r ≤ 31
+  number-low =
+      elim (decided (eqb (inputNumber r) 0)) [
+        | inl e ↦ subst (λ (n : ℕ). n ≤ 31) (sym (number-by e)) (low (withinBounds f))
+        | inr e ↦ subst (λ (n : ℕ). n ≤ 31) (sym (number-by e)) (elim (input-numbered r) [ inl z ↦ omega arith | inr t ↦ input-low (inputNumber r) t ])
+      ]
     where
-      low : (b : Bool) → cond b (firstRefused (checksOf f r ++ ((25, withinBounds (effectOf f r)) ∷ []))) 10 ≤ 25
+      low : (b : Bool) → cond b (firstRefused (checksOf f r ++ ((25, withinBounds (effectOf f r)) ∷ []))) 10 ≤ 31
       low true = last-number (checksOf f r) (withinBounds (effectOf f r)) (checks-numbered f r)
       low false = omega arith
 
@@ -98,17 +118,17 @@ module _ (f : Field) (n : ℕ) where
 
 -- ---- the answer
 pub record Short (a : Answer) : Type 0 where
-  pub number : a .number ≤ 25
+  pub number : a .number ≤ 31
   pub zone : a .zone ≤ 13
   pub fix : a .fix ≤ 2
 
-short-zeros : (n : ℕ) → n ≤ 25 → Short (numberAndZeros n)
+short-zeros : (n : ℕ) → n ≤ 31 → Short (numberAndZeros n)
 unfolding numberAndZeros
 short-zeros n h = record { number = h; zone = omega arith; fix = omega arith }
 
-short-acceptance : (f : Field) (n along : ℕ) → T (withinBounds f) → Short (acceptance f (placeOf f n) n along)
+short-acceptance : (f : Field) (r : Request) (along : ℕ) → T (withinBounds f) → Short (acceptanceOn f r along)
 unfolding acceptance fixOf
-short-acceptance f n along t = record { number = omega arith; zone = place-within f n; fix = fix-low f n t }
+short-acceptance f r along t = record { number = omega arith; zone = place-within f (r .number); fix = fix-low f (r .number) t }
 
 module _ (f : Field) (r : Request) where
   -- the step, by whether the request is accepted
@@ -119,9 +139,9 @@ module _ (f : Field) (r : Request) where
   unfolding answerOf
   short-accepted t = told (eqb (r .kind) 12)
     where
-      told : (b : Bool) → Short (cond b (numberAndZeros 0) (acceptance (effectOf f r) (placeOf (effectOf f r) (r .number)) (r .number) (alongFor (r .kind) f r (zoneBefore f r))))
+      told : (b : Bool) → Short (cond b (numberAndZeros 0) (acceptanceOn (effectOf f r) r (alongFor (r .kind) f r (zoneBefore f r))))
       told true = short-zeros 0 (omega arith)
-      told false = short-acceptance (effectOf f r) (r .number) (alongFor (r .kind) f r (zoneBefore f r)) t
+      told false = short-acceptance (effectOf f r) r (alongFor (r .kind) f r (zoneBefore f r)) t
 
   pub short-step : Short (stepOf f r .answer)
   unfolding stepOf

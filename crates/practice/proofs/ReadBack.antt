@@ -1,6 +1,6 @@
--- A file of legal legs and at most 4,096 requests, encoded, is read back as exactly those; for change 2.11 of document 02. Assumes nothing.
+-- A file of legal legs and at most 4,096 requests, encoded, is read back as exactly those, asked by desk 1; for changes 2.10 and 2.11 of document 02. Assumes nothing.
 use mathlib.Core.Path.{_≡_, refl, ap, _∙_}
-use mathlib.Core.List.{List, [], _∷_}
+use mathlib.Core.List.{List, [], _∷_, map}
 use mathlib.Core.Bool.{Bool, true, cond, _&&_}
 use Prim.Native.Nat.{ℕ, _+_, _*_, _/_, _%_, _≤_}
 use native.Mathlib.Omega.{arith}
@@ -9,12 +9,12 @@ use lib.ListN.{length}
 use borrow.Author.Tests.{eq-eqb}
 use Rattle.limits.specs.Limits.{mostRequests}
 use Rattle.request.specs.declared.Request.{Request}
-use Rattle.request.specs.Input.{word}
+use Rattle.request.specs.Input.{word, requestOf}
 use Rattle.request.proofs.Tests.{within-yes, none-refused}
 use Rattle.practice.specs.declared.FileLegs.{FileLegs}
 use Rattle.practice.specs.File.{bodyLength, opens, contentsAllowed, legsOf, legsBody, requestsBody, legsAllowed, fileNumber}
 use Rattle.practice.specs.Requests.{requestsOf}
-use Rattle.practice.specs.Practice.{refused, holds, practiceOf, requestBytes, encoded}
+use Rattle.practice.specs.Practice.{refused, holds, practiceOf, requestBytes, fromFile, encoded}
 use Rattle.practice.proofs.Accepted.{Whole, contents-of}
 
 -- ---- numbers from their bytes
@@ -32,9 +32,19 @@ requests-size : (rs : List Request) → length (requestBytes rs) ≡ 6 * length 
 requests-size [] = refl
 requests-size (r ∷ rest) = let e = requests-size rest in omega arith
 
-requests-back : (rs : List Request) → requestsOf (requestBytes rs) ≡ rs
+requests-back : (rs : List Request) → requestsOf (requestBytes rs) ≡ map fromFile rs
 requests-back [] = refl
-requests-back (r ∷ rest) = λ i. record { kind = r .kind; side = r .side; number = word-back (r .number) i; amount = word-back (r .amount) i } ∷ requests-back rest i
+requests-back (r ∷ rest) = λ i. record { kind = r .kind; side = r .side; number = word-back (r .number) i; amount = word-back (r .amount) i; desk = 1 } ∷ requests-back rest i
+
+-- what bytes hold is asked by desk 1
+pub from-bytes : (bytes : List ℕ) → map fromFile (requestsOf bytes) ≡ requestsOf bytes
+from-bytes [] = refl
+from-bytes (a ∷ []) = refl
+from-bytes (a ∷ b ∷ []) = refl
+from-bytes (a ∷ b ∷ c ∷ []) = refl
+from-bytes (a ∷ b ∷ c ∷ d ∷ []) = refl
+from-bytes (a ∷ b ∷ c ∷ d ∷ e ∷ []) = refl
+from-bytes (a ∷ b ∷ c ∷ d ∷ e ∷ f ∷ rest) = ap (λ (rs : List Request). requestOf (a ∷ b ∷ c ∷ d ∷ e ∷ f ∷ []) ∷ rs) (from-bytes rest)
 
 -- ---- the whole file
 module _ (legs : FileLegs) (rs : List Request) where
@@ -50,7 +60,7 @@ module _ (legs : FileLegs) (rs : List Request) where
   unfolding encoded
   legs-back i = record { base = word-back (legs .base) i; intermediate = word-back (legs .intermediate) i; last = word-back (legs .last) i; missed = word-back (legs .missed) i }
 
-  body-back : requestsOf (requestsBody (encoded legs rs)) ≡ rs
+  body-back : requestsOf (requestsBody (encoded legs rs)) ≡ map fromFile rs
   unfolding encoded
   body-back = requests-back rs
 
@@ -76,7 +86,7 @@ module _ (legs : FileLegs) (rs : List Request) where
       none-refused ((5, opens (encoded legs rs)) ∷ (6, contentsAllowed (encoded legs rs)) ∷ (7, legsAllowed (legsOf (legsBody (encoded legs rs)))) ∷ [])
       (opening h, (contents h, (ap legsAllowed legs-back ∙ l, tt)))
 
-  pub read-back : length rs ≤ mostRequests → legsAllowed legs ≡ true → practiceOf (encoded legs rs) ≡ holds legs rs
+  pub read-back : length rs ≤ mostRequests → legsAllowed legs ≡ true → practiceOf (encoded legs rs) ≡ holds legs (map fromFile rs)
   unfolding practiceOf
   read-back h l =
       ap (λ (n : ℕ). cond (eqb n 0) (holds (legsOf (legsBody (encoded legs rs))) (requestsOf (requestsBody (encoded legs rs)))) (refused n)) (number h l)

@@ -40,6 +40,10 @@ abbrev pub requestBytes : List Request → List ℕ
 requestBytes [] = []
 requestBytes (r ∷ rest) = r .kind ∷ r .side ∷ bytes16 (r .number) ++ bytes16 (r .amount) ++ requestBytes rest
 
+-- a request as a practice file holds it, where it has no desk: it is asked by desk 1 (02, 2.10 and 2.11)
+abbrev pub fromFile : Request → Request
+fromFile r = record { kind = r .kind; side = r .side; number = r .number; amount = r .amount; desk = 1 }
+
 -- "Letters SCAP; 16-bit count 2; two entries", and the bodies
 unfoldable pub encoded : FileLegs → List Request → List ℕ
 encoded legs requests =

@@ -10,7 +10,7 @@ use lib.Dec.{T, eqb, leb, leb→le}
 use lib.Ieee.Fits.{and-l, and-r}
 use borrow.Author.Tests.{eqb-true, eqb-false, eq-eqb, ne-eqb}
 use Rattle.limits.specs.Limits.{longestTick}
-use Rattle.request.specs.Input.{within, isTick, firstRefused, inputNumber, kindAllowed, sideAllowed, numberAllowed, amountAllowed}
+use Rattle.request.specs.Input.{within, isTick, firstRefused, inputNumber, deskAllowed, kindAllowed, sideAllowed, numberAllowed, amountAllowed}
 use Rattle.request.specs.declared.Request.{Request}
 use Rattle.request.proofs.ByKind.{keeps}
 use Rattle.request.proofs.Tests.{nonzero-known, within-yes, within-low, within-high}
@@ -31,7 +31,7 @@ use Rattle.press.specs.Press.{candidates, headMove, longTick, tickOrNone
 
 -- ---- the tick
 tick-input : inputNumber longTick ≡ 0
-unfolding inputNumber kindAllowed sideAllowed numberAllowed amountAllowed
+unfolding inputNumber deskAllowed kindAllowed sideAllowed numberAllowed amountAllowed
 tick-input = refl
 
 -- on every field within the bounds the longest tick is accepted

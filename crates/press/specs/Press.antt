@@ -36,13 +36,16 @@ kindsAndZones (kind ∷ kinds) = map (λ z. (kind, z)) (zonesOfKind kind) ++ kin
 unfoldable pub candidates : List (ℕ × ℕ)
 candidates = kindsAndZones buttonKinds
 
--- the request of a kind by the aircraft at the head of zone z; where nobody is there it names number 0, and the step refuses it
+-- the request of a kind by the aircraft at the head of zone z, of its own desk (02, 2.10); where nobody is there it names number 0 and desk 0, and the
+-- step refuses it
 abbrev pub headMove : Field → ℕ × ℕ → Request
-headMove f c = record { kind = c .0; side = 0; number = aircraftAt f (c .1) 1 .number; amount = 0 }
+headMove f c =
+    let a = aircraftAt f (c .1) 1 in
+    record { kind = c .0; side = 0; number = a .number; amount = 0; desk = a .desk }
 
--- the longest tick
+-- the longest tick, of desk 1 (02, 2.10)
 abbrev pub longTick : Request
-longTick = record { kind = 12; side = 0; number = 0; amount = longestTick }
+longTick = record { kind = 12; side = 0; number = 0; amount = longestTick; desk = 1 }
 
 -- ---- what is proposed
 

@@ -35,6 +35,7 @@ fn tick_or_none(f: Field) -> Pressed
         side: 0,
         number: 0,
         amount: LONGEST_TICK,
+        desk: 1,
     };
     Pressed {
         proposal: Proposal::Play(r),
@@ -59,6 +60,7 @@ pub(crate) fn first_accepted(f: Field) -> Pressed
                 side: 0,
                 number: number,
                 amount: 0,
+                desk: head.desk,
             };
             let s = step_within(f, r);
             let a = s.answer;

@@ -19,6 +19,11 @@ abbrev pub haveFix : ℕ → List Aircraft → ℕ
 haveFix fix [] = 0
 haveFix fix (a ∷ rest) = cond (eqb (a .fix) fix) 1 0 + haveFix fix rest
 
+-- those of the aircraft that belong to the desk (02, 2.10)
+abbrev pub ownedBy : ℕ → List Aircraft → ℕ
+ownedBy desk [] = 0
+ownedBy desk (a ∷ rest) = cond (eqb (a .desk) desk) 1 0 + ownedBy desk rest
+
 -- how many are in zone z
 unfoldable pub howMany : Field → ℕ → ℕ
 howMany f z = length (inZone f z)
@@ -34,6 +39,10 @@ howManyWithFix f side z = haveFix side (inZone f z)
 -- "Present: the aircraft within the lengths of all thirteen zones."
 unfoldable pub presentOn : Field → ℕ
 presentOn f = total (howMany f) everywhere
+
+-- those of them that the desk let in (02, 2.10)
+unfoldable pub presentFor : Field → ℕ → ℕ
+presentFor f desk = total (λ z. ownedBy desk (inZone f z)) everywhere
 
 -- how many are in the operation area
 unfoldable pub inOperation : Field → ℕ

@@ -29,7 +29,7 @@ use Rattle.field.proofs.Tests.{failed, passed, pass, decided, if-true, if-false
 use Rattle.line.proofs.Line.{Placed, fieldOf}
 use Rattle.line.proofs.Orderly.{Orderly}
 use Rattle.line.proofs.Within.{within-bounds}
-use Rattle.rules.proofs.Checks.{checks-at}
+use Rattle.rules.proofs.Checks.{owned, checks-at}
 use Rattle.rules.proofs.StepLaws.{number-is}
 use Rattle.demand.proofs.Demand.{from-empty}
 use Rattle.reason.proofs.AlongLine.{orderly-reason}
@@ -93,9 +93,9 @@ missing f r k e =
       | inl b ↦ sym (if-true (firstRefused checks) (inputNumber r) b) ∙ e
       | inr b ↦ absurd (eqb-false (inputNumber r) 0 b (sym (if-false (firstRefused checks) (inputNumber r) b) ∙ e))
     ] in
-    let q : firstRefused ((10, withinBounds f) ∷ headChecks 10 (placeBefore f r) ++ ((25, withinBounds (effectOf f r)) ∷ [])) ≡ 0 = ap (λ (l : List (ℕ × Bool)). firstRefused ((10, withinBounds f) ∷ l ++ ((25, withinBounds (effectOf f r)) ∷ []))) (sym (checks-at f r k)) ∙ p in
-    let known = input.passed ((10, withinBounds f) ∷ headChecks 10 (placeBefore f r) ++ ((25, withinBounds (effectOf f r)) ∷ [])) (tt, (tt, (tt, (tt, (tt, tt))))) q in
-    record { bounds = known .0; starts = known .1 .1 .0; heads = known .1 .1 .1 .0 }
+    let q : firstRefused ((10, withinBounds f) ∷ headChecks 10 (placeBefore f r) (owned f r) ++ ((25, withinBounds (effectOf f r)) ∷ [])) ≡ 0 = ap (λ (l : List (ℕ × Bool)). firstRefused ((10, withinBounds f) ∷ l ++ ((25, withinBounds (effectOf f r)) ∷ []))) (sym (checks-at f r k)) ∙ p in
+    let known = input.passed ((10, withinBounds f) ∷ headChecks 10 (placeBefore f r) (owned f r) ++ ((25, withinBounds (effectOf f r)) ∷ [])) (tt, (tt, (tt, (tt, (tt, (tt, tt)))))) q in
+    record { bounds = known .0; starts = known .1 .1 .1 .0; heads = known .1 .1 .1 .1 .0 }
 
 starts-final : (z : ℕ) → startsFrom 10 z ≡ true → eqb z 12 ≡ true
 unfolding startsFrom

@@ -22,7 +22,7 @@ use Rattle.questions.specs.declared.Place.{Place}
 use Rattle.questions.specs.Counts.{total, haveFix, howMany, howManyWithFix, isEmpty, approachHolds, countedFor, potentialOf}
 use Rattle.questions.specs.Find.{placeOf, aircraftAt, fixOf, isFirst, leaderOf, leaderZone}
 use Rattle.bounds.specs.Bounds.{withinBounds}
-use Rattle.rules.specs.Kinds.{placeBefore, zoneBefore, zoneAhead, presenceChecks, mayApproach, baseFree, mayMerge, verticalNeeds, approachNeeds, mergeNeeds, flownOutCheck, landNeeds, headGone, tailPut, moved, outOfSequence, fixTaken, entered, madeRoom, enteredAbove, approached, landed, exited, fixAfterMiss, missedApproach, held}
+use Rattle.rules.specs.Kinds.{placeBefore, zoneBefore, zoneAhead, presenceChecks, belongsTo, mayApproach, baseFree, mayMerge, verticalNeeds, approachNeeds, mergeNeeds, flownOutCheck, landNeeds, headGone, tailPut, moved, outOfSequence, fixTaken, entered, madeRoom, enteredAbove, approached, landed, exited, fixAfterMiss, missedApproach, held}
 use Rattle.rules.specs.Step.{byKind, needsFor, effectFor, checksFor, checksOf, effectOf, numberOf, stepOf}
 use Rattle.rules.specs.Reason.{Listed, listed, along, those, isInZone, isInArea, neverFalls, eachAmong, fromLanding, heightIn, hasRoom, lateralFree, approachOrder, areaOrder, roomToMiss, lateralEntry, Reason, hasPlaces, Sound, KeptBy}
 use Rattle.field.proofs.Tests.{pass, passed, decided}
@@ -155,11 +155,13 @@ module _ (f g : Field) (s : Same f g) where
       landing z = let a = flown-same z in let b = empty-same runway in cc (a, b)
 
   checks-same : (r : Request) → checksOf f r ≡ checksOf g r
-  unfolding checksOf
+  unfolding checksOf belongsTo
   checks-same r =
+      let at = placeBefore g r in
       ap (λ (at : Place). checksFor (r .kind) f r at (zoneAhead f r)) (place-same (r .number))
-      ∙ ap (checksFor (r .kind) f r (placeBefore g r)) (leader-same (r .number))
-      ∙ ap (λ (l : List (ℕ × Bool)). presenceChecks (r .kind) (placeBefore g r) ++ l) (needs-same r (placeBefore g r) (zoneAhead g r))
+      ∙ ap (checksFor (r .kind) f r at) (leader-same (r .number))
+      ∙ ap (λ (a : Aircraft). presenceChecks (r .kind) at (eqb (a .desk) (r .desk)) ++ needsFor (r .kind) f r at (zoneAhead g r)) (at-same (at .zone) (at .place))
+      ∙ ap (λ (l : List (ℕ × Bool)). presenceChecks (r .kind) at (belongsTo g at (r .desk)) ++ l) (needs-same r at (zoneAhead g r))
 
   -- ---- what the requests do
   gone-same : (z : ℕ) → Same (headGone f z) (headGone g z)
@@ -182,7 +184,7 @@ entered-same : (f g : Field) (s : Same f g) (r : Request) (z : ℕ) → Same (en
 unfolding entered fixTaken
 entered-same f g s r z =
     let fix : fixTaken f (r .side) ≡ fixTaken g (r .side) = ap (λ (q : Sequence). cond (eqb (length (orderOf q)) 0) (r .side) (f .next)) (s .sequence) ∙ ap (λ (n : ℕ). cond (eqb (length (orderOf (g .sequence))) 0) (r .side) n) (s .next) in
-    same-sequence _ _ (put-same f g s z (ap (λ (n : ℕ). entering (r .number) n (r .amount)) fix)) (ap (λ (q : Sequence). appended q (r .number)) (s .sequence)) (ap opposite fix)
+    same-sequence _ _ (put-same f g s z (ap (λ (n : ℕ). entering (r .number) n (r .amount) (r .desk)) fix)) (ap (λ (q : Sequence). appended q (r .number)) (s .sequence)) (ap opposite fix)
 
 module _ (f g : Field) (s : Same f g) (r : Request) where
   room-same : (side : ℕ) → Same (madeRoom f side) (madeRoom g side)

@@ -77,9 +77,9 @@ module _ {π : ℕ → ℕ} (p : Renaming π) where
       let s = f .sequence in
       let n = r .number in
       let fix = fixTaken f (r .side) in
-      ap (λ (k : ℕ). withSequence (tailPut (renamedField π f) z (entering (π n) k (r .amount))) (appended (renamedSequence π s) (π n)) (opposite k)) (taken-renamed f (r .side))
-      ∙ ap (λ (g : Field). withSequence g (appended (renamedSequence π s) (π n)) (opposite fix)) (put-renamed f z (entering n fix (r .amount)))
-      ∙ ap (λ (t : Sequence). withSequence (renamedField π (tailPut f z (entering n fix (r .amount)))) t (opposite fix)) (appended-renamed p s n)
+      ap (λ (k : ℕ). withSequence (tailPut (renamedField π f) z (entering (π n) k (r .amount) (r .desk))) (appended (renamedSequence π s) (π n)) (opposite k)) (taken-renamed f (r .side))
+      ∙ ap (λ (g : Field). withSequence g (appended (renamedSequence π s) (π n)) (opposite fix)) (put-renamed f z (entering n fix (r .amount) (r .desk)))
+      ∙ ap (λ (t : Sequence). withSequence (renamedField π (tailPut f z (entering n fix (r .amount) (r .desk)))) t (opposite fix)) (appended-renamed p s n)
 
   module _ (f : Field) (r : Request) where
     abbrev G : Field

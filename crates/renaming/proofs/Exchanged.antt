@@ -27,9 +27,13 @@ module _ (m n : ℕ) where
       go (inr e) (inl d) = ap (exchanged m n) (if-false _ _ e ∙ if-true _ _ d) ∙ first-exchanged ∙ sym (eqb-true k n d)
       go (inr e) (inr d) = ap (exchanged m n) (other-stays k e d) ∙ other-stays k e d
 
+  -- so no two become one, also where one of the two is 0
+  pub exchange-apart : (j k : ℕ) → exchanged m n j ≡ exchanged m n k → j ≡ k
+  exchange-apart j k e = sym (twice j) ∙ ap (exchanged m n) e ∙ twice k
+
   pub exchange-renames : m ≢ 0 → n ≢ 0 → Renaming (exchanged m n)
   exchange-renames h g =
       record {
-        apart = λ j k e. sym (twice j) ∙ ap (exchanged m n) e ∙ twice k;
+        apart = exchange-apart;
         zero = other-stays 0 (ne-eqb 0 m (λ e. h (sym e))) (ne-eqb 0 n (λ e. g (sym e)));
       }

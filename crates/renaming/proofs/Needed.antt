@@ -4,7 +4,7 @@ use mathlib.Core.Bool.{Bool, cond, not, _||_}
 use mathlib.Core.List.{List, [], _∷_, _++_}
 use Prim.Native.Nat.{ℕ}
 use lib.Dec.{eqb, leb, ltb}
-use Rattle.request.specs.Input.{within, kindAllowed, sideAllowed, numberAllowed, amountAllowed, inputNumber}
+use Rattle.request.specs.Input.{within, deskAllowed, kindAllowed, sideAllowed, numberAllowed, amountAllowed, inputNumber}
 use Rattle.request.specs.declared.Request.{Request}
 use Rattle.field.specs.declared.Aircraft.{Aircraft}
 use Rattle.field.specs.declared.Field.{Field}
@@ -12,7 +12,7 @@ use Rattle.field.specs.Boxes.{opposite, sideOf, at3000, at2000, lateral, missed
 use Rattle.field.specs.Lists.{isIn}
 use Rattle.questions.specs.declared.Place.{Place}
 use Rattle.questions.specs.Counts.{total, isEmpty, approachHolds, countedFor, potentialOf}
-use Rattle.rules.specs.Kinds.{placeBefore, zoneAhead, presenceChecks, flownOutCheck, mayApproach, baseFree, mayMerge}
+use Rattle.rules.specs.Kinds.{placeBefore, zoneAhead, presenceChecks, belongsTo, flownOutCheck, mayApproach, baseFree, mayMerge}
 use Rattle.rules.specs.Step.{byKind, needsFor, checksFor, checksOf}
 use Rattle.renaming.specs.Renaming.{Renaming, renamedField, renamedRequest}
 use Rattle.renaming.proofs.Lists.{zero-renamed}
@@ -21,7 +21,7 @@ use Rattle.renaming.proofs.Asked.{at-renamed, many-renamed, with-fix-re
 module _ {π : ℕ → ℕ} (p : Renaming π) where
   -- the input rules: 3 asks whether the number is 0
   pub input-renamed : (r : Request) → inputNumber (renamedRequest π r) ≡ inputNumber r
-  unfolding inputNumber kindAllowed sideAllowed numberAllowed amountAllowed
+  unfolding inputNumber deskAllowed kindAllowed sideAllowed numberAllowed amountAllowed
   input-renamed r = rw (zero-renamed p (r .number)) refl
 
   module _ (f : Field) where
@@ -55,6 +55,10 @@ module _ {π : ℕ → ℕ} (p : Renaming π) where
     unfolding legFlownOut
     flown-renamed z = ap (λ (a : Aircraft). (15, legFlownOut a)) (at-renamed p f z 1)
 
+    belongs-renamed : (at : Place) (desk : ℕ) → belongsTo F at desk ≡ belongsTo f at desk
+    unfolding belongsTo
+    belongs-renamed at desk = ap (λ (a : Aircraft). eqb (a .desk) desk) (at-renamed p f (at .zone) (at .place))
+
     module _ (r : Request) where
       abbrev n : ℕ
       n = r .number
@@ -84,6 +88,8 @@ module _ {π : ℕ → ℕ} (p : Renaming π) where
       pub checks-renamed : checksOf F (renamedRequest π r) ≡ checksOf f r
       unfolding checksOf
       checks-renamed =
+          let at = placeBefore f r in
           ap (λ (at : Place). checksFor (r .kind) F (renamedRequest π r) at (zoneAhead F (renamedRequest π r))) (place-renamed p f n)
-          ∙ ap (checksFor (r .kind) F (renamedRequest π r) (placeBefore f r)) (leader-zone-renamed p f n)
-          ∙ ap (λ (l : List (ℕ × Bool)). presenceChecks (r .kind) (placeBefore f r) ++ l) (needs-renamed (placeBefore f r) (zoneAhead f r))
+          ∙ ap (checksFor (r .kind) F (renamedRequest π r) at) (leader-zone-renamed p f n)
+          ∙ ap (λ (b : Bool). presenceChecks (r .kind) at b ++ needsFor (r .kind) F (renamedRequest π r) at (zoneAhead f r)) (belongs-renamed at (r .desk))
+          ∙ ap (λ (l : List (ℕ × Bool)). presenceChecks (r .kind) at (belongsTo f at (r .desk)) ++ l) (needs-renamed at (zoneAhead f r))

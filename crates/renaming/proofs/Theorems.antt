@@ -12,16 +12,16 @@ use Rattle.field.specs.declared.Legs.{Legs}
 use Rattle.field.specs.declared.Field.{Field}
 use Rattle.field.specs.Boxes.{sideOf, at3000, emptyField}
 use Rattle.questions.specs.declared.Place.{Place}
-use Rattle.questions.specs.Find.{placeOf}
+use Rattle.questions.specs.Find.{placeOf, aircraftAt, leaderOf}
 use Rattle.bounds.specs.Bounds.{withinBounds}
 use Rattle.finder.specs.Finder.{indexOf, foundIn}
 use Rattle.finder.proofs.Theorems.{found-as-looked}
 use Rattle.rules.specs.declared.Answer.{Answer}
 use Rattle.rules.specs.declared.Stepped.{Stepped}
-use Rattle.rules.specs.Kinds.{zoneBefore, numberAt3000}
-use Rattle.rules.specs.Step.{effectOf, numberOf, numberAndZeros, acceptance, alongFor, answerOf, stepOf}
+use Rattle.rules.specs.Kinds.{zoneBefore, shownTo, shownAt3000}
+use Rattle.rules.specs.Step.{effectOf, numberOf, numberAndZeros, acceptance, acceptanceOn, alongFor, answerOf, stepOf}
 use Rattle.rules.specs.Play.{fieldAfter, played}
-use Rattle.renaming.specs.Renaming.{Renaming, renamedField, renamedRequest, renamedAnswer, renamedStep, renamedPair}
+use Rattle.renaming.specs.Renaming.{Renaming, renamedAircraft, renamedField, renamedRequest, renamedAnswer, renamedStep, renamedPair}
 use Rattle.renaming.proofs.Lists.{either-made}
 use Rattle.renaming.proofs.Asked.{at-renamed, place-renamed, leader-renamed}
 use Rattle.renaming.proofs.Bounded.{within-renamed}
@@ -34,9 +34,17 @@ module _ {π : ℕ → ℕ} (p : Renaming π) where
   unfolding numberAndZeros
   zeros-renamed number = rw (p .zero) refl
 
-  acceptance-renamed : (f : Field) (at : Place) (number along : ℕ) → acceptance (renamedField π f) at (π number) (π along) ≡ renamedAnswer π (acceptance f at number along)
+  -- what a desk is shown of an aircraft: its new number, or 0 still
+  shown-renamed : (desk : ℕ) (a : Aircraft) → shownTo desk (renamedAircraft π a) ≡ π (shownTo desk a)
+  unfolding shownTo
+  shown-renamed desk a = either-made π (eqb (a .desk) desk) refl (sym (p .zero))
+
+  shown-at-renamed : (f : Field) (desk z place : ℕ) → shownTo desk (aircraftAt (renamedField π f) z place) ≡ π (shownTo desk (aircraftAt f z place))
+  shown-at-renamed f desk z place = ap (shownTo desk) (at-renamed p f z place) ∙ shown-renamed desk (aircraftAt f z place)
+
+  acceptance-renamed : (f : Field) (at ahead : Place) (r : Request) (along : ℕ) → acceptance (renamedField π f) at ahead (renamedRequest π r) (π along) ≡ renamedAnswer π (acceptance f at ahead r along)
   unfolding acceptance
-  acceptance-renamed f at number along = rw (at-renamed p f (at .zone) (at .place), leader-renamed p f number) refl
+  acceptance-renamed f at ahead r along = rw (at-renamed p f (at .zone) (at .place), shown-at-renamed f (r .desk) (ahead .zone) (ahead .place)) refl
 
   module _ (f : Field) (r : Request) where
     abbrev F : Field
@@ -56,9 +64,9 @@ module _ {π : ℕ → ℕ} (p : Renaming π) where
         (input-renamed p r i)
 
     along-renamed : (z : ℕ) → alongFor (r .kind) F R z ≡ π (alongFor (r .kind) f r z)
-    unfolding numberAt3000
+    unfolding shownAt3000
     along-renamed z =
-        let there : (side : ℕ) → numberAt3000 F side ≡ π (numberAt3000 f side) = λ side. ap (λ (a : Aircraft). a .number) (at-renamed p f (at3000 side) 1) in
+        let there : (side : ℕ) → shownAt3000 F (r .desk) side ≡ π (shownAt3000 f (r .desk) side) = λ side. shown-at-renamed f (r .desk) (at3000 side) 1 in
         either-made π (eqb (r .kind) 1) (there (r .side)) (either-made π (eqb (r .kind) 11) (there (sideOf z)) (sym (p .zero)))
 
     -- .. where it is accepted its answer is renamed, ..
@@ -66,13 +74,17 @@ module _ {π : ℕ → ℕ} (p : Renaming π) where
     unfolding answerOf
     answer-renamed =
         let n = r .number in
+        let g = effectOf f r in
+        let G = renamedField π g in
         let along : alongFor (r .kind) F R (zoneBefore F R) ≡ π (alongFor (r .kind) f r (zoneBefore f r)) =
         ap (λ (q : Place). alongFor (r .kind) F R (q .zone)) (place-renamed p f n) ∙ along-renamed (zoneBefore f r) in
         either-made (renamedAnswer π) (eqb (r .kind) 12) (zeros-renamed 0)
-        (ap (λ (g : Field). acceptance g (placeOf g (π n)) (π n) (alongFor (r .kind) F R (zoneBefore F R))) (effect-renamed p f r)
-        ∙ ap (λ (q : Place). acceptance (renamedField π (effectOf f r)) q (π n) (alongFor (r .kind) F R (zoneBefore F R))) (place-renamed p (effectOf f r) n)
-        ∙ ap (acceptance (renamedField π (effectOf f r)) (placeOf (effectOf f r) n) (π n)) along
-        ∙ acceptance-renamed (effectOf f r) (placeOf (effectOf f r) n) n (alongFor (r .kind) f r (zoneBefore f r)))
+        (ap (λ (g : Field). acceptanceOn g R (alongFor (r .kind) F R (zoneBefore F R))) (effect-renamed p f r)
+        ∙ ap (λ (q : Place). acceptance G q (placeOf G (leaderOf (G .sequence) (π n))) R (alongFor (r .kind) F R (zoneBefore F R))) (place-renamed p g n)
+        ∙ ap (λ (m : ℕ). acceptance G (placeOf g n) (placeOf G m) R (alongFor (r .kind) F R (zoneBefore F R))) (leader-renamed p g n)
+        ∙ ap (λ (q : Place). acceptance G (placeOf g n) q R (alongFor (r .kind) F R (zoneBefore F R))) (place-renamed p g (leaderOf (g .sequence) n))
+        ∙ ap (acceptance G (placeOf g n) (placeOf g (leaderOf (g .sequence) n)) R) along
+        ∙ acceptance-renamed g (placeOf g n) (placeOf g (leaderOf (g .sequence) n)) r (alongFor (r .kind) f r (zoneBefore f r)))
 
     -- .. and so the step of any request on any field, accepted or refused: the same number, zone and fix, the other numbers renamed, and the field renamed.
     pub step-renamed : stepOf F R ≡ renamedStep π (stepOf f r)

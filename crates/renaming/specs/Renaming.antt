@@ -26,7 +26,7 @@ exchanged m n k = cond (eqb k m) n (cond (eqb k n) m k)
 
 -- an aircraft with its new number; all else stays
 abbrev pub renamedAircraft : (ℕ → ℕ) → Aircraft → Aircraft
-renamedAircraft π a = record { number = π (a .number); fix = a .fix; speed = a .speed; progress = a .progress; waited = a .waited; leg = a .leg }
+renamedAircraft π a = record { number = π (a .number); fix = a .fix; speed = a .speed; progress = a .progress; waited = a .waited; leg = a .leg; desk = a .desk }
 
 -- a zone, every place of it; past the length of a zone within the bounds that changes nothing, since 0 stands there
 abbrev pub renamedZone : (ℕ → ℕ) → Zone → Zone
@@ -45,7 +45,7 @@ renamedField π f =
 
 -- a request, refused or not (02, 2.10): the number of its aircraft; that of a tick is 0 and stays so
 abbrev pub renamedRequest : (ℕ → ℕ) → Request → Request
-renamedRequest π r = record { kind = r .kind; side = r .side; number = π (r .number); amount = r .amount }
+renamedRequest π r = record { kind = r .kind; side = r .side; number = π (r .number); amount = r .amount; desk = r .desk }
 
 -- an answer: the aircraft, its leader and the one in `along`, where 0 is none and stays so; 0 or the number of the refusal is no aircraft's, and stays
 abbrev pub renamedAnswer : (ℕ → ℕ) → Answer → Answer

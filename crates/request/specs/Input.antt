@@ -1,11 +1,11 @@
--- What the contracts of `src/` cite: a request's parts from its bytes, the rule of each kind, and document 01's refusals 1 to 4.
+-- What the contracts of `src/` cite: a request's parts from its bytes, the rule of each kind, and refusals 31 and 1 to 4.
 -- Definitions only.
 use Prim.Native.Nat.{ℕ, _+_, _*_}
 use mathlib.Core.List.{List, [], _∷_}
 use mathlib.Core.Bool.{Bool, cond, not, _&&_, _||_}
 use lib.Dec.{leb, eqb}
 use lib.ListN.{getD}
-use Rattle.limits.specs.Limits.{longestTick, fastest}
+use Rattle.limits.specs.Limits.{longestTick, fastest, desks}
 use Rattle.request.specs.declared.Request.{Request}
 use Rattle.request.specs.declared.Range.{Range}
 use Rattle.request.specs.declared.KindRule.{KindRule}
@@ -14,13 +14,14 @@ use Rattle.request.specs.declared.KindRule.{KindRule}
 abbrev pub word : ℕ → ℕ → ℕ
 word low high = low + 256 * high
 
--- "A request is a kind byte, a side byte, a number and an amount (16 bits each)"
+-- "A request is a kind byte, a side byte, a number and an amount (16 bits each)"; what a practice file holds is asked by desk 1 (02, 2.10)
 abbrev pub requestOf : List ℕ → Request
 requestOf bytes = record {
   kind = getD bytes 0 0;
   side = getD bytes 1 0;
   number = word (getD bytes 2 0) (getD bytes 3 0);
   amount = word (getD bytes 4 0) (getD bytes 5 0);
+  desk = 1;
 }
 
 -- n is from low to high
@@ -83,6 +84,10 @@ ruleOf kind =
       zones = startingZones kind;
     }
 
+-- 31: a desk that is 1 or 2 (02, 2.10)
+unfoldable pub deskAllowed : Request → Bool
+deskAllowed r = within 1 desks (r .desk)
+
 -- 1: a kind that is one of them
 unfoldable pub kindAllowed : Request → Bool
 kindAllowed r = ruleOf (r .kind) .known
@@ -99,6 +104,6 @@ numberAllowed r = cond (ruleOf (r .kind) .aircraft) (not (eqb (r .number) 0)) (e
 unfoldable pub amountAllowed : Request → Bool
 amountAllowed r = inRange (ruleOf (r .kind) .amounts) (r .amount)
 
--- "Turned away by the request": 0, or the first of 1 to 4 that applies
+-- "Turned away by the request": 0, or the first of 31, "first of all" (02, 2.10), and of 1 to 4 that applies
 unfoldable pub inputNumber : Request → ℕ
-inputNumber r = firstRefused ((1, kindAllowed r) ∷ (2, sideAllowed r) ∷ (3, numberAllowed r) ∷ (4, amountAllowed r) ∷ [])
+inputNumber r = firstRefused ((31, deskAllowed r) ∷ (1, kindAllowed r) ∷ (2, sideAllowed r) ∷ (3, numberAllowed r) ∷ (4, amountAllowed r) ∷ [])

@@ -1,16 +1,19 @@
-// A request, as six bytes and by its parts, the rule of each kind, and the rules that turn a request away by itself: refusals 1 to 4.
+// A request, as six bytes and by its parts, the rule of each kind, and the rules that turn a request away by itself: refusals 31 and 1 to 4.
+use limits::DESKS;
 use limits::FASTEST;
 use limits::LONGEST_TICK;
 ghost use mathlib.Core.Path.{_≡_};
 ghost use mathlib.Core.Bool.{true};
 ghost use Rattle.request.specs.Input.{word, requestOf, range, inRange, ruleOf, inputNumber};
 
-// Document 01's request: what is asked, the side, the aircraft's number, and a speed or the 64ths of a minute of a tick.
+// Document 01's request: what is asked, the side, the aircraft's number, and a speed or the 64ths of a minute of a tick; and document 02's
+// desk that asks.
 pub struct Request {
     pub kind: u8,
     pub side: u8,
     pub number: u16,
     pub amount: u16,
+    pub desk: u8,
 }
 
 // The numbers from the first to the second, both included; none where the second is the smaller.
@@ -32,7 +35,7 @@ pub fn word(low: u8, high: u8) -> u16
     low as u16 + 256 * (high as u16)
 }
 
-// The request that six bytes hold.
+// The request that six bytes hold, asked by desk 1.
 pub fn request_of(bytes: [u8; 6]) -> Request
     ensures { λ r. ⌜ r ≡ requestOf bytes ⌝ }
 {
@@ -41,6 +44,7 @@ pub fn request_of(bytes: [u8; 6]) -> Request
         side: bytes[1],
         number: word(bytes[2], bytes[3]),
         amount: word(bytes[4], bytes[5]),
+        desk: 1,
     }
 }
 
@@ -106,6 +110,9 @@ pub fn rule_of(kind: u8) -> KindRule
 pub fn input_number(r: Request) -> u16
     ensures { λ n. ⌜ n ≡ inputNumber r ⌝ }
 {
+    if !in_range(Range(1, DESKS), r.desk as usize) {
+        return 31;
+    }
     let rule = rule_of(r.kind);
     if !rule.known {
         return 1;

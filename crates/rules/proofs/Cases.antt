@@ -1,9 +1,9 @@
--- The marked cases of "Played by hand", the examples of docs/WHY-SAFE.md, the exits, the entries and the holds after a miss hold of the definitions, by one computation. Assumes nothing.
+-- The marked cases of "Played by hand", the examples of docs/WHY-SAFE.md, the exits, the entries, the holds after a miss and the two desks hold of the definitions, by one computation. Assumes nothing.
 use mathlib.Core.Path.{refl}
 use lib.Dec.{T}
 use lib.Ieee.{neg, add, sub, mul, div, ofInt, round, lt, le, eq}
 use Rattle.leg.specs.Progress.{advanced, pastEnd, waitedAfter, missedLeg}
-use Rattle.request.specs.Input.{kindAllowed, sideAllowed, numberAllowed, amountAllowed, inputNumber}
+use Rattle.request.specs.Input.{deskAllowed, kindAllowed, sideAllowed, numberAllowed, amountAllowed, inputNumber}
 use Rattle.field.specs.Boxes.{isSide, sideOf, opposite, isFlyingZone, zoneOf, queueOf, inZone, orderOf, legOf, progressInto, entering, onLeg, arrived, turnedAway, withFix, legFlownOut, emptyField}
 use Rattle.questions.specs.Counts.{howMany, howManyWithFix, presentOn, inOperation, inArea, perFix, approachHolds, countedFor, potentialOf}
 use Rattle.questions.specs.Find.{findIn, placeOf, aircraftAt, fixOf, isFirst, leaderOf, leaderZone}
@@ -12,25 +12,26 @@ use Rattle.bounds.specs.Bounds.{boundA, boundB, lateralRule, boundC, boundD, fi
 use Rattle.numbers.specs.Numbers.{numbersDiffer, sequenceExact}
 use Rattle.field.specs.Edits.{withoutHead, withTail, appended, removed, withZone, withSequence}
 use Rattle.tick.specs.Tick.{tickedAircraft, tickedZone, ticked}
-use Rattle.rules.specs.Kinds.{startsFrom, mayApproach, baseFree, mayMerge, headGone, tailPut, moved, outOfSequence, fixTaken, entered, madeRoom, enteredAbove, approached, landed, exited, fixAfterMiss, missedApproach, held, numberAt3000}
+use Rattle.rules.specs.Kinds.{startsFrom, mayApproach, baseFree, mayMerge, headGone, tailPut, moved, outOfSequence, fixTaken, entered, madeRoom, enteredAbove, approached, landed, exited, fixAfterMiss, missedApproach, held, belongsTo, shownTo, shownAt3000}
 use Rattle.rules.specs.Step.{checksOf, effectOf, numberOf, numberAndZeros, acceptance, answerOf, stepOf}
 use Rattle.rules.specs.Reason.{along, approachOrder, areaOrder, roomToMiss, lateralEntry, QueueAgrees}
 use Rattle.rules.specs.Cases.{marked, caseHolds}
-use Rattle.rules.specs.Examples.{examples, exits, entries, earlyMisses, onePlace, entryOfEight, JudgedAfterBoth, crowded, missOfSeven, BoundsNotEnough, stuck, NobodyMoves}
+use Rattle.rules.specs.Examples.{examples, exits, entries, earlyMisses, twoDesks, onePlace, entryOfEight, JudgedAfterBoth, crowded, missOfSeven, BoundsNotEnough, stuck, NobodyMoves}
 use Rattle.field.proofs.Tests.{each-operation}
 
 -- all together, so that what is computed is unfolded once
-computed : T (every caseHolds marked) × T (every caseHolds examples) × T (every caseHolds exits) × T (every caseHolds entries) × T (every caseHolds earlyMisses) × JudgedAfterBoth onePlace entryOfEight × BoundsNotEnough crowded missOfSeven × NobodyMoves stuck
+computed : T (every caseHolds marked) × T (every caseHolds examples) × T (every caseHolds exits) × T (every caseHolds entries) × T (every caseHolds earlyMisses) × T (every caseHolds twoDesks) × JudgedAfterBoth onePlace entryOfEight × BoundsNotEnough crowded missOfSeven × NobodyMoves stuck
 unfolding
-    advanced pastEnd waitedAfter missedLeg kindAllowed sideAllowed numberAllowed amountAllowed inputNumber isSide opposite isFlyingZone zoneOf queueOf inZone orderOf progressInto entering
+    advanced pastEnd waitedAfter missedLeg deskAllowed kindAllowed sideAllowed numberAllowed amountAllowed inputNumber isSide opposite isFlyingZone zoneOf queueOf inZone orderOf progressInto entering
     onLeg arrived turnedAway withFix legOf legFlownOut emptyField howMany howManyWithFix presentOn inOperation inArea perFix approachHolds countedFor potentialOf findIn placeOf
     aircraftAt fixOf isFirst leaderOf leaderZone boundA boundB lateralRule boundC boundD numbersDiffer sequenceExact finalFirst isNobody zoneKept sequenceKept
     boundE boundF legFits fitsZone legalLegs boundG withinBounds withoutHead withTail appended removed withZone withSequence tickedAircraft tickedZone ticked sideOf
     startsFrom mayApproach baseFree mayMerge headGone tailPut moved
-    outOfSequence fixTaken entered madeRoom enteredAbove approached landed exited fixAfterMiss missedApproach held numberAt3000 checksOf effectOf numberOf numberAndZeros acceptance
+    outOfSequence fixTaken entered madeRoom enteredAbove approached landed exited fixAfterMiss missedApproach held belongsTo shownTo shownAt3000 checksOf effectOf numberOf numberAndZeros acceptance
     answerOf stepOf
     neg add sub mul div ofInt round lt le eq along approachOrder areaOrder roomToMiss lateralEntry
 computed = (
+  tt,
   tt,
   tt,
   tt,
@@ -67,14 +68,18 @@ entries-hold = computed .3
 pub early-misses-hold : T (every caseHolds earlyMisses)
 early-misses-hold = computed .4
 
+-- two desks
+pub two-desks-hold : T (every caseHolds twoDesks)
+two-desks-hold = computed .5
+
 -- 25 is judged on the field after both moves of an entry
 pub judged-after-both : JudgedAfterBoth onePlace entryOfEight
-judged-after-both = computed .5
+judged-after-both = computed .6
 
 -- the bounds alone are not enough
 pub bounds-not-enough : BoundsNotEnough crowded missOfSeven
-bounds-not-enough = computed .6
+bounds-not-enough = computed .7
 
 -- they do not let somebody move
 pub nobody-moves : NobodyMoves stuck
-nobody-moves = computed .7
+nobody-moves = computed .8

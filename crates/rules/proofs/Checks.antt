@@ -1,30 +1,35 @@
 -- The checks of each kind: what is known where none of them refuses, and which numbers they can answer. Assumes nothing.
 use mathlib.Core.Path.{_≡_, refl, sym, ap, _∙_}
 use mathlib.Core.Logic.{_⊎_, inl, inr}
-use mathlib.Core.Bool.{Bool, true, false, cond, not, _&&_, true≢false}
+use mathlib.Core.Bool.{Bool, true, false, cond, not, _&&_, _||_, true≢false}
 use mathlib.Core.List.{List, [], _∷_, _++_}
 use Prim.Native.Nat.{ℕ, _≤_}
 use native.Mathlib.Nat.{ne-of-gt}
 use native.Mathlib.Omega.{arith}
 use lib.Dec.{T, leb, eqb, leb→le, le→leb}
 use lib.Ieee.Fits.{and-i, and-l, and-r}
-use borrow.Author.Tests.{ne-eqb, eqb-true}
-use Rattle.request.specs.Input.{within, isEntry, isTick, firstRefused, kindAllowed, sideAllowed, numberAllowed, amountAllowed, inputNumber}
+use borrow.Author.Tests.{ne-eqb, eq-eqb, eqb-true}
+use Rattle.request.specs.Input.{within, isEntry, isTick, firstRefused, deskAllowed, kindAllowed, sideAllowed, numberAllowed, amountAllowed, inputNumber}
 use Rattle.request.specs.declared.Request.{Request}
 use Rattle.request.proofs.Tests.{Numbered}
 use Rattle.field.specs.declared.Field.{Field}
 use Rattle.questions.specs.declared.Place.{Place}
 use Rattle.field.specs.Lists.{every}
-use Rattle.field.proofs.Tests.{if-false, either-way}
-use Rattle.rules.specs.Kinds.{placeBefore, zoneBefore, zoneAhead, startsFrom, absentChecks, headChecks, presenceChecks}
+use Rattle.field.proofs.Tests.{pass, passed, failed, decided, if-false, either-way}
+use Rattle.field.proofs.Parts.{or-else}
+use Rattle.rules.specs.Kinds.{placeBefore, zoneBefore, zoneAhead, startsFrom, belongsTo, absentChecks, headChecks, presenceChecks}
 use Rattle.rules.specs.Step.{byKind, needsFor, checksFor, effectFor, checksOf, effectOf}
+
+-- whether a request's aircraft is its desk's, where it is
+abbrev pub owned : Field → Request → Bool
+owned f r = belongsTo f (placeBefore f r) (r .desk)
 
 -- what a kind needs besides, of a request on a field
 abbrev pub besides : Field → Request → ℕ → List (ℕ × Bool)
 besides f r k = needsFor k f r (placeBefore f r) (zoneAhead f r)
 
 -- ---- the kind by its number
-pub checks-at : (f : Field) (r : Request) {k : ℕ} → r .kind ≡ k → checksOf f r ≡ presenceChecks k (placeBefore f r) ++ besides f r k
+pub checks-at : (f : Field) (r : Request) {k : ℕ} → r .kind ≡ k → checksOf f r ≡ presenceChecks k (placeBefore f r) (owned f r) ++ besides f r k
 unfolding checksOf
 checks-at f r h = ap (λ (k : ℕ). checksFor k f r (placeBefore f r) (zoneAhead f r)) h
 
@@ -32,9 +37,10 @@ pub effect-at : (f : Field) (r : Request) {k : ℕ} → r .kind ≡ k → effect
 unfolding effectOf
 effect-at f r h = ap (λ (k : ℕ). effectFor k f r (zoneBefore f r) (zoneAhead f r)) h
 
--- ---- 12 to 14, and what a kind needs besides
-pub record HeadPassed (kind : ℕ) (at : Place) (rest : List (ℕ × Bool)) : Type 0 where
+-- ---- 12, 26, 13 and 14, and what a kind needs besides
+pub record HeadPassed (kind : ℕ) (at : Place) (own : Bool) (rest : List (ℕ × Bool)) : Type 0 where
   pub known : not (eqb (at .zone) 0) ≡ true
+  pub owned-by : own ≡ true
   pub starts : startsFrom kind (at .zone) ≡ true
   pub first : eqb (at .place) 1 ≡ true
   pub others : firstRefused rest ≡ 0
@@ -44,27 +50,66 @@ pub first-passes : (n : ℕ) (t : Bool) (rest : List (ℕ × Bool)) → 1 ≤ n 
 first-passes n true rest h e = (refl, e)
 first-passes n false rest h e = absurd (omega arith)
 
-pub head-passed : (kind : ℕ) (at : Place) (rest : List (ℕ × Bool)) → firstRefused (headChecks kind at ++ rest) ≡ 0 → HeadPassed kind at rest
-head-passed kind at rest e =
+pub head-passed : (kind : ℕ) (at : Place) (own : Bool) (rest : List (ℕ × Bool)) → firstRefused (headChecks kind at own ++ rest) ≡ 0 → HeadPassed kind at own rest
+head-passed kind at own rest e =
     let t12 = not (eqb (at .zone) 0) in
     let t13 = startsFrom kind (at .zone) in
     let t14 = eqb (at .place) 1 in
-    let p12 = first-passes 12 t12 ((13, t13) ∷ (14, t14) ∷ rest) (omega arith) e in
-    let p13 = first-passes 13 t13 ((14, t14) ∷ rest) (omega arith) (p12 .1) in
+    let p12 = first-passes 12 t12 ((26, own) ∷ (13, t13) ∷ (14, t14) ∷ rest) (omega arith) e in
+    let p26 = first-passes 26 own ((13, t13) ∷ (14, t14) ∷ rest) (omega arith) (p12 .1) in
+    let p13 = first-passes 13 t13 ((14, t14) ∷ rest) (omega arith) (p26 .1) in
     let p14 = first-passes 14 t14 rest (omega arith) (p13 .1) in
-    record { known = p12 .0; starts = p13 .0; first = p14 .0; others = p14 .1 }
+    record { known = p12 .0; owned-by = p26 .0; starts = p13 .0; first = p14 .0; others = p14 .1 }
 
 -- ---- the numbers that can be answered
 
--- every number of the list is from low to high
-abbrev pub numberedIn : ℕ → ℕ → List (ℕ × Bool) → Bool
-numberedIn low high cs = every (λ (c : ℕ × Bool). leb low (c .0) && leb (c .0) high) cs
+-- the numbers of the input rules, and those of what a kind needs
+abbrev pub inputNumbers : ℕ → Bool
+inputNumbers n = within 1 4 n || eqb n 31
+
+abbrev pub needNumbers : ℕ → Bool
+needNumbers n = within 11 24 n || eqb n 26
+
+-- none of them is 0, 10 or 25
+pub record NeverOthers (n : ℕ) : Type 0 where
+  pub not-0 : 1 ≤ n
+  pub not-10 : n ≡ 10 → ⊥
+  pub not-25 : n ≡ 25 → ⊥
+
+-- a number from low to high, or one more
+between-or : (low high more n : ℕ) → T (within low high n || eqb n more) → (T (within low high n)) ⊎ (n ≡ more)
+between-or low high more n t =
+    elim (decided (within low high n)) [ inl e ↦ inl (pass e) | inr e ↦ inr (eqb-true n more (sym (or-else e refl) ∙ passed {b = within low high n || eqb n more} t)) ]
+
+pub input-never : (n : ℕ) → T (inputNumbers n) → NeverOthers n
+input-never n t =
+    elim (between-or 1 4 31 n t) [
+      | inl u ↦
+          let l = leb→le 1 n (and-l (leb 1 n) (leb n 4) u) in
+          let h = leb→le n 4 (and-r (leb 1 n) (leb n 4) u) in
+          record { not-0 = l; not-10 = λ q. omega arith; not-25 = λ q. omega arith }
+      | inr e ↦ record { not-0 = omega arith; not-10 = λ q. omega arith; not-25 = λ q. omega arith }
+    ]
+
+pub need-never : (n : ℕ) → T (needNumbers n) → NeverOthers n
+need-never n t =
+    elim (between-or 11 24 26 n t) [
+      | inl u ↦
+          let l = leb→le 11 n (and-l (leb 11 n) (leb n 24) u) in
+          let h = leb→le n 24 (and-r (leb 11 n) (leb n 24) u) in
+          record { not-0 = omega arith; not-10 = λ q. omega arith; not-25 = λ q. omega arith }
+      | inr e ↦ record { not-0 = omega arith; not-10 = λ q. omega arith; not-25 = λ q. omega arith }
+    ]
+
+-- every number of the list passes the test
+abbrev pub numberedBy : (ℕ → Bool) → List (ℕ × Bool) → Bool
+numberedBy p cs = every (λ (c : ℕ × Bool). p (c .0)) cs
 
 -- the number of the first check that fails is one of theirs, or 0
-pub refused-in : (low high : ℕ) (cs : List (ℕ × Bool)) → T (numberedIn low high cs) → (firstRefused cs ≡ 0) ⊎ T (leb low (firstRefused cs) && leb (firstRefused cs) high)
-refused-in low high [] t = inl refl
-refused-in low high ((n, true) ∷ cs) t = refused-in low high cs (and-r (leb low n && leb n high) (numberedIn low high cs) t)
-refused-in low high ((n, false) ∷ cs) t = inr (and-l (leb low n && leb n high) (numberedIn low high cs) t)
+pub refused-by : (p : ℕ → Bool) (cs : List (ℕ × Bool)) → T (numberedBy p cs) → (firstRefused cs ≡ 0) ⊎ T (p (firstRefused cs))
+refused-by p [] t = inl refl
+refused-by p ((n, true) ∷ cs) t = refused-by p cs (and-r (p n) (numberedBy p cs) t)
+refused-by p ((n, false) ∷ cs) t = inr (and-l (p n) (numberedBy p cs) t)
 
 -- of two lists, the second where no check of the first fails
 pub refused-append : (cs ds : List (ℕ × Bool)) → Numbered cs → firstRefused (cs ++ ds) ≡ cond (eqb (firstRefused cs) 0) (firstRefused ds) (firstRefused cs)
@@ -78,6 +123,22 @@ both-pass [] ds k e = (refl, e)
 both-pass ((n, true) ∷ cs) ds k e = both-pass cs ds (k .1) e
 both-pass ((n, false) ∷ cs) ds k e = absurd (ne-of-gt (leb→le 1 n (k .0)) e)
 
+-- ---- a number that a list of checks does not answer
+abbrev pub Never : ℕ → List (ℕ × Bool) → Type 0
+Never n cs = firstRefused cs ≡ n → ⊥
+
+-- one that has no such number
+pub never-without : (n : ℕ) → 1 ≤ n → (cs : List (ℕ × Bool)) → T (every (λ c. not (eqb (c .0) n)) cs) → Never n cs
+never-without n l [] t e = omega arith
+never-without n l ((m, true) ∷ cs) t e = never-without n l cs (and-r (not (eqb m n)) (every (λ c. not (eqb (c .0) n)) cs) t) e
+never-without n l ((m, false) ∷ cs) t e = true≢false (sym (eq-eqb m n e) ∙ failed (and-l (not (eqb m n)) (every (λ c. not (eqb (c .0) n)) cs) t))
+
+-- nor do two lists one after the other
+pub never-append : (n : ℕ) (cs ds : List (ℕ × Bool)) → Numbered cs → Never n cs → Never n ds → Never n (cs ++ ds)
+never-append n cs ds k p q e = either-way (λ (m : ℕ). m ≡ n → ⊥) (eqb (firstRefused cs) 0) (firstRefused ds) (firstRefused cs) (λ u. q) (λ u. p) (sym (refused-append cs ds k) ∙ e)
+
+-- ---- the tables by kind
+
 -- what holds of each entry of a table by kind, where that is the kind, holds of the kind's own
 pub by-kind {ℓ} : {A : Type ℓ} (P : A → Type 0) (kind : ℕ) {k1 k2 k3 k4 k5 k6 k7 k8 k9 k10 k11 k12 : A}
     → (kind ≡ 1 → P k1) × (kind ≡ 2 → P k2) × (kind ≡ 3 → P k3) × (kind ≡ 4 → P k4) × (kind ≡ 5 → P k5) × (kind ≡ 6 → P k6) × (kind ≡ 7 → P k7) × (kind ≡ 8 → P k8) × (kind ≡ 9 → P k9) × (kind ≡ 10 → P k10) × (kind ≡ 11 → P k11) × P k12 → P (byKind kind k1 k2 k3 k4 k5 k6 k7 k8 k9 k10 k11 k12)
@@ -87,41 +148,37 @@ by-kind {A = A} P kind (p1, p2, p3, p4, p5, p6, p7, p8, p9, p10, p11, p12) =
     pick : (n : ℕ) {x y : A} → (kind ≡ n → P x) → P y → P (cond (eqb kind n) x y)
     pick n {x} {y} p q = either-way P (eqb kind n) x y (λ e. p (eqb-true kind n e)) (λ e. q)
 
-numbered-append : (low high : ℕ) (cs ds : List (ℕ × Bool)) → T (numberedIn low high cs) → T (numberedIn low high ds) → T (numberedIn low high (cs ++ ds))
-numbered-append low high [] ds t u = u
-numbered-append low high ((n, b) ∷ cs) ds t u =
-    let here = leb low n && leb n high in
-    and-i here (numberedIn low high (cs ++ ds)) (and-l here (numberedIn low high cs) t) (numbered-append low high cs ds (and-r here (numberedIn low high cs) t) u)
+numbered-append : (p : ℕ → Bool) (cs ds : List (ℕ × Bool)) → T (numberedBy p cs) → T (numberedBy p ds) → T (numberedBy p (cs ++ ds))
+numbered-append p [] ds t u = u
+numbered-append p ((n, b) ∷ cs) ds t u = and-i (p n) (numberedBy p (cs ++ ds)) (and-l (p n) (numberedBy p cs) t) (numbered-append p cs ds (and-r (p n) (numberedBy p cs) t) u)
 
--- each kind's checks answer numbers from 11 to 24: those of where its aircraft is, ..
-presence-numbered : (kind : ℕ) (at : Place) → T (numberedIn 11 24 (presenceChecks kind at))
-presence-numbered kind at =
-    let P : List (ℕ × Bool) → Type 0 = λ cs. T (numberedIn 11 24 cs) in
-    either-way P (isEntry kind) (absentChecks at) (cond (isTick kind) [] (headChecks kind at)) (λ e. tt) (λ e. either-way P (isTick kind) [] (headChecks kind at) (λ e. tt) (λ e. tt))
+-- each kind's checks answer these numbers: those of where its aircraft is, ..
+presence-numbered : (kind : ℕ) (at : Place) (own : Bool) → T (numberedBy needNumbers (presenceChecks kind at own))
+presence-numbered kind at own =
+    let P : List (ℕ × Bool) → Type 0 = λ cs. T (numberedBy needNumbers cs) in
+    either-way P (isEntry kind) (absentChecks at) (cond (isTick kind) [] (headChecks kind at own)) (λ e. tt) (λ e. either-way P (isTick kind) [] (headChecks kind at own) (λ e. tt) (λ e. tt))
 
 -- .. and what it needs besides
-pub checks-numbered : (f : Field) (r : Request) → T (numberedIn 11 24 (checksOf f r))
+pub checks-numbered : (f : Field) (r : Request) → T (numberedBy needNumbers (checksOf f r))
 unfolding checksOf
 checks-numbered f r =
-    numbered-append 11 24 (presenceChecks (r .kind) (placeBefore f r)) (besides f r (r .kind)) (presence-numbered (r .kind) (placeBefore f r))
-    (by-kind (λ (cs : List (ℕ × Bool)). T (numberedIn 11 24 cs)) (r .kind) ((λ e. tt), (λ e. tt), (λ e. tt), (λ e. tt), (λ e. tt), (λ e. tt), (λ e. tt), (λ e. tt), (λ e. tt), (λ e. tt), (λ e. tt), tt))
+    numbered-append needNumbers (presenceChecks (r .kind) (placeBefore f r) (owned f r)) (besides f r (r .kind)) (presence-numbered (r .kind) (placeBefore f r) (owned f r))
+    (by-kind (λ (cs : List (ℕ × Bool)). T (numberedBy needNumbers cs)) (r .kind) ((λ e. tt), (λ e. tt), (λ e. tt), (λ e. tt), (λ e. tt), (λ e. tt), (λ e. tt), (λ e. tt), (λ e. tt), (λ e. tt), (λ e. tt), tt))
 
 -- so each of them refuses
-numbered-refuses : (cs : List (ℕ × Bool)) → T (numberedIn 11 24 cs) → Numbered cs
+numbered-refuses : (cs : List (ℕ × Bool)) → T (numberedBy needNumbers cs) → Numbered cs
 numbered-refuses [] t = tt
-numbered-refuses ((n, b) ∷ cs) t =
-    let l = leb→le 11 n (and-l (leb 11 n) (leb n 24) (and-l (leb 11 n && leb n 24) (numberedIn 11 24 cs) t)) in
-    (le→leb 1 n (omega arith), numbered-refuses cs (and-r (leb 11 n && leb n 24) (numberedIn 11 24 cs) t))
+numbered-refuses ((n, b) ∷ cs) t = (le→leb 1 n (need-never n (and-l (needNumbers n) (numberedBy needNumbers cs) t) .not-0), numbered-refuses cs (and-r (needNumbers n) (numberedBy needNumbers cs) t))
 
-pub presence-refuses : (kind : ℕ) (at : Place) → Numbered (presenceChecks kind at)
-presence-refuses kind at = numbered-refuses (presenceChecks kind at) (presence-numbered kind at)
+pub presence-refuses : (kind : ℕ) (at : Place) (own : Bool) → Numbered (presenceChecks kind at own)
+presence-refuses kind at own = numbered-refuses (presenceChecks kind at own) (presence-numbered kind at own)
 
 pub checks-refuse : (f : Field) (r : Request) → Numbered (checksOf f r)
 checks-refuse f r = numbered-refuses (checksOf f r) (checks-numbered f r)
 
-pub input-numbered : (r : Request) → (inputNumber r ≡ 0) ⊎ T (leb 1 (inputNumber r) && leb (inputNumber r) 4)
+pub input-numbered : (r : Request) → (inputNumber r ≡ 0) ⊎ T (inputNumbers (inputNumber r))
 unfolding inputNumber
-input-numbered r = refused-in 1 4 ((1, kindAllowed r) ∷ (2, sideAllowed r) ∷ (3, numberAllowed r) ∷ (4, amountAllowed r) ∷ []) tt
+input-numbered r = refused-by inputNumbers ((31, deskAllowed r) ∷ (1, kindAllowed r) ∷ (2, sideAllowed r) ∷ (3, numberAllowed r) ∷ (4, amountAllowed r) ∷ []) tt
 
 -- ---- the zone of the leader
 
@@ -138,7 +195,7 @@ module _ (k : ℕ) (f : Field) (r : Request) (ahead : ℕ) where
     where
       go : (b : Bool) → within 4 5 k ≡ b → checksFor k f r at (cond b ahead 0) ≡ checksFor k f r at ahead
       go true h = refl
-      go false h = ap (λ (l : List (ℕ × Bool)). presenceChecks k at ++ l) (neither k h _ _ _ _ _ _ _ _ _ _ _ _ _ _)
+      go false h = ap (λ (l : List (ℕ × Bool)). presenceChecks k at (belongsTo f at (r .desk)) ++ l) (neither k h _ _ _ _ _ _ _ _ _ _ _ _ _ _)
 
   pub effect-ahead : (z : ℕ) → effectFor k f r z (cond (within 4 5 k) ahead 0) ≡ effectFor k f r z ahead
   effect-ahead z = go (within 4 5 k) refl

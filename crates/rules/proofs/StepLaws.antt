@@ -13,12 +13,12 @@ use Rattle.bounds.specs.Bounds.{withinBounds}
 use Rattle.rules.specs.declared.Answer.{Answer}
 use Rattle.rules.specs.declared.Stepped.{Stepped}
 use Rattle.rules.specs.Kinds.{zoneBefore}
-use Rattle.rules.specs.Step.{checksOf, effectOf, numberOf, numberAndZeros, acceptance, alongFor, answerOf, stepOf}
+use Rattle.rules.specs.Step.{checksOf, effectOf, numberOf, numberAndZeros, acceptance, acceptanceOn, alongFor, answerOf, stepOf}
 
 -- the answer to an accepted request has the number 0
 pub answer-number : (f : Field) (r : Request) → answerOf f r .number ≡ 0
 unfolding answerOf numberAndZeros acceptance
-answer-number f r = either-way (λ (a : Answer). a .number ≡ 0) (eqb (r .kind) 12) (numberAndZeros 0) (acceptance (effectOf f r) (placeOf (effectOf f r) (r .number)) (r .number) (alongFor (r .kind) f r (zoneBefore f r))) (λ e. refl) (λ e. refl)
+answer-number f r = either-way (λ (a : Answer). a .number ≡ 0) (eqb (r .kind) 12) (numberAndZeros 0) (acceptanceOn (effectOf f r) r (alongFor (r .kind) f r (zoneBefore f r))) (λ e. refl) (λ e. refl)
 
 pub number-is : (f : Field) (r : Request) → stepOf f r .answer .number ≡ numberOf f r
 unfolding stepOf numberAndZeros
@@ -43,7 +43,7 @@ field-refused f r e = ap (λ (s : Stepped). s .field) (if-false (record { answer
 pub zone-answered : (f : Field) (r : Request) → numberOf f r ≡ 0 → (r .kind ≡ 12 → ⊥) → stepOf f r .answer .zone ≡ placeOf (effectOf f r) (r .number) .zone
 unfolding answerOf acceptance
 zone-answered f r e k =
-    ap (λ (a : Answer). a .zone) (answer-accepted f r e ∙ if-false (numberAndZeros 0) (acceptance (effectOf f r) (placeOf (effectOf f r) (r .number)) (r .number) (alongFor (r .kind) f r (zoneBefore f r))) (ne-eqb (r .kind) 12 k))
+    ap (λ (a : Answer). a .zone) (answer-accepted f r e ∙ if-false (numberAndZeros 0) (acceptanceOn (effectOf f r) r (alongFor (r .kind) f r (zoneBefore f r))) (ne-eqb (r .kind) 12 k))
 
 -- an accepted request passes the input rules
 pub input-of : (f : Field) (r : Request) → numberOf f r ≡ 0 → inputNumber r ≡ 0

@@ -37,7 +37,7 @@ unfolding tickedAircraft
 waits-on amount a t = by (a .progress) t
   where
     with-progress : Progress → Float → Aircraft
-    with-progress q waited = record { number = a .number; fix = a .fix; speed = a .speed; progress = q; waited = waited; leg = a .leg }
+    with-progress q waited = record { number = a .number; fix = a .fix; speed = a .speed; progress = q; waited = waited; leg = a .leg; desk = a .desk }
 
     by : (p : Progress) → T (isWaiting p) → with-progress (progressAfter p (a .speed) amount (a .leg)) (waitedWith p (a .waited) (a .speed) amount (a .leg)) ≡ with-progress p (a .waited)
     by Waiting t = refl
@@ -90,7 +90,7 @@ module _ (f : Field) (amount : ℕ) where
         let high = leb→le z 12 (and-r (leb 7 z) (leb z 12) b) in
         let kept = every-from (λ y. zoneKept (zoneOf f y)) 1 13 (within-e f w .zones-kept) z (omega arith) (omega arith) in
         let there = past-place isNobody (q .aircraft) (q .length) place nobody-there (and-r (leb (q .length) 4) (every isNobody (drop (q .length) (q .aircraft))) kept) h in
-        and-r (eqb (a .number) 0 && eqb (a .fix) 0 && eqb (a .speed) 0 && eq (a .waited) (whole 0) && eq (a .leg) (whole 0)) (isWaiting (a .progress)) there
+        and-r (eqb (a .number) 0 && eqb (a .fix) 0 && eqb (a .speed) 0 && eqb (a .desk) 0 && eq (a .waited) (whole 0) && eq (a .leg) (whole 0)) (isWaiting (a .progress)) there
 
     others-kept : (z place : ℕ) → isFlying f z place ≡ false → atPlace (ticked f amount) z place ≡ atPlace f z place
     others-kept z place e = place-ticked z place ∙ by (isFlyingZone z) refl

@@ -14,9 +14,9 @@ use Rattle.rules.specs.declared.Answer.{Answer}
 use Rattle.rules.specs.Step.{numberAndZeros}
 use Rattle.rules.specs.Play.{fieldAfter, played}
 
--- a request by its four parts
+-- a request of desk 1 by its four parts
 abbrev pub ask : ℕ → ℕ → ℕ → ℕ → Request
-ask kind side number amount = record { kind = kind; side = side; number = number; amount = amount }
+ask kind side number amount = record { kind = kind; side = side; number = number; amount = amount; desk = 1 }
 
 -- an answer by its parts after the number 0
 abbrev pub says : ℕ → ℕ → ℕ → ℕ → ℕ → Answer

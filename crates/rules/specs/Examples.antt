@@ -1,7 +1,8 @@
 -- The examples of docs/WHY-SAFE.md: requests from the empty field, and two fields within the bounds that no list of requests reaches. And
--- exits, which wait for the leg since (02, 2.3), entries beside an occupied 3000 (02, 2.5), and holds after a miss on the way (02, 2.7).
+-- exits, which wait for the leg since (02, 2.3), entries beside an occupied 3000 (02, 2.5), holds after a miss on the way (02, 2.7), and two
+-- desks (02, 2.10).
 use mathlib.Core.Path.{_≡_}
-use mathlib.Core.Bool.{false, not, _&&_}
+use mathlib.Core.Bool.{Bool, false, not, _&&_}
 use mathlib.Core.List.{List, [], _∷_}
 use Prim.Native.Nat.{ℕ}
 use lib.Dec.{T, eqb}
@@ -120,6 +121,48 @@ earlyMisses =
     ∷ record { leg = 64; requests = missAfter 64 (ask 12 0 0 64 ∷ ask 11 0 7 0 ∷ []); answer = says 7 3 1 0 0; after = stands 7 3 }
     ∷ []
 
+-- ---- two desks
+
+-- a request as another desk asks it
+abbrev pub fromDesk : ℕ → Request → Request
+fromDesk desk r = record { kind = r .kind; side = r .side; number = r .number; amount = r .amount; desk = desk }
+
+-- who belongs to which desk: the head of a zone
+abbrev pub headIsOf : ℕ → ℕ → Field → Bool
+headIsOf desk zone f = eqb (aircraftAt f zone 1 .desk) desk
+
+abbrev pub twoDesks : List Case
+twoDesks =
+    -- 31 before anything else, of no desk and of a third one
+    record { leg = 64; requests = fromDesk 0 (ask 13 0 7 0) ∷ []; answer = numberAndZeros 31; after = anyField }
+    ∷ record { leg = 64; requests = fromDesk 3 (ask 12 0 0 64) ∷ []; answer = numberAndZeros 31; after = anyField }
+    -- 12 before 26 and 26 before 13, of aircraft 7 that desk 1 let in
+    ∷ record { leg = 64; requests = ask 1 1 7 64 ∷ fromDesk 2 (ask 4 0 8 0) ∷ []; answer = numberAndZeros 12; after = anyField }
+    ∷ record { leg = 64; requests = ask 1 1 7 64 ∷ fromDesk 2 (ask 4 0 7 0) ∷ []; answer = numberAndZeros 26; after = stands 7 1 }
+    ∷ record { leg = 64; requests = ask 1 1 7 64 ∷ ask 4 0 7 0 ∷ []; answer = numberAndZeros 13; after = anyField }
+    -- an entry that names it: 11
+    ∷ record { leg = 64; requests = ask 1 1 7 64 ∷ fromDesk 2 (ask 1 2 7 64) ∷ []; answer = numberAndZeros 11; after = anyField }
+    -- the leader is not shown to the other desk, and is to its own
+    ∷ record { leg = 64; requests = ask 1 1 7 64 ∷ fromDesk 2 (ask 1 2 8 64) ∷ []; answer = says 8 2 2 0 0; after = headIsOf 2 2 }
+    ∷ record { leg = 64; requests = ask 1 1 7 64 ∷ fromDesk 2 (ask 1 2 8 64) ∷ fromDesk 2 (ask 1 1 9 64) ∷ []; answer = says 9 1 1 8 0; after = stands 7 3 }
+    -- an entry (02, 2.5) moves the other desk's aircraft down, which is not shown and stays that desk's; a tick is either desk's
+    ∷ record {
+      leg = 64;
+      requests = ask 1 1 7 64 ∷ fromDesk 2 (ask 1 1 8 64) ∷ fromDesk 2 (ask 12 0 0 64) ∷ [];
+      answer = numberAndZeros 0;
+      after = λ f. stands 7 3 f && headIsOf 1 3 f && headIsOf 2 1 f;
+    }
+    ∷ record { leg = 64; requests = ask 1 1 7 64 ∷ fromDesk 2 (ask 1 1 8 64) ∷ []; answer = says 8 1 2 0 0; after = anyField }
+    -- and so does a hold: 7 misses, and 8, which desk 2 let in at 3000, goes down
+    ∷ record {
+      leg = 64;
+      requests =
+          ask 1 1 7 64 ∷ ask 3 0 7 0 ∷ fromDesk 2 (ask 1 1 8 64) ∷ ask 4 0 7 0 ∷ toFinal 7 (ask 10 0 7 0 ∷ ask 12 0 0 64 ∷ ask 12 0 0 64 ∷ ask 11 0 7 0 ∷ []);
+      answer = says 7 1 1 0 0;
+      after = λ f. stands 8 3 f && headIsOf 2 3 f && headIsOf 1 1 f;
+    }
+    ∷ []
+
 -- ---- 25 is judged on the field after both moves
 
 -- a queue of one
@@ -130,7 +173,7 @@ onlyOne a = record { aircraft = a ∷ nobody ∷ nobody ∷ nobody ∷ []; lengt
 abbrev pub onePlace : Field
 onePlace =
     record {
-      zones = onlyOne (entering 7 right 64) ∷ replicate 12 emptyZone;
+      zones = onlyOne (entering 7 right 64 1) ∷ replicate 12 emptyZone;
       sequence = record { numbers = 7 ∷ []; length = 1 };
       next = left;
       legs = allLegs 64;
@@ -153,18 +196,18 @@ abbrev pub crowded : Field
 crowded =
     record {
       zones =
-          onlyOne (entering 9 right 64)
+          onlyOne (entering 9 right 64 1)
           ∷ emptyZone
-          ∷ onlyOne (entering 8 left 64)
-          ∷ emptyZone
-          ∷ emptyZone
+          ∷ onlyOne (entering 8 left 64 1)
           ∷ emptyZone
           ∷ emptyZone
           ∷ emptyZone
           ∷ emptyZone
           ∷ emptyZone
           ∷ emptyZone
-          ∷ onlyOne (arrived (allLegs 64) finalApproach (entering 7 right 64))
+          ∷ emptyZone
+          ∷ emptyZone
+          ∷ onlyOne (arrived (allLegs 64) finalApproach (entering 7 right 64 1))
           ∷ emptyZone
           ∷ [];
       sequence = record { numbers = 7 ∷ 8 ∷ 9 ∷ 0 ∷ []; length = 3 };
@@ -190,15 +233,19 @@ pub record BoundsNotEnough (f : Field) (r : Request) : Type 0 where
 abbrev pub stuck : Field
 stuck =
     record {
-      zones = onlyOne (entering 7 right 64) ∷ emptyZone ∷ onlyOne (entering 8 left 64) ∷ replicate 10 emptyZone;
+      zones = onlyOne (entering 7 right 64 1) ∷ emptyZone ∷ onlyOne (entering 8 left 64 1) ∷ replicate 10 emptyZone;
       sequence = record { numbers = 7 ∷ 8 ∷ 0 ∷ 0 ∷ []; length = 2 };
       next = right;
       legs = allLegs 64;
     }
 
+-- a request of the kind for the head of a zone, of its own desk (02, 2.10)
+abbrev pub headAsks : Field → ℕ → ℕ → Request
+headAsks f kind z = fromDesk (aircraftAt f z 1 .desk) (ask kind 0 (aircraftAt f z 1 .number) 0)
+
 -- a field within the bounds with two aircraft, on which no request of kinds 3 to 11 for the head of a zone is accepted, and a tick moves nobody
 pub record NobodyMoves (f : Field) : Type 0 where
   pub within-bounds : T (withinBounds f)
   pub two-present : presentOn f ≡ 2
-  pub none-accepted : T (every (λ kind. every (λ z. not (eqb (stepOf f (ask kind 0 (aircraftAt f z 1 .number) 0) .answer .number) 0)) everywhere) (zonesFrom 3 9))
+  pub none-accepted : T (every (λ kind. every (λ z. not (eqb (stepOf f (headAsks f kind z) .answer .number) 0)) everywhere) (zonesFrom 3 9))
   pub tick-leaves : stepOf f (ask 12 0 0 64) .field ≡ f

@@ -32,19 +32,28 @@ zoneAhead f r = leaderZone f (r .number)
 unfoldable pub startsFrom : ℕ → ℕ → Bool
 startsFrom kind z = inRange (ruleOf kind .zones) z
 
+-- whether the aircraft at a place belongs to the desk, which let it in (02, 2.10)
+unfoldable pub belongsTo : Field → Place → ℕ → Bool
+belongsTo f at desk = eqb (aircraftAt f (at .zone) (at .place) .desk) desk
+
+-- the number of an aircraft as a desk is shown it: 0 where it is another desk's (02, 2.10)
+unfoldable pub shownTo : ℕ → Aircraft → ℕ
+shownTo desk a = cond (eqb (a .desk) desk) (a .number) 0
+
 -- ---- needs, each a refusal number beside a test, of a request whose aircraft is at the place
 
 -- "11 entry number already present, runway included"
 abbrev pub absentChecks : Place → List (ℕ × Bool)
 absentChecks at = (11, eqb (at .zone) 0) ∷ []
 
--- "12 number not on the field. 13 not in a zone the kind starts from. 14 not at its head."
-abbrev pub headChecks : ℕ → Place → List (ℕ × Bool)
-headChecks kind at = (12, not (eqb (at .zone) 0)) ∷ (13, startsFrom kind (at .zone)) ∷ (14, eqb (at .place) 1) ∷ []
+-- "12 number not on the field. 13 not in a zone the kind starts from. 14 not at its head."; and after 12, 26: another desk's aircraft (02, 2.10)
+abbrev pub headChecks : ℕ → Place → Bool → List (ℕ × Bool)
+headChecks kind at own = (12, not (eqb (at .zone) 0)) ∷ (26, own) ∷ (13, startsFrom kind (at .zone)) ∷ (14, eqb (at .place) 1) ∷ []
 
--- "Every kind but 1, 2 and 12 needs the aircraft at the head of its zone", and an entry that nobody has its number
-abbrev pub presenceChecks : ℕ → Place → List (ℕ × Bool)
-presenceChecks kind at = cond (isEntry kind) (absentChecks at) (cond (isTick kind) [] (headChecks kind at))
+-- "Every kind but 1, 2 and 12 needs the aircraft at the head of its zone", its own desk's (02, 2.10), and an entry that nobody has its number,
+-- neither desk's
+abbrev pub presenceChecks : ℕ → Place → Bool → List (ℕ × Bool)
+presenceChecks kind at own = cond (isEntry kind) (absentChecks at) (cond (isTick kind) [] (headChecks kind at own))
 
 -- "15 leg not flown out", of the head of zone z, by its own leg (02, 2.7)
 abbrev pub flownOutCheck : Field → ℕ → ℕ × Bool
@@ -128,11 +137,11 @@ outOfSequence f number = withSequence f (removed (f .sequence) number) (f .next)
 unfoldable pub fixTaken : Field → ℕ → ℕ
 fixTaken f side = cond (eqb (length (orderOf (f .sequence))) 0) side (f .next)
 
--- kinds 1 and 2, into zone z: "Either way the next fix then becomes the opposite of the fix taken."
+-- kinds 1 and 2, into zone z: "Either way the next fix then becomes the opposite of the fix taken."; the aircraft belongs to the desk that asks (02, 2.10)
 unfoldable pub entered : Field → Request → ℕ → Field
 entered f r z =
     let fix = fixTaken f (r .side) in
-    let g = tailPut f z (entering (r .number) fix (r .amount)) in
+    let g = tailPut f z (entering (r .number) fix (r .amount) (r .desk)) in
     withSequence g (appended (f .sequence) (r .number)) (opposite fix)
 
 -- kind 1 (02, 2.5): where 3000 of the side is occupied, the one there descends, ..
@@ -180,6 +189,7 @@ held f z =
     (cond (isEmpty f (at2000 side)) (moved f z (at2000 side)) (moved f z (at3000 side)))
     (moved (descended f (at3000 side)) z (at3000 side))
 
--- "in `along` the other aircraft that a hold moved (0 if none)", or that an entry moved (02, 2.5): the one at 3000 of the side, by its number
-unfoldable pub numberAt3000 : Field → ℕ → ℕ
-numberAt3000 f side = aircraftAt f (at3000 side) 1 .number
+-- "in `along` the other aircraft that a hold moved (0 if none)", or that an entry moved (02, 2.5): the one at 3000 of the side, as the desk is shown
+-- its number (02, 2.10)
+unfoldable pub shownAt3000 : Field → ℕ → ℕ → ℕ
+shownAt3000 f desk side = shownTo desk (aircraftAt f (at3000 side) 1)

@@ -19,6 +19,11 @@ abbrev pub played : Field → List Request → List (Request × Answer)
 played f [] = []
 played f (r ∷ rs) = (r, stepOf f r .answer) ∷ played (stepOf f r .field) rs
 
+-- the requests of one desk with their answers (02, 2.10)
+abbrev pub ofDesk : ℕ → List (Request × Answer) → List (Request × Answer)
+ofDesk desk [] = []
+ofDesk desk (p ∷ ps) = cond (eqb (p .0 .desk) desk) (p ∷ ofDesk desk ps) (ofDesk desk ps)
+
 -- whether an answer accepts its request, one of the kinds
 abbrev pub isAccepted : (ℕ → Bool) → Request × Answer → Bool
 isAccepted kinds p = eqb (p .1 .number) 0 && kinds (p .0 .kind)

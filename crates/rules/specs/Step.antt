@@ -14,7 +14,7 @@ use Rattle.bounds.specs.Bounds.{withinBounds}
 use Rattle.tick.specs.Tick.{ticked}
 use Rattle.rules.specs.declared.Answer.{Answer}
 use Rattle.rules.specs.declared.Stepped.{Stepped}
-use Rattle.rules.specs.Kinds.{placeBefore, zoneBefore, zoneAhead, presenceChecks, verticalNeeds, lateralNeeds, descendNeeds, approachNeeds, mergeNeeds, flownOutNeeds, landNeeds, exitNeeds, moved, descended, headGone, entered, enteredAbove, approached, landed, exited, missedApproach, held, numberAt3000}
+use Rattle.rules.specs.Kinds.{placeBefore, zoneBefore, zoneAhead, presenceChecks, verticalNeeds, lateralNeeds, descendNeeds, approachNeeds, mergeNeeds, flownOutNeeds, landNeeds, exitNeeds, moved, descended, headGone, entered, enteredAbove, approached, landed, exited, missedApproach, held, belongsTo, shownTo, shownAt3000}
 
 -- the entry of the twelve, for kinds 1 to 12, that belongs to the kind; the last for any other number
 abbrev pub byKind {ℓ} : {A : Type ℓ} → ℕ → A → A → A → A → A → A → A → A → A → A → A → A → A
@@ -41,7 +41,7 @@ needsFor kind f r at ahead =
 
 -- all that a kind needs of the field, in order
 abbrev pub checksFor : ℕ → Field → Request → Place → ℕ → List (ℕ × Bool)
-checksFor kind f r at ahead = presenceChecks kind at ++ needsFor kind f r at ahead
+checksFor kind f r at ahead = presenceChecks kind at (belongsTo f at (r .desk)) ++ needsFor kind f r at ahead
 
 -- what each kind does to the field, of a request whose aircraft is in zone z and its leader in zone `ahead`
 abbrev pub effectFor : ℕ → Field → Request → ℕ → ℕ → Field
@@ -67,7 +67,7 @@ checksOf f r = checksFor (r .kind) f r (placeBefore f r) (zoneAhead f r)
 unfoldable pub effectOf : Field → Request → Field
 effectOf f r = effectFor (r .kind) f r (zoneBefore f r) (zoneAhead f r)
 
--- the number of a request on a field: 0 where it is accepted, else the first of "Turned away by the request" and then of "Turned away
+-- the number of a request on a field: 0 where it is accepted, else the first of 31 and "Turned away by the request" and then of "Turned away
 -- by the field", in order: "10 the field handed in breaks a bound", what the kind needs, "25 the field after the step would break a bound"
 unfoldable pub numberOf : Field → Request → ℕ
 numberOf f r =
@@ -80,27 +80,33 @@ unfoldable pub numberAndZeros : ℕ → Answer
 numberAndZeros number = record { number = number; aircraft = 0; zone = 0; fix = 0; leader = 0; along = 0 }
 
 -- "An accepted answer has number 0, then the aircraft, its zone, fix and leader after the step (0 if none), and in `along` the other
--- aircraft that a hold moved (0 if none)", or an entry (02, 2.5): of an aircraft that is at the place, on the field after the step
-unfoldable pub acceptance : Field → Place → ℕ → ℕ → Answer
-acceptance f at number along =
+-- aircraft that a hold moved (0 if none)", or an entry (02, 2.5): of an aircraft that is at the place, and its leader at the place `ahead`, on the
+-- field after the step; a leader that is another desk's is not shown (02, 2.10)
+unfoldable pub acceptance : Field → Place → Place → Request → ℕ → Answer
+acceptance f at ahead r along =
     record {
       number = 0;
-      aircraft = number;
+      aircraft = r .number;
       zone = at .zone;
       fix = aircraftAt f (at .zone) (at .place) .fix;
-      leader = leaderOf (f .sequence) number;
+      leader = shownTo (r .desk) (aircraftAt f (ahead .zone) (ahead .place));
       along = along;
     }
 
--- the other aircraft that a request moves, of a request whose aircraft was in zone z: by an entry (02, 2.5) or a hold; 0 for every other kind
+-- the other aircraft that a request moves, as its desk is shown it, of a request whose aircraft was in zone z: by an entry (02, 2.5) or a hold; 0
+-- for every other kind
 abbrev pub alongFor : ℕ → Field → Request → ℕ → ℕ
-alongFor kind f r z = cond (eqb kind 1) (numberAt3000 f (r .side)) (cond (eqb kind 11) (numberAt3000 f (sideOf z)) 0)
+alongFor kind f r z = cond (eqb kind 1) (shownAt3000 f (r .desk) (r .side)) (cond (eqb kind 11) (shownAt3000 f (r .desk) (sideOf z)) 0)
+
+-- the same of a request's aircraft and its leader where they are on the field after the step
+abbrev pub acceptanceOn : Field → Request → ℕ → Answer
+acceptanceOn g r along = acceptance g (placeOf g (r .number)) (placeOf g (leaderOf (g .sequence) (r .number))) r along
 
 -- the answer to an accepted request: "A tick answers zeros."
 unfoldable pub answerOf : Field → Request → Answer
 answerOf f r =
     cond (eqb (r .kind) 12) (numberAndZeros 0)
-    (acceptance (effectOf f r) (placeOf (effectOf f r) (r .number)) (r .number) (alongFor (r .kind) f r (zoneBefore f r)))
+    (acceptanceOn (effectOf f r) r (alongFor (r .kind) f r (zoneBefore f r)))
 
 -- the step: "A refusal answers its number and zeros; the field is the one handed in."
 unfoldable pub stepOf : Field → Request → Stepped

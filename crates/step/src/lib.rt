@@ -1,7 +1,8 @@
 // The step of any request on any field (rules' specs/Step.antt).
 use bounds::within_bounds;
 use effects::effect;
-use effects::number_at_3000;
+use effects::shown_at_3000;
+use effects::shown_to;
 use field::Field;
 use field::boxes::side_of;
 use needs::check_number;
@@ -18,10 +19,9 @@ ghost use mathlib.Core.Path.{_≡_};
 ghost use mathlib.Core.Bool.{cond};
 ghost use lib.Dec.{T, eqb};
 ghost use Rattle.request.specs.Input.{within, firstRefused, inputNumber};
-ghost use Rattle.questions.specs.Find.{placeOf};
 ghost use Rattle.bounds.specs.Bounds.{withinBounds};
 ghost use Rattle.rules.specs.Kinds.{zoneAhead};
-ghost use Rattle.rules.specs.Step.{checksOf, effectOf, numberOf, numberAndZeros, acceptance, alongFor, answerOf, stepOf};
+ghost use Rattle.rules.specs.Step.{checksOf, effectOf, numberOf, numberAndZeros, acceptance, acceptanceOn, alongFor, answerOf, stepOf};
 
 // The answer that has a number, and zeros.
 pub fn number_and_zeros(number: u16) -> Answer
@@ -37,43 +37,51 @@ pub fn number_and_zeros(number: u16) -> Answer
     }
 }
 
-// The answer that accepts a request for an aircraft at a place, from the field after the step.
-pub fn acceptance(f: Field, at: Place, number: u16, along: u16) -> Answer
-    ensures { λ a. ⌜ a ≡ acceptance f at number along ⌝ }
+// The answer that accepts a request for an aircraft at a place, its leader at the place `ahead`, from the field after the step.
+pub fn acceptance(f: Field, at: Place, ahead: Place, r: Request, along: u16) -> Answer
+    ensures { λ a. ⌜ a ≡ acceptance f at ahead r along ⌝ }
 {
     let a = aircraft_at(f, at.zone as usize, at.place);
-    let s = f.sequence;
+    let b = aircraft_at(f, ahead.zone as usize, ahead.place);
     Answer {
         number: 0,
-        aircraft: number,
+        aircraft: r.number,
         zone: at.zone as usize,
         fix: a.fix,
-        leader: leader_of(s, number),
+        leader: shown_to(r.desk, b),
         along: along,
     }
 }
 
-// The other aircraft that a request moves, whose own was in a zone, from the field before the step; 0 where there is none.
+// The other aircraft that a request moves, whose own was in a zone, as its desk is shown it, from the field before the step; 0 where there is
+// none.
 pub fn along_of(f: Field, r: Request, zone: u8) -> u16
     ensures { λ n. ⌜ n ≡ alongFor (r .kind) f r zone ⌝ }
 {
     let kind = r.kind;
     match kind {
-        1 => number_at_3000(f, r.side),
-        11 => number_at_3000(f, side_of(zone as usize)),
+        1 => shown_at_3000(f, r.desk, r.side),
+        11 => shown_at_3000(f, r.desk, side_of(zone as usize)),
         _ => 0,
     }
 }
 
 // The answer to an accepted request, from the field after the step.
 fn answer(g: Field, r: Request, along: u16) -> Answer
-    ensures { λ a. ⌜ a ≡ cond (eqb (r .kind) 12) (numberAndZeros 0) (acceptance g (placeOf g (r .number)) (r .number) along) ⌝ }
+    ensures { λ a. ⌜ a ≡ cond (eqb (r .kind) 12) (numberAndZeros 0) (acceptanceOn g r along) ⌝ }
 {
     if r.kind == 12 {
         return number_and_zeros(0);
     }
     let number = r.number;
-    acceptance(g, place_of(g, number), number, along)
+    let s = g.sequence;
+    acceptance(
+        g,
+        place_of(g, number),
+        place_of(g, leader_of(s, number)),
+        r,
+        along,
+    )
 }
 
 // The zone of the leader of a request's aircraft, where its kind asks for it; else 0.

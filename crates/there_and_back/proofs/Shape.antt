@@ -72,7 +72,7 @@ appended-cut (x ∷ y ∷ z ∷ w ∷ v ∷ rest) n h = absurd (omega arith)
 
 -- one of the list as it waits
 abbrev pub waiting : ℕ → Entry → Aircraft
-waiting speed e = entering (e .number) (fixIn (e .fix)) speed
+waiting speed e = entering (e .number) (fixIn (e .fix)) speed 1
 
 -- those of the list with this location
 abbrev pub atZone : ℕ → List Entry → List Entry

@@ -68,20 +68,22 @@ plain a t =
     let s = eqb (a .speed) 0 in
     let w = eq (a .waited) (whole 0) in
     let l = eq (a .leg) (whole 0) in
-    let five = and-l (n && f && s && w && l) (isWaiting (a .progress)) t in
-    let four = and-l (n && f && s && w) l five in
-    let three = and-l (n && f && s) w four in
+    let d = eqb (a .desk) 0 in
+    let six = and-l (n && f && s && d && w && l) (isWaiting (a .progress)) t in
+    let five = and-l (n && f && s && d && w) l six in
+    let four = and-l (n && f && s && d) w five in
+    let three = and-l (n && f && s) d four in
     let two = and-l (n && f) s three in
-    made (eqb→eq (a .number) 0 (and-l n f two)) (eqb→eq (a .fix) 0 (and-r n f two)) (eqb→eq (a .speed) 0 (and-r (n && f) s three))
-    (waits (a .progress) (and-r (n && f && s && w && l) (isWaiting (a .progress)) t))
+    made (eqb→eq (a .number) 0 (and-l n f two)) (eqb→eq (a .fix) 0 (and-r n f two)) (eqb→eq (a .speed) 0 (and-r (n && f) s three)) (eqb→eq (a .desk) 0 (and-r (n && f && s) d four))
+    (waits (a .progress) (and-r (n && f && s && d && w && l) (isWaiting (a .progress)) t))
   where
     waits : (p : Progress) → T (isWaiting p) → p ≡ Waiting
     waits Waiting u = refl
     waits (Flying m) u = absurd u
 
-    made : {n f s : ℕ} {p : Progress} → n ≡ 0 → f ≡ 0 → s ≡ 0 → p ≡ Waiting
-        → _≡_ {A = Aircraft} (record { number = n; fix = f; speed = s; progress = p; waited = whole 0; leg = whole 0 }) nobody
-    made a b c d i = record { number = a i; fix = b i; speed = c i; progress = d i; waited = whole 0; leg = whole 0 }
+    made : {n f s d : ℕ} {p : Progress} → n ≡ 0 → f ≡ 0 → s ≡ 0 → d ≡ 0 → p ≡ Waiting
+        → _≡_ {A = Aircraft} (record { number = n; fix = f; speed = s; progress = p; waited = whole 0; leg = whole 0; desk = d }) nobody
+    made a b c d e i = record { number = a i; fix = b i; speed = c i; progress = e i; waited = whole 0; leg = whole 0; desk = d i }
 
 all-plain : (xs : List Aircraft) → T (every isNobody xs) → map plainZeros xs ≡ replicate (length xs) nobody
 all-plain [] t = refl
@@ -185,7 +187,7 @@ module _ (f : Field) (h : Places f) (w : T (withinBounds f)) (legs : Legs) (spee
     unfolding entryOf entering settled
     built-again place =
         let fix = ap fixIn has-fix ∙ side-kept (a .fix) (fits .side) in
-        λ i. record { number = a .number; fix = fix i; speed = speed; progress = sym waits i; waited = whole 0; leg = whole 0 }
+        λ i. record { number = a .number; fix = fix i; speed = speed; progress = sym waits i; waited = whole 0; leg = whole 0; desk = 1 }
 
     only-one : map (waiting speed) (atZone z es) ≡ settled speed a ∷ []
     unfolding entryOf

@@ -13,13 +13,13 @@ use Rattle.field.specs.declared.Field.{Field}
 use Rattle.field.specs.Boxes.{right, queueOf, orderLength}
 use Rattle.finder.specs.declared.Indexed.{Indexed}
 
--- one present: its "speed", its "waiting sums", and "a zero's sign" of its own leg, which is 0 while it waits (2.7)
+-- one present: its "speed", its "waiting sums", its "owners", who are all desk 1, and "a zero's sign" of its own leg, which is 0 while it waits (2.7)
 unfoldable pub settled : ℕ → Aircraft → Aircraft
-settled speed a = record { number = a .number; fix = a .fix; speed = speed; progress = a .progress; waited = whole 0; leg = whole 0 }
+settled speed a = record { number = a .number; fix = a .fix; speed = speed; progress = a .progress; waited = whole 0; leg = whole 0; desk = 1 }
 
 -- a place past a length: "a zero's sign"
 unfoldable pub plainZeros : Aircraft → Aircraft
-plainZeros a = record { number = a .number; fix = a .fix; speed = a .speed; progress = a .progress; waited = whole 0; leg = whole 0 }
+plainZeros a = record { number = a .number; fix = a .fix; speed = a .speed; progress = a .progress; waited = whole 0; leg = whole 0; desk = a .desk }
 
 unfoldable pub settledZone : ℕ → Zone → Zone
 settledZone speed q = record { aircraft = map (settled speed) (queueOf q) ++ map plainZeros (drop (q .length) (q .aircraft)); length = q .length }

@@ -18,6 +18,7 @@ tickedAircraft amount a =
       progress = progressAfter (a .progress) (a .speed) amount (a .leg);
       waited = waitedWith (a .progress) (a .waited) (a .speed) amount (a .leg);
       leg = a .leg;
+      desk = a .desk;
     }
 
 -- a zone that is flown in after a tick

@@ -25,6 +25,7 @@ pub fn ticked_aircraft(amount: u16, a: Aircraft) -> Aircraft
                 progress: Progress::Flying(after.miles),
                 waited: waited_after(a.waited, after.past),
                 leg: a.leg,
+                desk: a.desk,
             }
         }
     }

@@ -9,7 +9,7 @@ use borrow.Author.Tests.{eq-eqb, ne-eqb}
 use Rattle.practice.specs.declared.FileLegs.{FileLegs}
 use Rattle.practice.specs.Requests.{requestsOf}
 use Rattle.practice.specs.Practice.{holds, practiceOf}
-use Rattle.practice.proofs.ReadBack.{read-back}
+use Rattle.practice.proofs.ReadBack.{read-back, from-bytes}
 use Rattle.writer.specs.Writer.{fileOf, writingNumber, bufferAfter}
 use Rattle.writer.proofs.Numbers.{allowed}
 
@@ -28,3 +28,4 @@ module _ (legs : FileLegs) (bytes buffer : List ℕ) where
       let a = allowed legs bytes (length buffer) e in
       ap practiceOf (ap (take (length (fileOf legs bytes))) (written e) ∙ take-append-seam (fileOf legs bytes) (drop (length (fileOf legs bytes)) buffer))
       ∙ read-back legs (requestsOf bytes) (a .few) (a .legal)
+      ∙ ap (holds legs) (from-bytes bytes)

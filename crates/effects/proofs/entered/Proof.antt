@@ -14,7 +14,7 @@ use Rattle.effects.proofs.entered.Tie as tie
 
 -- the field by its parts
 made : (f : Field) (r : Request) (z : ℕ) {fix next : ℕ} {a : Aircraft} {g h : Field} {s : Sequence}
-    → fix ≡ fixTaken f (r .side) → a ≡ entering (r .number) fix (r .amount) → g ≡ tailPut f z a
+    → fix ≡ fixTaken f (r .side) → a ≡ entering (r .number) fix (r .amount) (r .desk) → g ≡ tailPut f z a
     → s ≡ appended (f .sequence) (r .number) → next ≡ opposite fix → h ≡ withSequence g s next → h ≡ entered f r z
 unfolding entered
 made f r z ef ea eg es en eh = cc

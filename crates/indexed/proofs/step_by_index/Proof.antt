@@ -12,30 +12,32 @@ use Rattle.field.specs.declared.Field.{Field}
 use Rattle.field.proofs.Parts.{is-not, holds, fails}
 use Rattle.field.proofs.Tests.{decided, pass, passed, if-true, if-false}
 use Rattle.questions.specs.declared.Place.{Place}
-use Rattle.questions.specs.Find.{placeOf}
 use Rattle.bounds.specs.Bounds.{withinBounds}
 use Rattle.finder.specs.Finder.{indexOf}
 use Rattle.finder.proofs.Theorems.{indexed-as-looked}
 use Rattle.rules.specs.Kinds.{placeBefore}
-use Rattle.rules.specs.Step.{checksOf, effectOf, numberOf, numberAndZeros, acceptance, alongFor, answerOf}
+use Rattle.rules.specs.Step.{checksOf, effectOf, numberOf, numberAndZeros, acceptanceOn, alongFor, answerOf}
 use Rattle.step.proofs.Steps.{number-by, checked, effected}
 use borrow.Author.Needs.{needs}
+use Rattle.indexed.specs.declared.AnswerAndIndex.{AnswerAndIndex}
 use Rattle.indexed.specs.declared.SteppedIndexed.{SteppedIndexed}
 use Rattle.indexed.specs.Indexed.{withIndex, numberIndexed}
 use Rattle.indexed.proofs.Steps.{turned-away, let-through, number-within, field-within, asked-found, tick-leaves}
 use Rattle.indexed.proofs.step_by_index.Statement.{statement}
 use Rattle.indexed.proofs.step_by_index.Tie as tie
 
--- the step by the field after it
-made : (f : Field) (r : Request) {at : Place} {along : ℕ} {g : Field} → at ≡ placeBefore f r → along ≡ alongFor (r .kind) f r (at .zone) → g ≡ effectOf f r
-    → _≡_ {A = SteppedIndexed} (record { answer = cond (eqb (r .kind) 12) (numberAndZeros 0) (acceptance g (placeOf g (r .number)) (r .number) along); after = withIndex g })
-    (record { answer = answerOf f r; after = withIndex (effectOf f r) })
-unfolding answerOf
-made f r {at} {along} {g} p el eg =
-    ap (λ (h : Field). stepped h along) eg ∙ ap (stepped (effectOf f r)) (el ∙ ap (λ (q : Place). alongFor (r .kind) f r (q .zone)) p)
+-- the step by the answer and the index, and the field after it
+made : (f : Field) (r : Request) {at : Place} {along : ℕ} {g : Field} {a : AnswerAndIndex} → at ≡ placeBefore f r → along ≡ alongFor (r .kind) f r (at .zone) → g ≡ effectOf f r
+    → a ≡ record { answer = cond (eqb (r .kind) 12) (numberAndZeros 0) (acceptanceOn g r along); index = indexOf g }
+    → _≡_ {A = SteppedIndexed} (record { answer = a .answer; after = record { field = g; index = a .index } }) (record { answer = answerOf f r; after = withIndex (effectOf f r) })
+unfolding answerOf withIndex
+made f r {at} {along} {g} {a} p el eg ea =
+    ap (λ (b : AnswerAndIndex). record { answer = b .answer; after = record { field = g; index = b .index } }) ea
+    ∙ ap (λ (h : Field). stepped h along) eg
+    ∙ ap (stepped (effectOf f r)) (el ∙ ap (λ (q : Place). alongFor (r .kind) f r (q .zone)) p)
   where
     stepped : Field → ℕ → SteppedIndexed
-    stepped h n = record { answer = cond (eqb (r .kind) 12) (numberAndZeros 0) (acceptance h (placeOf h (r .number)) (r .number) n); after = withIndex h }
+    stepped h n = record { answer = cond (eqb (r .kind) 12) (numberAndZeros 0) (acceptanceOn h r n); after = record { field = h; index = indexOf h } }
 
 -- ---- the way back to the start
 abbrev start : tie.After-check-number → tie.Start
@@ -131,23 +133,26 @@ returns-2 c =
     let first = same-number k ∙ number k ∙ if-true _ _ (eq-eqb _ _ (met l)) ∙ if-false _ _ broken in
     c .turned-away2 .ensures ∙ turned-away (s .args .x) (s .args .r) first (λ z. omega arith)
 
-accepted-requires : tie.Need-accepted-requires
-accepted-requires c κs =
+answered-requires : tie.Need-answered-requires
+answered-requires c κs =
     let s = start (c .before .before .before .before) in (
       subst⁻¹ (λ (g : Field). T (withinBounds g)) (after (c .before)) (pass (bounded c)),
       (λ k. tick-leaves (s .args .x) (s .pre .0 .1) (s .args .r) k ∙ sym (ap indexOf (after (c .before)))),
     )
 
+accepted-requires : tie.Need-accepted-requires
+accepted-requires c κs = search needs
+
 returns-3 : tie.Need-returns-3
 returns-3 c =
-    let j = c .before in
+    let j = c .before .before in
     let l = j .before .before in
     let e = l .before in
     let k = e .before in
     let s = start k in
     let zero = number k ∙ if-true _ _ (eq-eqb _ _ (met e)) ∙ if-true _ _ (bounded j) in
     c .accepted .ensures
-    ∙ made (s .args .x .field) (s .args .r) (found k) (l .along-of .ensures) (after (j .before))
+    ∙ made (s .args .x .field) (s .args .r) (found k) (l .along-of .ensures) (after (j .before)) (c .before .answered .ensures)
     ∙ let-through (s .args .x) (s .args .r) (same-number k ∙ zero) zero
 
 pub step-by-index-spec : {M : Type 1} → statement M
@@ -164,5 +169,6 @@ step-by-index-spec =
     within-bounds-requires
     turned-away-requires-2
     returns-2
+    answered-requires
     accepted-requires
     returns-3)

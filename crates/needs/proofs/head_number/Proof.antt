@@ -2,6 +2,7 @@
 use mathlib.Core.Path.{refl, _≡_, sym, ap, _∙_}
 use mathlib.Core.Bool.{true, not}
 use lib.Dec.{eqb}
+use borrow.Author.Tests.{not-true, not-false}
 use Rattle.field.proofs.Parts.{is, is-not, holds, fails}
 use Rattle.field.proofs.Tests.{if-true, if-false}
 use borrow.Author.Needs.{needs}
@@ -15,25 +16,36 @@ present c = ap not (is-not refl (c .if1 .left))
 returns : tie.Need-returns
 returns c = sym (if-false _ _ (ap not (is refl (c .if1 .taken))))
 
+returns-2 : tie.Need-returns-2
+returns-2 c = sym (if-true _ _ (present (c .before)) ∙ if-false _ _ (not-true (c .before .before .args .own) (c .if2 .taken)))
+
 starts-from-requires : tie.Need-starts-from-requires
 starts-from-requires c κs = search needs
 
-returns-2 : tie.Need-returns-2
-returns-2 c = sym (if-true _ _ (present (c .before .before)) ∙ if-false _ _ (fails (c .before .starts-from .ensures) (c .if2 .taken)))
-
 returns-3 : tie.Need-returns-3
 returns-3 c =
-    sym
-    (if-true _ _ (present (c .before .before .before))
-    ∙ if-true _ _ (holds (c .before .before .starts-from .ensures) (c .before .if2 .left))
-    ∙ if-false _ _ (is-not refl (c .if3 .taken)))
+    let own = c .before .before in
+    sym (if-true _ _ (present (own .before)) ∙ if-true _ _ (not-false (own .before .before .args .own) (own .if2 .left)) ∙ if-false _ _ (fails (c .before .starts-from .ensures) (c .if3 .taken)))
 
 returns-4 : tie.Need-returns-4
 returns-4 c =
+    let starts = c .before in
+    let own = starts .before .before in
     sym
-    (if-true _ _ (present (c .before .before .before))
-    ∙ if-true _ _ (holds (c .before .before .starts-from .ensures) (c .before .if2 .left))
-    ∙ if-true _ _ (is refl (c .if3 .left)))
+    (if-true _ _ (present (own .before))
+    ∙ if-true _ _ (not-false (own .before .before .args .own) (own .if2 .left))
+    ∙ if-true _ _ (holds (starts .before .starts-from .ensures) (starts .if3 .left))
+    ∙ if-false _ _ (is-not refl (c .if4 .taken)))
+
+returns-5 : tie.Need-returns-5
+returns-5 c =
+    let starts = c .before in
+    let own = starts .before .before in
+    sym
+    (if-true _ _ (present (own .before))
+    ∙ if-true _ _ (not-false (own .before .before .args .own) (own .if2 .left))
+    ∙ if-true _ _ (holds (starts .before .starts-from .ensures) (starts .if3 .left))
+    ∙ if-true _ _ (is refl (c .if4 .left)))
 
 pub head-number-spec : {M : Type 1} → statement M
-head-number-spec = tie.close (tie.spec returns starts-from-requires returns-2 returns-3 returns-4)
+head-number-spec = tie.close (tie.spec returns returns-2 starts-from-requires returns-3 returns-4 returns-5)

@@ -11,8 +11,8 @@ use Rattle.request.proofs.request_of.Tie as tie
 
 -- a request whose number and amount are those of its bytes
 made : (b : List ℕ) {n a : ℕ} → n ≡ word (getD b 2 0) (getD b 3 0) → a ≡ word (getD b 4 0) (getD b 5 0)
-    → _≡_ {A = Request} (record { kind = getD b 0 0; side = getD b 1 0; number = n; amount = a }) (requestOf b)
-made b p q i = record { kind = getD b 0 0; side = getD b 1 0; number = p i; amount = q i }
+    → _≡_ {A = Request} (record { kind = getD b 0 0; side = getD b 1 0; number = n; amount = a; desk = 1 }) (requestOf b)
+made b p q i = record { kind = getD b 0 0; side = getD b 1 0; number = p i; amount = q i; desk = 1 }
 
 array-read-t5 : tie.Need-array-read-t5
 array-read-t5 c = search needs

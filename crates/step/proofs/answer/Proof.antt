@@ -2,6 +2,7 @@
 use mathlib.Core.Path.{sym, ap, _∙_}
 use borrow.Author.Tests.{eq-eqb, ne-eqb}
 use Rattle.questions.specs.declared.Place.{Place}
+use Rattle.questions.specs.Find.{placeOf}
 use Rattle.rules.specs.Step.{acceptance}
 use Rattle.field.proofs.Tests.{if-true, if-false}
 use borrow.Author.Needs.{needs}
@@ -17,16 +18,26 @@ returns c = c .number-and-zeros .ensures ∙ sym (if-true _ _ (eq-eqb _ _ (c .be
 place-of-requires : tie.Need-place-of-requires
 place-of-requires c κs = search needs
 
+leader-of-requires : tie.Need-leader-of-requires
+leader-of-requires c κs = search needs
+
+place-of-requires-2 : tie.Need-place-of-requires-2
+place-of-requires-2 c κs = search needs
+
 acceptance-requires : tie.Need-acceptance-requires
 acceptance-requires c κs = search needs
 
 returns-2 : tie.Need-returns-2
 returns-2 c =
-    let p = c .before in
-    let a = p .before .before .before .args in
+    let leader = c .before in
+    let p = leader .before .before in
+    let other = p .before .before in
+    let a = other .before .before .args in
+    let ahead = leader .place-of2 .ensures ∙ ap (placeOf (a .g)) (leader .before .leader-of .ensures) in
     c .acceptance .ensures
-    ∙ ap (λ (at : Place). acceptance (a .g) at (a .r .number) (a .along)) (p .place-of .ensures)
-    ∙ sym (if-false _ _ (ne-eqb _ _ (p .before .if1 .left)))
+    ∙ ap (λ (at : Place). acceptance (a .g) at (leader .place-of2 .result) (a .r) (a .along)) (p .place-of .ensures)
+    ∙ ap (λ (at : Place). acceptance (a .g) (placeOf (a .g) (a .r .number)) at (a .r) (a .along)) ahead
+    ∙ sym (if-false _ _ (ne-eqb _ _ (other .if1 .left)))
 
 pub answer-spec : {M : Type 1} → statement M
-answer-spec = tie.close (tie.spec number-and-zeros-requires returns place-of-requires acceptance-requires returns-2)
+answer-spec = tie.close (tie.spec number-and-zeros-requires returns place-of-requires leader-of-requires place-of-requires-2 acceptance-requires returns-2)

@@ -10,9 +10,8 @@ use Rattle.field.proofs.Tests.{if-true, if-false}
 use Rattle.questions.specs.declared.Place.{Place}
 use Rattle.rules.specs.declared.Answer.{Answer}
 use Rattle.rules.specs.declared.Stepped.{Stepped}
-use Rattle.questions.specs.Find.{placeOf}
 use Rattle.rules.specs.Kinds.{placeBefore}
-use Rattle.rules.specs.Step.{effectOf, numberAndZeros, acceptance, alongFor, answerOf}
+use Rattle.rules.specs.Step.{effectOf, numberAndZeros, acceptanceOn, alongFor, answerOf}
 use Rattle.step.proofs.Steps.{checked, effected}
 use borrow.Author.Needs.{needs}
 use Rattle.step.proofs.unjudged.Statement.{statement}
@@ -20,7 +19,7 @@ use Rattle.step.proofs.unjudged.Tie as tie
 
 -- the step by the field after it and the answer
 made : (f : Field) (r : Request) {at : Place} {along : ℕ} {g : Field} {a : Answer} → at ≡ placeBefore f r → along ≡ alongFor (r .kind) f r (at .zone) → g ≡ effectOf f r
-    → a ≡ cond (eqb (r .kind) 12) (numberAndZeros 0) (acceptance g (placeOf g (r .number)) (r .number) along)
+    → a ≡ cond (eqb (r .kind) 12) (numberAndZeros 0) (acceptanceOn g r along)
     → _≡_ {A = Stepped} (record { answer = a; field = g }) (record { answer = answerOf f r; field = effectOf f r })
 unfolding answerOf
 made f r {at} {along} {g} {a} p el eg ea =
@@ -32,7 +31,7 @@ made f r {at} {along} {g} {a} p el eg ea =
     stepped b h = record { answer = b; field = h }
 
     answered : Field → ℕ → Answer
-    answered h n = cond (eqb (r .kind) 12) (numberAndZeros 0) (acceptance h (placeOf h (r .number)) (r .number) n)
+    answered h n = cond (eqb (r .kind) 12) (numberAndZeros 0) (acceptanceOn h r n)
 
 place-of-requires : tie.Need-place-of-requires
 place-of-requires c κs = search needs

@@ -19,16 +19,16 @@ module _ (amount : ℕ) (a : Aircraft) where
   waits e =
       let p = e ∙ sym (ap (λ (q : Progress). progressAfter q (a .speed) amount (a .leg)) e) in
       let w = sym (ap (λ (q : Progress). waitedWith q (a .waited) (a .speed) amount (a .leg)) e) in
-      λ i. record { number = a .number; fix = a .fix; speed = a .speed; progress = p i; waited = w i; leg = a .leg }
+      λ i. record { number = a .number; fix = a .fix; speed = a .speed; progress = p i; waited = w i; leg = a .leg; desk = a .desk }
 
   -- one that flies, by what its advance yields
   flies : (miles : Float) {after : Advanced} {waited : Float} → a .progress ≡ Flying miles → after ≡ advancing miles (a .speed) amount (a .leg) → waited ≡ waitedAfter (a .waited) (after .past)
-      → _≡_ {A = Aircraft} (record { number = a .number; fix = a .fix; speed = a .speed; progress = Flying (after .miles); waited = waited; leg = a .leg }) (tickedAircraft amount a)
+      → _≡_ {A = Aircraft} (record { number = a .number; fix = a .fix; speed = a .speed; progress = Flying (after .miles); waited = waited; leg = a .leg; desk = a .desk }) (tickedAircraft amount a)
   unfolding tickedAircraft advancing
   flies miles e f g =
       let p = ap (λ (r : Advanced). Flying (r .miles)) f ∙ sym (ap (λ (q : Progress). progressAfter q (a .speed) amount (a .leg)) e) in
       let w = g ∙ ap (λ (r : Advanced). waitedAfter (a .waited) (r .past)) f ∙ sym (ap (λ (q : Progress). waitedWith q (a .waited) (a .speed) amount (a .leg)) e) in
-      λ i. record { number = a .number; fix = a .fix; speed = a .speed; progress = p i; waited = w i; leg = a .leg }
+      λ i. record { number = a .number; fix = a .fix; speed = a .speed; progress = p i; waited = w i; leg = a .leg; desk = a .desk }
 
 enum-told : tie.Need-enum-told
 enum-told c = search needs

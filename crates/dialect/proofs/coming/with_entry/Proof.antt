@@ -15,7 +15,7 @@ use Rattle.dialect.proofs.coming.with_entry.Tie as tie
 
 -- the field by its parts
 made : (f : Field) (speed : ℕ) (e : Entry) {fix next : ℕ} {p q : Zone} {a : Aircraft} {s : Sequence} {g h : Field}
-    → fix ≡ fixIn (e .fix) → p ≡ zoneOf f (e .location) → a ≡ entering (e .number) fix speed → q ≡ withTail p a → s ≡ appended (f .sequence) (e .number)
+    → fix ≡ fixIn (e .fix) → p ≡ zoneOf f (e .location) → a ≡ entering (e .number) fix speed 1 → q ≡ withTail p a → s ≡ appended (f .sequence) (e .number)
     → g ≡ withZone f (e .location) q → next ≡ opposite fix → h ≡ withSequence g s next → h ≡ withEntry f speed e
 unfolding withEntry
 made f speed e ef ep ea eq es eg en eh = cc

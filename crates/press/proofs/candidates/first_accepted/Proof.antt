@@ -12,6 +12,7 @@ use borrow.Author.Needs.{needs}
 use Rattle.request.specs.Input.{within}
 use Rattle.request.specs.declared.Request.{Request}
 use Rattle.field.specs.declared.Zone.{Zone}
+use Rattle.field.specs.declared.Aircraft.{Aircraft}
 use Rattle.field.specs.declared.Field.{Field}
 use Rattle.field.specs.Boxes.{nobody, queueOf, inZone}
 use Rattle.field.proofs.Tests.{each-from, every-from}
@@ -62,21 +63,21 @@ zone-high : (i : ℕ) → i < 13 → getD zones i 0 ≤ 13
 zone-high i h = leb→le (getD zones i 0) 13 (and-r (leb 1 (getD zones i 0)) (leb (getD zones i 0) 13) (zone-in i h))
 
 -- ---- one candidate, by the head that was read
-module _ (f : Field) (c : ℕ × ℕ) {n : ℕ} (named : n ≡ aircraftAt f (c .1) 1 .number) where
-  abbrev asked : ℕ → Request
-  asked m = record { kind = c .0; side = 0; number = m; amount = 0 }
+module _ (f : Field) (c : ℕ × ℕ) {a : Aircraft} (named : a ≡ aircraftAt f (c .1) 1) where
+  abbrev asked : Aircraft → Request
+  asked b = record { kind = c .0; side = 0; number = b .number; amount = 0; desk = b .desk }
 
   -- its step, and whether it is accepted
-  module _ (s : Stepped) (e : s ≡ stepOf f (asked n)) where
+  module _ (s : Stepped) (e : s ≡ stepOf f (asked a)) where
     number-here : s .answer .number ≡ numberOf f (headMove f c)
-    number-here = ap (λ (x : Stepped). x .answer .number) e ∙ number-is f (asked n) ∙ ap (λ (m : ℕ). numberOf f (asked m)) named
+    number-here = ap (λ (x : Stepped). x .answer .number) e ∙ number-is f (asked a) ∙ ap (λ (b : Aircraft). numberOf f (asked b)) named
 
-    played : _≡_ {A = Pressed} (record { proposal = Play (asked n); stepped = s }) (pressedBy f (Play (headMove f c)))
-    played = (λ i. record { proposal = Play (asked n); stepped = e i }) ∙ ap (λ (m : ℕ). pressedBy f (Play (asked m))) named
+    played : _≡_ {A = Pressed} (record { proposal = Play (asked a); stepped = s }) (pressedBy f (Play (headMove f c)))
+    played = (λ i. record { proposal = Play (asked a); stepped = e i }) ∙ ap (λ (b : Aircraft). pressedBy f (Play (asked b))) named
 
   -- nobody at the head: it is refused
-  nobody-there : T (within 3 11 (c .0)) → n ≡ 0 → numberOf f (headMove f c) ≡ 0 → ⊥
-  nobody-there k z e = let h = accepted-named f c k e in omega arith
+  nobody-there : T (within 3 11 (c .0)) → a .number ≡ 0 → numberOf f (headMove f c) ≡ 0 → ⊥
+  nobody-there k z e = let h = accepted-named f c k e in let m = ap (λ (b : Aircraft). b .number) named in omega arith
 
 abbrev Inv-loop : tie.InvT-loop
 Inv-loop f i₀ i = (i ≤ 13) × (firstAccepted f (drop i candidates) ≡ firstAccepted f candidates)
@@ -91,7 +92,7 @@ field-of c = c .before .before .args .t1
 abbrev index : tie.In-loop Inv-loop μ-loop → ℕ
 index c = c .before .loop .i
 
-head-is : (c : tie.After-aircraft-in Inv-loop μ-loop) → let k = c .before .before in c .aircraft-in .result .number ≡ aircraftAt (field-of k) (getD zones (index k) 0) 1 .number
+head-is : (c : tie.After-aircraft-in Inv-loop μ-loop) → let k = c .before .before in c .aircraft-in .result ≡ aircraftAt (field-of k) (getD zones (index k) 0) 1
 unfolding aircraftAt inZone
 head-is c =
     let k = c .before .before in
@@ -100,7 +101,7 @@ head-is c =
     let z = getD zones (index k) 0 in
     let low = zone-low (index k) (k .loop-test .taken) in
     let high = zone-high (index k) (k .loop-test .taken) in
-    ap (λ a. a .number) (c .aircraft-in .ensures ∙ ap (λ (q : Zone). getD (nobody ∷ queueOf q) 1 nobody) (zone-read f z _ (known .zones) low high))
+    c .aircraft-in .ensures ∙ ap (λ (q : Zone). getD (nobody ∷ queueOf q) 1 nobody) (zone-read f z _ (known .zones) low high)
 
 -- what is proposed where the candidate is accepted, and where it is passed over
 here : (c : tie.In-loop Inv-loop μ-loop) → firstAccepted (field-of c) (at (index c) ∷ drop (index c + 1) candidates) ≡ firstAccepted (field-of c) candidates

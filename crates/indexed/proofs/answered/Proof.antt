@@ -1,0 +1,78 @@
+-- `indexed::answered` meets its contract: a tick leaves the index, and else the answer is read by the new one. Assumes nothing.
+use mathlib.Core.Path.{_≡_, refl, sym, ap, _∙_}
+use mathlib.Core.Bool.{cond}
+use Prim.Native.Nat.{ℕ}
+use lib.Dec.{T, eqb}
+use borrow.Author.Tests.{eq-eqb, ne-eqb}
+use Rattle.field.specs.declared.Field.{Field}
+use Rattle.field.proofs.Tests.{if-true, if-false}
+use Rattle.questions.specs.declared.Place.{Place}
+use Rattle.questions.specs.Find.{placeOf}
+use Rattle.bounds.specs.Bounds.{withinBounds}
+use Rattle.finder.specs.declared.Index.{Index}
+use Rattle.finder.specs.Finder.{indexOf, foundIn}
+use Rattle.finder.proofs.Theorems.{found-as-looked}
+use Rattle.rules.specs.declared.Answer.{Answer}
+use Rattle.rules.specs.Step.{numberAndZeros, acceptance}
+use borrow.Author.Needs.{needs}
+use Rattle.indexed.specs.declared.AnswerAndIndex.{AnswerAndIndex}
+use Rattle.indexed.proofs.answered.Statement.{statement}
+use Rattle.indexed.proofs.answered.Tie as tie
+
+-- both by their parts
+made : {a b : Answer} {i j : Index} → a ≡ b → i ≡ j → _≡_ {A = AnswerAndIndex} (record { answer = a; index = i }) (record { answer = b; index = j })
+made p q i = record { answer = p i; index = q i }
+
+number-and-zeros-requires : tie.Need-number-and-zeros-requires
+number-and-zeros-requires c κs = search needs
+
+returns : tie.Need-returns
+returns c =
+    let t = c .before .if1 .taken in
+    made (c .number-and-zeros .ensures ∙ sym (if-true _ _ (eq-eqb _ _ t))) (c .before .before .pre .1 t)
+
+index-of-requires : tie.Need-index-of-requires
+index-of-requires c κs = search needs
+
+leader-of-requires : tie.Need-leader-of-requires
+leader-of-requires c κs = search needs
+
+find-requires : tie.Need-find-requires
+find-requires c κs = search needs
+
+find-requires-2 : tie.Need-find-requires-2
+find-requires-2 c κs = search needs
+
+acceptance-requires : tie.Need-acceptance-requires
+acceptance-requires c κs = search needs
+
+returns-2 : tie.Need-returns-2
+returns-2 c =
+    let own = c .before in
+    let other = own .before in
+    let led = other .before in
+    let i = led .before in
+    let e = i .before .before in
+    let a = e .before .args in
+    let looked : (n : ℕ) → foundIn (i .index-of .result) n ≡ placeOf (a .g) n = λ n. ap (λ (k : Index). foundIn k n) (i .index-of .ensures) ∙ found-as-looked (a .g) (e .before .pre .0) n in
+    let at = own .find2 .ensures ∙ looked (a .r .number) in
+    let ahead = other .find .ensures ∙ looked (led .leader-of .result) ∙ ap (placeOf (a .g)) (led .leader-of .ensures) in
+    made
+    (c .acceptance .ensures
+    ∙ ap (λ (q : Place). acceptance (a .g) q (other .find .result) (a .r) (a .along)) at
+    ∙ ap (λ (q : Place). acceptance (a .g) (placeOf (a .g) (a .r .number)) q (a .r) (a .along)) ahead
+    ∙ sym (if-false _ _ (ne-eqb _ _ (e .if1 .left))))
+    (i .index-of .ensures)
+
+pub answered-spec : {M : Type 1} → statement M
+answered-spec =
+    tie.close
+    (tie.spec
+    number-and-zeros-requires
+    returns
+    index-of-requires
+    leader-of-requires
+    find-requires
+    find-requires-2
+    acceptance-requires
+    returns-2)

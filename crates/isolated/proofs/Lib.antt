@@ -1,0 +1,5 @@
+pub mod Stays
+pub mod Shown
+pub mod Isolation
+pub mod WithIndex
+pub mod Computed

@@ -1,0 +1,4 @@
+pub mod Isolated
+pub mod WithIndex
+pub mod Weaker
+pub mod Seen
