@@ -143,4 +143,5 @@ lowestAvailableAltitude side s =
     cond (nobodyIn s (holding3 side))
     (cond (nobodyIn s (holding2 side)) (add (put s (maz side) rest) (holding2 side) a) (add (put s (maz side) rest) (holding3 side) a) ∷ [])
     (forFirst (s .queue (holding3 side)) (λ upper others.
-    add (add (put (put s (maz side) rest) (holding3 side) others) (holding2 side) upper) (holding3 side) a ∷ [])))
+    let lower = add (put s (holding3 side) others) (holding2 side) upper in
+    add (put lower (maz side) rest) (holding3 side) a ∷ [])))

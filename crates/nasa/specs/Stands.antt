@@ -4,6 +4,7 @@ use mathlib.Core.Bool.{true, false, cond}
 use mathlib.Core.List.{List, [], _∷_, map}
 use Prim.Native.Nat.{ℕ, suc}
 use lib.Dec.{eqb}
+use Rattle.request.specs.Input.{within}
 use Rattle.request.specs.declared.Request.{Request}
 use Rattle.field.specs.declared.Aircraft as field
 use Rattle.field.specs.declared.Field.{Field}
@@ -14,7 +15,7 @@ use Rattle.order.specs.Model.{Side, right, left}
 use Rattle.rules.specs.Kinds.{zoneBefore}
 use Rattle.rules.specs.Step.{stepOf}
 use Rattle.nasa.specs.Definitions.{Aircraft, SCA}
-use Rattle.nasa.specs.Rules.{Transition, zoneNumber}
+use Rattle.nasa.specs.Rules.{Transition, zoneNumber, verticalApproachInitiation, lateralApproachInitiation}
 
 -- "Sides: 1 right, 2 left"
 abbrev pub sideNamed : ℕ → Side
@@ -40,6 +41,10 @@ stateOf f =
 -- the side of the zone where a request's aircraft is
 abbrev pub sideBefore : Field → Request → Side
 sideBefore f r = sideNamed (boxes.sideOf (zoneBefore f r))
+
+-- the approach initiation of a request's aircraft: that of a lateral entry from there, else that from 2000
+abbrev pub approachInitiation : Field → Request → Transition
+approachInitiation f r = cond (within 5 6 (zoneBefore f r)) (lateralApproachInitiation (sideBefore f r)) (verticalApproachInitiation (sideBefore f r))
 
 -- a request is a transition on a field: that transition leads from the state before it to the state after it, and nowhere else
 abbrev pub Is : Field → Request → Transition → Type 0
