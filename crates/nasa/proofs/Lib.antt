@@ -5,3 +5,6 @@ pub mod Leaders
 pub mod Asked
 pub mod Approaching
 pub mod Holding
+pub mod Sequences
+pub mod Leaving
+pub mod Landed

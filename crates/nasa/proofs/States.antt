@@ -28,7 +28,8 @@ use Rattle.nasa.specs.Stands.{sideNamed, seen, stateOf}
 pub same-state : {s t : SCA} → ((z : Zone) → s .queue z ≡ t .queue z) → s .nextmahf ≡ t .nextmahf → s .nextseq ≡ t .nextseq → s ≡ t
 same-state {s} {t} q m n i = record { queue = fun-ext q i; nextmahf = m i; nextseq = n i }
 
-abbrev asSeen : ℕ → ℕ → Aircraft
+-- an aircraft of the model with this sequence number, and the side of this fix
+abbrev pub asSeen : ℕ → ℕ → Aircraft
 asSeen seq fix = record { seq = seq; mahf = sideNamed fix }
 
 -- ---- zones
