@@ -26,6 +26,8 @@ use Rattle.rules.specs.Step.{effectOf, numberOf}
 use Rattle.rules.specs.Reason.{hasPlaces}
 use Rattle.rules.proofs.Checks.{effect-at, first-passes}
 use Rattle.field.proofs.Tests.{decided, pass, if-true, if-false, same}
+use Rattle.questions.proofs.Listed.{numbersAt}
+use Rattle.questions.proofs.FindLaws.{numbers}
 use Rattle.line.proofs.Counted.{none}
 use Rattle.nasa.specs.Definitions.{Aircraft, Zone, intermediate, final, runway, SCA, decrease}
 use Rattle.nasa.specs.Rules.{zoneNumber, sameZone, put, add, withNext, decreased, lowered, exit, landing}
@@ -33,6 +35,7 @@ use Rattle.nasa.specs.Stands.{sideNamed, seen, stateOf, Is}
 use Rattle.nasa.proofs.States.{same-state, asSeen, zone-number, gone-here, gone-there, head-first, put-there, put-here, put-elsewhere}
 use Rattle.nasa.proofs.Heads.{only-zone, first-of, nobody-in, Heads, bounded, shape, heading, heads}
 use Rattle.nasa.proofs.Moves.{leads}
+use Rattle.nasa.proofs.Approaching.{first-is}
 use Rattle.nasa.proofs.Sequences.{first-left}
 use Rattle.nasa.proofs.Leaving.{behind, elsewhere-apart, lowered-elsewhere, lowered-rest, final-first}
 
@@ -147,3 +150,109 @@ land-is f h r k e =
     leads f r landing (after f h r k e (a .x) (a .rest) here (a .named) free (b .0) (b .1)) (landed f r) e (effect-at f r k)
     (first-of f final (a .x) (a .rest) here _ ∙ if-true _ [] (nobody-in f runway ∙ free))
     (landed-state f h r k e (a .x) (a .rest) here (a .named) free (b .0) (b .1))
+
+-- ---- kind 9
+module _ (f : Field) (h : T (hasPlaces f)) (r : Request) (k : r .kind ≡ 9) (e : numberOf f r ≡ 0) (x : field.Aircraft) (rest : List field.Aircraft) (here : inZone f 11 ≡ x ∷ rest) (named : x .number ≡ r .number)
+    (ns : List ℕ) (o : orderOf (f .sequence) ≡ x .number ∷ ns) where
+  abbrev g₉ : Field
+  g₉ = exited f r
+
+  order-out : orderOf (g₉ .sequence) ≡ ns
+  unfolding exited outOfSequence withSequence headGone withZone
+  order-out = ap (λ (m : ℕ). orderOf (removed (f .sequence) m)) (sym named) ∙ first-left (f .sequence) (shape f h r e .sequence) (x .number) ns o
+
+  next-out : g₉ .next ≡ f .next
+  unfolding exited outOfSequence withSequence headGone withZone
+  next-out = refl
+
+  further-out : (m : ℕ) → isIn m ns ≡ true → before m (orderOf (g₉ .sequence)) ≡ before m ns
+  further-out m i = ap (before m) order-out
+
+  on-intermediate : inZone g₉ 11 ≡ rest
+  unfolding exited outOfSequence withSequence inZone zoneOf
+  on-intermediate = gone-here f (shape f h r e) 11 12 (zone-number intermediate) (zone-number final) (λ q. omega arith) x rest here
+
+  in-rest : (y : ℕ) → y ≢ 11 → inZone g₉ y ≡ inZone f y
+  unfolding exited outOfSequence withSequence inZone zoneOf
+  in-rest y p = gone-there f (shape f h r e) 11 12 (zone-number intermediate) (zone-number final) (λ q. omega arith) x rest here y p
+
+  -- nobody is on final, since its head would be the first of the sequence
+  none-on-final : inZone f 12 ≡ []
+  none-on-final = go (inZone f 12) refl
+    where
+      go : (l : List field.Aircraft) → inZone f 12 ≡ l → l ≡ []
+      go [] q = refl
+      go (y ∷ ys) q =
+          let b = behind (f .sequence) (y .number) (final-first f (bounded f h r e) y ys q) in
+          let same-one : y .number ≡ x .number = head-same (sym (b .1) ∙ o) in
+          let there : isIn (x .number) (numbersAt f 12) ≡ true = ap (λ (l : List field.Aircraft). isIn (x .number) (numbers l)) q ∙ ap (λ (c : Bool). c || isIn (x .number) (numbers ys)) (eq-eqb (y .number) (x .number) same-one) in
+          absurd (true≢false (sym there ∙ elsewhere-apart f (bounded f h r e) 11 (zone-number intermediate) x rest here 12 (zone-number final) (λ w. omega arith)))
+        where
+          head-same : {m n : ℕ} {ms os : List ℕ} → m ∷ ms ≡ n ∷ os → m ≡ n
+          head-same {m} {n} {ms} {os} w = cc
+
+  abbrev R₉ : List Aircraft
+  R₉ = map (seen f 11) rest
+
+  abbrev after-exit : SCA
+  after-exit = withNext (decreased (λ z. sameZone z final || sameZone z runway) (put (stateOf f) intermediate R₉)) (stateOf f .nextmahf) (lowered (stateOf f .nextseq))
+
+  exited-state : stateOf g₉ ≡ after-exit
+  unfolding stateOf put add withNext decreased orderLength
+  exited-state = same-state queues (ap sideNamed next-out) next-number
+    where
+      next-number : suc (length (orderOf (g₉ .sequence))) ≡ lowered (suc (length (orderOf (f .sequence))))
+      next-number = ap (λ (l : List ℕ). suc (length l)) order-out ∙ one-fewer (x .number) ns ∙ ap (λ (l : List ℕ). lowered (suc (length l))) (sym o)
+
+      own : (n : ℕ) → List Aircraft
+      own n = cond (eqb n 11) R₉ (map (seen f n) (inZone f n))
+
+      -- on final and on the runway
+      kept : (n : ℕ) → n ≢ 11 → map (seen g₉ n) (inZone f n) ≡ map (seen f n) (inZone f n) → map (seen g₉ n) (inZone g₉ n) ≡ own n
+      kept n p q = ap (map (seen g₉ n)) (in-rest n p) ∙ q ∙ sym (if-false R₉ _ (ne-eqb n 11 p))
+
+      on-final-too : map (seen g₉ 12) (inZone f 12) ≡ map (seen f 12) (inZone f 12)
+      on-final-too = ap (map (seen g₉ 12)) none-on-final ∙ sym (ap (map (seen f 12)) none-on-final)
+
+      others : (y : Zone) → eqb (zoneNumber y) 13 ≡ false → map (seen g₉ (zoneNumber y)) (inZone g₉ (zoneNumber y)) ≡ decrease (own (zoneNumber y))
+      others y p = elim (decided (eqb (zoneNumber y) 11)) [
+        | inl q ↦
+            ap (λ (m : ℕ). map (seen g₉ m) (inZone g₉ m)) (eqb-true (zoneNumber y) 11 q)
+            ∙ ap (map (seen g₉ 11)) on-intermediate
+            ∙ lowered-rest f (bounded f h r e) 11 (zone-number intermediate) x rest here g₉ ns o further-out tt
+            ∙ ap decrease (sym (if-true R₉ _ q))
+        | inr q ↦
+            ap (map (seen g₉ (zoneNumber y))) (in-rest (zoneNumber y) (eqb-false (zoneNumber y) 11 q))
+            ∙ lowered-elsewhere f (bounded f h r e) 11 (zone-number intermediate) x rest here g₉ ns o further-out (zoneNumber y) (operating y p) (eqb-false (zoneNumber y) 11 q)
+            ∙ ap decrease (sym (if-false R₉ _ q))
+      ]
+
+      queues : (y : Zone) → stateOf g₉ .queue y ≡ after-exit .queue y
+      queues y = go (decided (eqb (zoneNumber y) 12)) (decided (eqb (zoneNumber y) 13))
+        where
+          n : ℕ
+          n = zoneNumber y
+
+          go : (eqb (zoneNumber y) 12 ≡ true) ⊎ (eqb (zoneNumber y) 12 ≡ false) → (eqb (zoneNumber y) 13 ≡ true) ⊎ (eqb (zoneNumber y) 13 ≡ false)
+              → map (seen g₉ (zoneNumber y)) (inZone g₉ (zoneNumber y)) ≡ cond (eqb (zoneNumber y) 12 || eqb (zoneNumber y) 13) (own (zoneNumber y)) (decrease (own (zoneNumber y)))
+          go (inl p) q =
+              subst (λ (m : ℕ). map (seen g₉ m) (inZone g₉ m) ≡ own m) (sym (eqb-true (zoneNumber y) 12 p)) (kept 12 (λ w. omega arith) on-final-too)
+              ∙ sym (if-true _ _ (ap (λ (c : Bool). c || eqb (zoneNumber y) 13) p))
+          go (inr p) (inl q) =
+              subst (λ (m : ℕ). map (seen g₉ m) (inZone g₉ m) ≡ own m) (sym (eqb-true (zoneNumber y) 13 q)) (kept 13 (λ w. omega arith) refl)
+              ∙ sym (if-true _ _ (ap (λ (c : Bool). c || eqb (zoneNumber y) 13) p ∙ q))
+          go (inr p) (inr q) = others y q ∙ sym (if-false _ _ (ap (λ (c : Bool). c || eqb (zoneNumber y) 13) p ∙ q))
+
+pub exit-is : (f : Field) → T (hasPlaces f) → (r : Request) → r .kind ≡ 9 → numberOf f r ≡ 0 → Is f r exit
+unfolding exit startsFrom
+exit-is f h r k e =
+    let H = heading f h r e 9 k refl refl in
+    let a = heads f h r e 9 k refl refl in
+    let at : zoneBefore f r ≡ 11 = only-zone 11 (zoneBefore f r) (H .starts) in
+    let here = ap (inZone f) (sym at) ∙ a .here in
+    let others = first-passes 15 (flownOutCheck f (zoneBefore f r) .1) ((22, isFirst (f .sequence) (r .number)) ∷ []) (omega arith) (H .others) .1 in
+    let met = first-passes 22 (isFirst (f .sequence) (r .number)) [] (omega arith) others .0 in
+    let b = behind (f .sequence) (a .x .number) (ap (isFirst (f .sequence)) (a .named) ∙ met) in
+    leads f r exit (after-exit f h r k e (a .x) (a .rest) here (a .named) (b .0) (b .1)) (exited f r) e (effect-at f r k)
+    (first-of f intermediate (a .x) (a .rest) here _ ∙ if-true _ [] (first-is f h r e intermediate at a tt ∙ met))
+    (exited-state f h r k e (a .x) (a .rest) here (a .named) (b .0) (b .1))
