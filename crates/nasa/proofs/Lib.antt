@@ -8,3 +8,4 @@ pub mod Holding
 pub mod Sequences
 pub mod Leaving
 pub mod Landed
+pub mod Missing
