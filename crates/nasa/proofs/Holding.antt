@@ -13,8 +13,8 @@ use Rattle.request.specs.Input.{within}
 use Rattle.request.specs.declared.Request.{Request}
 use Rattle.field.specs.declared.Aircraft as field
 use Rattle.field.specs.declared.Field.{Field}
-use Rattle.field.specs.Boxes.{sideOf, at3000, at2000, zoneOf, inZone, arrived}
-use Rattle.field.specs.Edits.{withTail, withZone}
+use Rattle.field.specs.Boxes.{sideOf, at3000, at2000, inZone, arrived}
+use Rattle.field.specs.Edits.{withZone}
 use Rattle.questions.specs.Counts.{howMany, isEmpty}
 use Rattle.questions.specs.Find.{aircraftAt}
 use Rattle.rules.specs.Kinds.{zoneBefore, startsFrom, headGone, tailPut, moved, descended, held}
@@ -23,11 +23,11 @@ use Rattle.rules.specs.Reason.{hasPlaces}
 use Rattle.order.specs.Model.{Side, right, left, num}
 use Rattle.rules.proofs.Checks.{effect-at}
 use Rattle.field.proofs.Tests.{decided, failed, if-true, if-false}
-use Rattle.laws.proofs.EditLaws.{Shaped, shaped-with-tail, shaped-with-zone}
+use Rattle.laws.proofs.EditLaws.{Shaped}
 use Rattle.nasa.specs.Definitions.{Aircraft, Zone, holding3, holding2, maz, SCA}
 use Rattle.nasa.specs.Rules.{Transition, forFirst, nobodyIn, zoneNumber, put, add, lowestAvailableAltitude}
 use Rattle.nasa.specs.Stands.{sideNamed, seen, stateOf, sideBefore, Is}
-use Rattle.nasa.proofs.States.{zone-number, gone-shaped, put-here, put-elsewhere, moved-state}
+use Rattle.nasa.proofs.States.{zone-number, moved-shaped, put-here, put-elsewhere, moved-state}
 use Rattle.nasa.proofs.Heads.{has-room, of-side, first-of, nobody-in, Heads, bounded, shape, heading, heads}
 use Rattle.nasa.proofs.Moves.{leads, each-side, differing, there, goes}
 
@@ -100,10 +100,7 @@ module _ (f : Field) (h : T (hasPlaces f)) (r : Request) (k : r .kind ≡ 11) (e
     b = arrived (f .legs) down (aircraftAt f up 1)
 
     g-shaped : Shaped g
-    unfolding moved tailPut
-    g-shaped =
-        let q = gone-shaped f (shape f h r e) up down (zone-number (holding3 s)) (zone-number (holding2 s)) (apart holding2 holding3 tt tt) x others above in
-        shaped-with-zone (headGone f up) down (withTail (zoneOf (headGone f up) down) b) (zone-number (holding2 s)) (q .zones) q (shaped-with-tail (zoneOf (headGone f up) down) b (q .zone down))
+    g-shaped = moved-shaped f (shape f h r e) up down (zone-number (holding3 s)) (zone-number (holding2 s))
 
     g-missed : inZone g zn ≡ a .x ∷ a .rest
     unfolding moved

@@ -25,7 +25,7 @@ first-place n (m ∷ ms) i = elim (decided (eqb m n)) [
 ]
 
 -- numbers one larger are equal where the numbers are
-one-less : (a b : ℕ) → eqb (suc a) (suc b) ≡ eqb a b
+pub one-less : (a b : ℕ) → eqb (suc a) (suc b) ≡ eqb a b
 one-less a b = elim (decided (eqb a b)) [
   | inl e ↦ eq-eqb (suc a) (suc b) (ap suc (eqb-true a b e)) ∙ sym e
   | inr e ↦ ne-eqb (suc a) (suc b) (λ q. eqb-false a b e (omega arith)) ∙ sym e

@@ -9,3 +9,6 @@ pub mod Sequences
 pub mod Leaving
 pub mod Landed
 pub mod Missing
+pub mod Counts
+pub mod Entering
+pub mod Entries

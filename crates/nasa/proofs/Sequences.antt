@@ -63,13 +63,9 @@ module _ (s : Sequence) (k : ShapedSequence s) (n : ℕ) where
   last-put h = ap orderOf (if-true _ s (lt-ltb (s .length) 4 h)) ∙ ap (λ (i : ℕ). take i (set (s .numbers) (s .length) n)) (add-one (s .length)) ∙ take-suc-set (s .numbers) (s .length) n (omega arith)
 
   -- a full one stays as it is
-  pub full-stays : (s .length < 4 → ⊥) → appended s n ≡ s
+  pub full-stays : ltb (s .length) 4 ≡ false → appended s n ≡ s
   unfolding appended
-  full-stays h = if-false _ s (go (decided (ltb (s .length) 4)))
-    where
-      go : (ltb (s .length) 4 ≡ true) ⊎ (ltb (s .length) 4 ≡ false) → ltb (s .length) 4 ≡ false
-      go (inl e) = absurd (h (ltb-true (s .length) 4 e))
-      go (inr e) = e
+  full-stays h = if-false _ s h
 
 -- ---- how many stand before a number
 

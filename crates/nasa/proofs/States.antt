@@ -19,7 +19,7 @@ use Rattle.questions.specs.Find.{aircraftAt}
 use Rattle.rules.specs.Kinds.{headGone, tailPut, moved}
 use Rattle.order.specs.Model.{Side, right, left}
 use Rattle.field.proofs.Tests.{decided, if-true, if-false, same}
-use Rattle.laws.proofs.EditLaws.{Shaped, shaped-without-head, shaped-with-zone, queue-kept, queue-taken, queue-put}
+use Rattle.laws.proofs.EditLaws.{Shaped, shaped-without-head, shaped-with-tail, shaped-with-zone, queue-kept, queue-taken, queue-put}
 use Rattle.nasa.specs.Definitions.{Aircraft, Zone, holding3, holding2, lez, maz, base, intermediate, final, runway, SCA}
 use Rattle.nasa.specs.Rules.{zoneNumber, put, add}
 use Rattle.nasa.specs.Stands.{sideNamed, seen, stateOf}
@@ -48,15 +48,24 @@ zone-number intermediate = record { least = omega arith; most = omega arith }
 zone-number final = record { least = omega arith; most = omega arith }
 zone-number runway = record { least = omega arith; most = omega arith }
 
+-- ---- a field keeps its places
+pub gone-shaped : (f : Field) → Shaped f → (z : ℕ) → Between 1 13 z → Shaped (headGone f z)
+unfolding headGone
+gone-shaped f k z b = shaped-with-zone f z (withoutHead (zoneOf f z)) b (k .zones) k (shaped-without-head (zoneOf f z) (k .zone z))
+
+pub put-shaped : (f : Field) → Shaped f → (z : ℕ) → Between 1 13 z → (a : field.Aircraft) → Shaped (tailPut f z a)
+unfolding tailPut
+put-shaped f k z b a = shaped-with-zone f z (withTail (zoneOf f z) a) b (k .zones) k (shaped-with-tail (zoneOf f z) a (k .zone z))
+
+pub moved-shaped : (f : Field) → Shaped f → (z w : ℕ) → Between 1 13 z → Between 1 13 w → Shaped (moved f z w)
+unfolding moved
+moved-shaped f k z w b c = put-shaped (headGone f z) (gone-shaped f k z b) w c (arrived (f .legs) w (aircraftAt f z 1))
+
 -- ---- the head of zone z, x, goes to the end of zone w
 module _ (f : Field) (k : Shaped f) (z w : ℕ) (zb : Between 1 13 z) (wb : Between 1 13 w) (apart : w ≢ z) (x : field.Aircraft) (rest : List field.Aircraft) (here : inZone f z ≡ x ∷ rest) where
   -- the field without it
   abbrev gone : Field
   gone = headGone f z
-
-  pub gone-shaped : Shaped gone
-  unfolding headGone
-  gone-shaped = shaped-with-zone f z (withoutHead (zoneOf f z)) zb (k .zones) k (shaped-without-head (zoneOf f z) (k .zone z))
 
   pub gone-here : inZone gone z ≡ rest
   unfolding headGone
@@ -78,7 +87,7 @@ module _ (f : Field) (k : Shaped f) (z w : ℕ) (zb : Between 1 13 z) (wb : Betw
     -- one put at the end of zone w of the field without it
     pub put-there : inZone (tailPut gone w a) w ≡ inZone f w ++ (a ∷ [])
     unfolding tailPut
-    put-there = queue-put gone gone-shaped w a wb room-left ∙ ap (λ (l : List field.Aircraft). l ++ (a ∷ [])) (gone-there w apart)
+    put-there = queue-put gone (gone-shaped f k z zb) w a wb room-left ∙ ap (λ (l : List field.Aircraft). l ++ (a ∷ [])) (gone-there w apart)
 
     pub put-here : inZone (tailPut gone w a) z ≡ rest
     unfolding tailPut

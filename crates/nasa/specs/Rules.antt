@@ -14,6 +14,10 @@ use Rattle.nasa.specs.Definitions.{Aircraft, Zone, holding3, holding2, l
 abbrev pub Transition : Type 0
 Transition = SCA → List SCA
 
+-- one transition and then another; none where either leads nowhere
+abbrev pub inTurn : Transition → Transition → Transition
+inTurn one other s = elim (one s) [ [] ↦ [] | (next ∷ rest) ↦ other next ]
+
 -- the next state where a test holds, else none
 abbrev pub when : Bool → SCA → List SCA
 when test next = cond test (next ∷ []) []

@@ -14,8 +14,8 @@ use Rattle.field.specs.Edits.{before}
 use Rattle.order.specs.Model.{Side, right, left}
 use Rattle.rules.specs.Kinds.{zoneBefore}
 use Rattle.rules.specs.Step.{stepOf}
-use Rattle.nasa.specs.Definitions.{Aircraft, SCA}
-use Rattle.nasa.specs.Rules.{Transition, zoneNumber, verticalApproachInitiation, lateralApproachInitiation}
+use Rattle.nasa.specs.Definitions.{Aircraft, holding3, SCA}
+use Rattle.nasa.specs.Rules.{Transition, inTurn, nobodyIn, zoneNumber, verticalEntry, holdingPatternDescend, verticalApproachInitiation, lateralApproachInitiation}
 
 -- "Sides: 1 right, 2 left"
 abbrev pub sideNamed : ℕ → Side
@@ -41,6 +41,10 @@ stateOf f =
 -- the side of the zone where a request's aircraft is
 abbrev pub sideBefore : Field → Request → Side
 sideBefore f r = sideNamed (boxes.sideOf (zoneBefore f r))
+
+-- an entry to 3000 of a side (02, 2.5): where somebody is there, that one descends, and then the entry
+abbrev pub entryAbove : Side → Transition
+entryAbove side s = cond (nobodyIn s (holding3 side)) (verticalEntry side s) (inTurn (holdingPatternDescend side) (verticalEntry side) s)
 
 -- the approach initiation of a request's aircraft: that of a lateral entry from there, else that from 2000
 abbrev pub approachInitiation : Field → Request → Transition
