@@ -12,3 +12,4 @@ pub mod Missing
 pub mod Counts
 pub mod Entering
 pub mod Entries
+pub mod Steps

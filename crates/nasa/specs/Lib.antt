@@ -1,3 +1,4 @@
 pub mod Definitions
 pub mod Rules
 pub mod Stands
+pub mod Steps
