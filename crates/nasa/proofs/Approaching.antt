@@ -21,6 +21,7 @@ use Rattle.field.specs.Edits.{before}
 use Rattle.questions.specs.Counts.{howMany}
 use Rattle.questions.specs.Find.{leaderZone}
 use Rattle.questions.specs.Find as find
+use Rattle.bounds.specs.Bounds.{withinBounds}
 use Rattle.rules.specs.Kinds.{zoneBefore, zoneAhead, startsFrom, flownOutCheck, mayApproach, mayMerge, baseFree, moved, approached}
 use Rattle.rules.specs.Step.{effectOf, numberOf}
 use Rattle.rules.specs.Reason.{hasPlaces}
@@ -38,7 +39,7 @@ use Rattle.nasa.proofs.Asked.{in-sequence, first-seen, approach-seen, m
 use Rattle.nasa.proofs.Moves.{leads, each-side, differing, here, there, goes}
 
 -- ---- what is asked of a request's aircraft, at the head of zone z of the operation area
-module _ (f : Field) (h : T (hasPlaces f)) (r : Request) (e : numberOf f r ≡ 0) (z : Zone) (at : zoneBefore f r ≡ zoneNumber z) (a : Heads f r (zoneBefore f r)) (u : T (within 1 12 (zoneNumber z))) where
+module _ (f : Field) (t : T (withinBounds f)) (r : Request) (z : Zone) (at : zoneBefore f r ≡ zoneNumber z) (a : Heads f r (zoneBefore f r)) (u : T (within 1 12 (zoneNumber z))) where
   abbrev n : ℕ
   n = a .x .number
 
@@ -50,14 +51,14 @@ module _ (f : Field) (h : T (hasPlaces f)) (r : Request) (e : numberOf f r ≡ 0
 
   pub listed : isIn n order ≡ true
   listed =
-      in-sequence f (bounded f h r e) (zoneNumber z) u n
+      in-sequence f t (zoneNumber z) u n
       (ap (λ (l : List field.Aircraft). isIn n (numbers l)) (ap (inZone f) (sym at) ∙ a .here) ∙ ap (λ (b : Bool). b || isIn n (numbers (a .rest))) (same n))
 
   pub seq-is : one .seq ≡ suc (before n order)
   seq-is = if-false 1 (suc (before n order)) (not-13 (zoneNumber z) u)
 
   pub first-is : isFirst one ≡ find.isFirst (f .sequence) (r .number)
-  first-is = ap (λ (s : ℕ). eqb s 1) seq-is ∙ first-seen f (bounded f h r e) n listed ∙ ap (find.isFirst (f .sequence)) (a .named)
+  first-is = ap (λ (s : ℕ). eqb s 1) seq-is ∙ first-seen f t n listed ∙ ap (find.isFirst (f .sequence)) (a .named)
 
   ahead-is : leaderZone f n ≡ zoneAhead f r
   ahead-is = ap (leaderZone f) (a .named)
@@ -68,14 +69,14 @@ module _ (f : Field) (h : T (hasPlaces f)) (r : Request) (e : numberOf f r ≡ 0
       or-assoc (isFirst one) (onZone (stateOf f .queue intermediate) (leader one)) (onZone (stateOf f .queue final) (leader one))
       ∙ ap (λ (b : Bool). b || (onZone (stateOf f .queue intermediate) (leader one) || onZone (stateOf f .queue final) (leader one))) first-is
       ∙ ap (λ (s : ℕ). find.isFirst (f .sequence) (r .number) || (onZone (stateOf f .queue intermediate) (s - 1) || onZone (stateOf f .queue final) (s - 1))) seq-is
-      ∙ ap (λ (b : Bool). find.isFirst (f .sequence) (r .number) || b) (merge-seen f (bounded f h r e) n listed ∙ ap (within 11 12) ahead-is)
+      ∙ ap (λ (b : Bool). find.isFirst (f .sequence) (r .number) || b) (merge-seen f t n listed ∙ ap (within 11 12) ahead-is)
 
   approaches : (isFirst one || onApproach (stateOf f) (leader one)) ≡ mayApproach (f .sequence) (r .number) (zoneAhead f r)
   unfolding mayApproach
   approaches =
       ap (λ (b : Bool). b || onApproach (stateOf f) (leader one)) first-is
       ∙ ap (λ (s : ℕ). find.isFirst (f .sequence) (r .number) || onApproach (stateOf f) (s - 1)) seq-is
-      ∙ ap (λ (b : Bool). find.isFirst (f .sequence) (r .number) || b) (approach-seen f (bounded f h r e) n listed ∙ ap (within 9 12) ahead-is)
+      ∙ ap (λ (b : Bool). find.isFirst (f .sequence) (r .number) || b) (approach-seen f t n listed ∙ ap (within 9 12) ahead-is)
 
   pub initiates : (s : Side) → sideOf (zoneBefore f r) ≡ num s → mayInitiate (stateOf f) s one ≡ (baseFree f (sideOf (zoneBefore f r)) && mayApproach (f .sequence) (r .number) (zoneAhead f r))
   unfolding baseFree opposite
@@ -97,7 +98,7 @@ module _ (f : Field) (h : T (hasPlaces f)) (r : Request) (k : r .kind ≡ 5) (e 
       let met = first-passes 22 (mayMerge (f .sequence) (r .number) (zoneAhead f r)) [] (omega arith) others .0 in
       leads f r (merging s) (there f h r e (base s) intermediate at a d) (moved f (zoneNumber (base s)) 11) e
       (effect-at f r k ∙ ap (λ (y : ℕ). moved f y 11) at)
-      (first-of f (base s) (a .x) (a .rest) (here f h r e (base s) intermediate at a d) _ ∙ if-true _ [] (merges f h r e (base s) at a u ∙ met))
+      (first-of f (base s) (a .x) (a .rest) (here f h r e (base s) intermediate at a d) _ ∙ if-true _ [] (merges f (bounded f h r e) r (base s) at a u ∙ met))
       (goes f h r e (base s) intermediate at a d)
 
   pub merge-is : Is f r (merging (sideBefore f r))
@@ -156,7 +157,7 @@ module _ (f : Field) (h : T (hasPlaces f)) (r : Request) (k : r .kind ≡ 4) (e 
       leads f r (verticalApproachInitiation s) (there f h r e (holding2 s) (base s) at a d) (moved f (zoneNumber (holding2 s)) (zoneNumber (base s))) e
       (effect-at f r k ∙ if-false _ (moved f z₀ (boxes.base (sideOf z₀))) low ∙ ap (moved f z₀) to ∙ ap (λ (y : ℕ). moved f y (zoneNumber (base s))) at)
       (first-of f (holding2 s) (a .x) (a .rest) (here f h r e (holding2 s) (base s) at a d) _
-      ∙ if-true _ [] (initiates f h r e (holding2 s) at a u s own ∙ ap (λ (b : Bool). b && may) q ∙ p))
+      ∙ if-true _ [] (initiates f (bounded f h r e) r (holding2 s) at a u s own ∙ ap (λ (b : Bool). b && may) q ∙ p))
       (goes f h r e (holding2 s) (base s) at a d)
 
   -- from lateral: to base, or to 2000
@@ -177,7 +178,7 @@ module _ (f : Field) (h : T (hasPlaces f)) (r : Request) (k : r .kind ≡ 4) (e 
       low = ap (within 5 6) at ∙ each-side (λ s. within 5 6 (zoneNumber (lez s)) ≡ true) refl refl s
 
       asked : mayInitiate (stateOf f) s (seen f (zoneNumber (lez s)) (a .x)) ≡ (may && free)
-      asked = initiates f h r e (lez s) at a u s own ∙ and-comm free may
+      asked = initiates f (bounded f h r e) r (lez s) at a u s own ∙ and-comm free may
 
       to : (w : Zone) (g : ℕ → ℕ) → T (differing (lez s) w) → g (num s) ≡ zoneNumber w → effectOf f r ≡ moved f z₀ (g (sideOf z₀)) → lateralApproachInitiation s (stateOf f) ≡ add (put (stateOf f) (lez s) (map (seen f (zoneNumber (lez s))) (a .rest))) w (seen f (zoneNumber (lez s)) (a .x)) ∷ [] → Is f r (lateralApproachInitiation s)
       to w g d q p i =

@@ -254,5 +254,5 @@ exit-is f h r k e =
     let met = first-passes 22 (isFirst (f .sequence) (r .number)) [] (omega arith) others .0 in
     let b = behind (f .sequence) (a .x .number) (ap (isFirst (f .sequence)) (a .named) ∙ met) in
     leads f r exit (after-exit f h r k e (a .x) (a .rest) here (a .named) (b .0) (b .1)) (exited f r) e (effect-at f r k)
-    (first-of f intermediate (a .x) (a .rest) here _ ∙ if-true _ [] (first-is f h r e intermediate at a tt ∙ met))
+    (first-of f intermediate (a .x) (a .rest) here _ ∙ if-true _ [] (first-is f (bounded f h r e) r intermediate at a tt ∙ met))
     (exited-state f h r k e (a .x) (a .rest) here (a .named) (b .0) (b .1))

@@ -13,3 +13,5 @@ pub mod Counts
 pub mod Entering
 pub mod Entries
 pub mod Steps
+pub mod Enabled
+pub mod Followed

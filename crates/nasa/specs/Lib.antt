@@ -2,3 +2,4 @@ pub mod Definitions
 pub mod Rules
 pub mod Stands
 pub mod Steps
+pub mod Enabled
