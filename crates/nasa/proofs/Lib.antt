@@ -15,3 +15,4 @@ pub mod Entries
 pub mod Steps
 pub mod Enabled
 pub mod Followed
+pub mod Runs

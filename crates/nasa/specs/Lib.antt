@@ -3,3 +3,4 @@ pub mod Rules
 pub mod Stands
 pub mod Steps
 pub mod Enabled
+pub mod Runs
