@@ -1,13 +1,12 @@
 -- Kinds 4 and 5, each of any field with its places: an accepted one is its transition. Assumes nothing.
 use mathlib.Core.Path.{_≡_, refl, sym, ap, _∙_, subst}
 use mathlib.Core.Logic.{_⊎_, inl, inr}
-use mathlib.Core.Bool.{Bool, true, false, cond, _&&_, _||_, true≢false, or-assoc, and-comm}
-use mathlib.Core.List.{List, [], _∷_, _++_, map}
-use Prim.Native.Nat.{ℕ, suc, _+_, _-_, _≤_, _<_}
+use mathlib.Core.Bool.{Bool, true, false, _&&_, _||_, true≢false, or-assoc, and-comm}
+use mathlib.Core.List.{List, [], _∷_, map}
+use Prim.Native.Nat.{ℕ, suc, _-_}
 use native.Mathlib.Omega.{arith}
 use borrow.Author.Tests.{leb-true, leb-false}
 use lib.Dec.{T, eqb, leb}
-use lib.Ieee.Fits.{and-l, and-r}
 use lib.ListN.{length}
 use Rattle.request.specs.Input.{within}
 use Rattle.request.specs.declared.Request.{Request}
@@ -25,14 +24,13 @@ use Rattle.bounds.specs.Bounds.{withinBounds}
 use Rattle.rules.specs.Kinds.{zoneBefore, zoneAhead, startsFrom, flownOutCheck, mayApproach, mayMerge, baseFree, moved, approached}
 use Rattle.rules.specs.Step.{effectOf, numberOf}
 use Rattle.rules.specs.Reason.{hasPlaces}
-use Rattle.order.specs.Model.{Side, right, left, opp, num}
+use Rattle.order.specs.Model.{Side, opp, num}
 use Rattle.rules.proofs.Checks.{effect-at, first-passes}
-use Rattle.field.proofs.Tests.{decided, passed, if-true, if-false, same}
-use Rattle.questions.proofs.Listed.{numbersAt}
+use Rattle.field.proofs.Tests.{decided, if-true, if-false, same}
 use Rattle.questions.proofs.FindLaws.{numbers}
 use Rattle.line.proofs.Counted.{not-13}
 use Rattle.nasa.specs.Definitions.{Aircraft, Zone, holding2, lez, base, intermediate, final, SCA, isFirst, leader, onZone, onApproach}
-use Rattle.nasa.specs.Rules.{Transition, zoneNumber, put, add, mayInitiate, verticalApproachInitiation, lateralApproachInitiation, merging}
+use Rattle.nasa.specs.Rules.{zoneNumber, put, add, mayInitiate, verticalApproachInitiation, lateralApproachInitiation, merging}
 use Rattle.nasa.specs.Stands.{sideNamed, seen, stateOf, sideBefore, approachInitiation, Is}
 use Rattle.nasa.proofs.Heads.{of-side, first-of, how-many-in, Heads, bounded, heading, heads}
 use Rattle.nasa.proofs.Asked.{in-sequence, first-seen, approach-seen, merge-seen}

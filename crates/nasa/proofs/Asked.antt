@@ -2,8 +2,8 @@
 use mathlib.Core.Path.{_≡_, refl, sym, ap, _∙_, subst}
 use mathlib.Core.Logic.{_≢_, _⊎_, inl, inr}
 use mathlib.Core.Bool.{Bool, true, false, cond, not, _&&_, _||_, true≢false, or-true}
-use mathlib.Core.List.{List, [], _∷_, _++_, map}
-use Prim.Native.Nat.{ℕ, zero, suc, _+_, _-_, _≤_, _<_}
+use mathlib.Core.List.{List, [], _∷_, map}
+use Prim.Native.Nat.{ℕ, zero, suc, _-_, _≤_}
 use native.Mathlib.Omega.{arith}
 use borrow.Author.Tests.{eq-eqb, ne-eqb, eqb-true, eqb-false}
 use lib.Dec.{T, eqb}
@@ -18,17 +18,17 @@ use Rattle.field.specs.Boxes.{inZone, orderOf, operation, everywhere, nobody}
 use Rattle.field.specs.Lists.{isIn, every, allDifferent}
 use Rattle.field.specs.Edits.{before}
 use Rattle.questions.specs.Counts.{howMany}
-use Rattle.questions.specs.Find.{placeOf, aircraftAt, numbersIn, isHead, isFirst, aheadOf, leaderOf, leaderZone}
+use Rattle.questions.specs.Find.{placeOf, aircraftAt, numbersIn, isFirst, leaderOf, leaderZone}
 use Rattle.numbers.specs.Numbers.{numbersDiffer, sequenceExact}
 use Rattle.bounds.specs.Bounds.{withinBounds}
 use Rattle.order.specs.Model.{right, left}
 use Rattle.field.proofs.Tests.{decided, passed, failed, if-true, if-false, same, each-from, each-operation}
 use Rattle.field.proofs.Lists.{every-listed, zone-listed}
 use Rattle.questions.proofs.Listed.{numbersAt}
-use Rattle.questions.proofs.FindLaws.{numbers, at, Standing, place-there, in-zones, Found, found-exactly, found-there, place-within, own-place}
+use Rattle.questions.proofs.FindLaws.{numbers, place-there, in-zones, found-exactly, found-there, place-within, own-place}
 use Rattle.laws.proofs.BoundLaws.{within-e, numbers-different}
 use Rattle.line.proofs.Counted.{not-13}
-use Rattle.nasa.specs.Definitions.{Aircraft, Zone, base, intermediate, final, SCA, onZone, onApproach}
+use Rattle.nasa.specs.Definitions.{Aircraft, Zone, base, intermediate, final, onZone, onApproach}
 use Rattle.nasa.specs.Rules.{zoneNumber}
 use Rattle.nasa.specs.Stands.{seen, stateOf}
 use Rattle.nasa.proofs.States.{zone-number}

@@ -1,31 +1,29 @@
 -- The counts of the state of a field within the bounds are those of the field: the virtual number is the potential number, and those on the approach that are
 -- assigned to a side are those with that fix. Assumes nothing.
-use mathlib.Core.Path.{_≡_, refl, sym, ap, _∙_, subst}
-use mathlib.Core.Bool.{Bool, true, false, cond, not, _&&_, _||_}
+use mathlib.Core.Path.{_≡_, refl, sym, ap, _∙_}
+use mathlib.Core.Bool.{Bool, cond, not, _||_}
 use mathlib.Core.List.{List, [], _∷_, map}
 use Prim.Native.Nat.{ℕ, zero, suc, _+_}
 use native.Mathlib.Omega.{arith}
 use borrow.Author.Tests.{ne-eqb}
 use lib.Dec.{T, eqb}
 use lib.Ieee.Fits.{and-l, and-r}
-use lib.ListN.{length}
 use Rattle.field.specs.declared.Aircraft as field
 use Rattle.field.specs.declared.Field.{Field}
 use Rattle.field.specs.Boxes.{isSide, everywhere, inZone}
 use Rattle.field.specs.Lists.{every}
-use Rattle.questions.specs.Counts.{haveFix, howMany, howManyWithFix, approachHolds, countedFor, potentialOf}
+use Rattle.questions.specs.Counts.{haveFix, howManyWithFix, approachHolds, countedFor, potentialOf}
 use Rattle.bounds.specs.Bounds.{fitsZone, withinBounds}
 use Rattle.order.specs.Model.{Side, right, left, num}
 use Rattle.field.proofs.Lists.{every-listed, zone-listed}
 use Rattle.laws.proofs.BoundLaws.{within-each}
 use Rattle.laws.proofs.Fits.{fits-parts}
 use Rattle.reason.proofs.Invariant.{parts}
-use Rattle.nasa.specs.Definitions.{Aircraft, Zone, holding3, holding2, lez, maz, base, intermediate, final, SCA, sameSide, assigned, approachAssigned, actual, virtual}
+use Rattle.nasa.specs.Definitions.{Aircraft, Zone, holding3, holding2, lez, maz, base, intermediate, final, sameSide, assigned, approachAssigned, virtual}
 use Rattle.nasa.specs.Rules.{zoneNumber}
 use Rattle.nasa.specs.Stands.{sideNamed, seen, stateOf}
 use Rattle.nasa.proofs.States.{zone-number}
 use Rattle.nasa.proofs.Heads.{how-many-in}
-use Rattle.nasa.proofs.Moves.{each-side}
 use Rattle.nasa.proofs.Missing.{side-cases}
 
 -- ---- a queue

@@ -1,51 +1,42 @@
 -- On any field within the bounds and with the reason, the request for a transition that leads on is accepted, as soon as its leg is flown out. Assumes nothing.
-use mathlib.Core.Path.{_≡_, refl, sym, ap, _∙_, subst}
-use mathlib.Core.Logic.{_≢_, _⊎_, inl, inr}
-use mathlib.Core.Bool.{Bool, true, false, cond, not, _&&_, _||_, true≢false}
+use mathlib.Core.Path.{_≡_, refl, sym, ap, _∙_}
+use mathlib.Core.Logic.{inl, inr}
+use mathlib.Core.Bool.{Bool, true, false, cond, not, _||_}
 use mathlib.Core.List.{List, [], _∷_, _++_, map}
-use Prim.Native.Nat.{ℕ, suc, _+_, _≤_, _<_}
+use Prim.Native.Nat.{ℕ, _≤_}
 use native.Mathlib.Omega.{arith}
-use borrow.Author.Tests.{eqb-true, eqb-false, eq-eqb, ne-eqb}
-use lib.Dec.{T, eqb, leb, ltb}
-use lib.Ieee.Fits.{and-l, and-r}
+use borrow.Author.Tests.{eq-eqb, ne-eqb}
+use lib.Dec.{T}
 use lib.ListN.{length, getD}
-use Rattle.leg.specs.Ticks.{Between}
-use Rattle.limits.specs.Limits.{fastest}
 use Rattle.request.specs.Input.{within, isEntry, isTick, firstRefused, inputNumber}
 use Rattle.request.specs.declared.Request.{Request}
 use Rattle.request.proofs.Tests as input
-use Rattle.request.proofs.ByKind.{Keeps, none-broken, move-allowed}
+use Rattle.request.proofs.ByKind.{move-allowed}
 use Rattle.field.specs.declared.Aircraft as field
 use Rattle.field.specs.declared.Field.{Field}
 use Rattle.questions.specs.declared.Place.{Place}
-use Rattle.field.specs.Boxes.{sideOf, at2000, lateral, missed, nobody, inZone, everywhere, legFlownOut}
+use Rattle.field.specs.Boxes.{nobody, inZone, everywhere}
 use Rattle.field.specs.Lists.{isIn}
-use Rattle.questions.specs.Counts.{howMany, isEmpty, approachHolds, potentialOf}
-use Rattle.questions.specs.Find.{placeOf, aircraftAt, numbersIn, isFirst}
+use Rattle.questions.specs.Find.{placeOf, aircraftAt}
 use Rattle.bounds.specs.Bounds.{withinBounds}
-use Rattle.rules.specs.Kinds.{placeBefore, zoneBefore, zoneAhead, startsFrom, absentChecks, headChecks, presenceChecks, verticalNeeds, lateralNeeds, mayApproach, mayMerge, baseFree}
+use Rattle.rules.specs.Kinds.{placeBefore, zoneBefore, zoneAhead, startsFrom, absentChecks, headChecks, presenceChecks}
 use Rattle.rules.specs.Step.{needsFor, checksOf, effectOf, numberOf, stepOf}
 use Rattle.rules.specs.Reason.{Sound}
-use Rattle.rules.specs.Cases.{ask}
-use Rattle.order.specs.Model.{Side, right, left, num}
 use Rattle.rules.proofs.Checks.{checks-at, refused-append, checks-refuse}
 use Rattle.rules.proofs.StepLaws.{number-is}
 use Rattle.rules.proofs.Refusals.{accepts}
-use Rattle.field.proofs.Tests.{decided, pass, passed, if-true, if-false, same}
+use Rattle.field.proofs.Tests.{decided, passed, if-true, if-false, same}
 use Rattle.field.proofs.Lists.{zone-listed}
 use Rattle.questions.proofs.FindLaws.{numbers, at, in-zones}
 use Rattle.reason.proofs.Reason.{neither-10-nor-25}
-use Rattle.nasa.specs.Definitions.{Aircraft, Zone, holding3, holding2, lez, maz, base, intermediate, final, runway, SCA, approachAssigned, virtual}
-use Rattle.nasa.specs.Rules.{Transition, when, forFirst, nobodyIn, zoneNumber, verticalEntry, lateralEntry, holdingPatternDescend, verticalApproachInitiation, lateralApproachInitiation, merging, exit, finalSegment, landing, taxing, missedApproach, lowestAvailableAltitude}
-use Rattle.nasa.specs.Stands.{sideNamed, seen, stateOf, sideBefore, Is}
+use Rattle.nasa.specs.Definitions.{Aircraft, Zone, SCA}
+use Rattle.nasa.specs.Rules.{when, forFirst, zoneNumber}
+use Rattle.nasa.specs.Stands.{seen, stateOf}
 use Rattle.nasa.specs.Steps.{transitionFor}
-use Rattle.nasa.specs.Enabled.{moveOf, newcomer, flownOutIn, Follows}
+use Rattle.nasa.specs.Enabled.{moveOf, Follows}
 use Rattle.nasa.proofs.States.{zone-number}
-use Rattle.nasa.proofs.Heads.{first-of, nobody-in, Heads}
-use Rattle.nasa.proofs.Moves.{each-side}
+use Rattle.nasa.proofs.Heads.{Heads}
 use Rattle.nasa.proofs.Asked.{not-zero}
-use Rattle.nasa.proofs.Approaching.{first-is, merges, initiates}
-use Rattle.nasa.proofs.Counts.{virtual-is, approach-is}
 use Rattle.nasa.proofs.Leaving.{found-head}
 use Rattle.nasa.proofs.Steps.{steps-as}
 

@@ -1,48 +1,44 @@
 -- Kinds 1 and 2, each of any field with its places: an accepted one is its transition. Assumes nothing.
 use mathlib.Core.Path.{_≡_, refl, sym, ap, _∙_, subst}
 use mathlib.Core.Logic.{_≢_, _⊎_, inl, inr}
-use mathlib.Core.Bool.{Bool, true, false, cond, not, _&&_, _||_, true≢false, or-true}
+use mathlib.Core.Bool.{Bool, true, false, cond, _&&_, _||_, true≢false}
 use mathlib.Core.List.{List, [], _∷_, _++_, map, map-append}
-use Prim.Native.Nat.{ℕ, suc, _+_, _-_, _≤_, _<_}
+use Prim.Native.Nat.{ℕ, suc, _+_, _<_}
 use native.Mathlib.Omega.{arith}
-use borrow.Author.Tests.{ne-eqb, eq-eqb, eqb-true, eqb-false, ltb-true}
+use borrow.Author.Tests.{eqb-true, eqb-false, ltb-true}
 use lib.Dec.{T, eqb, ltb}
 use lib.Ieee.Fits.{and-l, and-r}
 use lib.ListN.{length, length-append}
-use Rattle.leg.specs.Ticks.{Between}
 use Rattle.request.specs.Input.{within}
 use Rattle.request.specs.declared.Request.{Request}
-use Rattle.request.proofs.Tests as input
 use Rattle.field.specs.declared.Aircraft as field
 use Rattle.field.specs.declared.Sequence.{Sequence}
 use Rattle.field.specs.declared.Field.{Field}
-use Rattle.field.specs.Boxes.{isSide, opposite, at3000, lateral, missed, operation, everywhere, zoneOf, inZone, orderOf, orderLength, entering}
+use Rattle.field.specs.Boxes.{isSide, operation, everywhere, zoneOf, inZone, orderOf, orderLength, entering}
 use Rattle.field.specs.Lists.{isIn, every, allDifferent}
-use Rattle.field.specs.Edits.{before, appended, withTail, withZone, withSequence}
-use Rattle.questions.specs.Counts.{howMany, isEmpty, approachHolds, potentialOf}
+use Rattle.field.specs.Edits.{before, appended, withTail, withSequence}
+use Rattle.questions.specs.Counts.{howMany}
 use Rattle.questions.specs.Find.{numbersIn}
 use Rattle.numbers.specs.Numbers.{sequenceExact}
 use Rattle.bounds.specs.Bounds.{withinBounds}
 use Rattle.rules.specs.Kinds.{tailPut, fixTaken, entered}
-use Rattle.rules.specs.Step.{effectOf, numberOf}
-use Rattle.rules.specs.Reason.{hasPlaces}
-use Rattle.order.specs.Model.{Side, right, left, opp, num}
-use Rattle.field.proofs.Tests.{decided, pass, passed, failed, if-true, if-false, same, either-way}
-use Rattle.field.proofs.Lists.{every-listed, zone-listed, absent-left, in-right}
+use Rattle.order.specs.Model.{Side, opp, num}
+use Rattle.field.proofs.Tests.{decided, passed, if-true, if-false, same, either-way}
+use Rattle.field.proofs.Lists.{every-listed, absent-left, in-right}
 use Rattle.questions.proofs.Listed.{numbersAt, one-zone-more}
 use Rattle.questions.proofs.FindLaws.{numbers}
 use Rattle.laws.proofs.EditLaws.{Shaped, queue-put, queue-kept}
 use Rattle.laws.proofs.BoundLaws.{within-each, within-e}
 use Rattle.line.proofs.Counted.{not-13}
 use Rattle.reason.proofs.Invariant.{parts}
-use Rattle.nasa.specs.Definitions.{Aircraft, Zone, holding3, lez, maz, runway, SCA, aircraft}
+use Rattle.nasa.specs.Definitions.{Aircraft, Zone, aircraft}
 use Rattle.nasa.specs.Rules.{zoneNumber, put, add, withNext, enters}
-use Rattle.nasa.specs.Stands.{sideNamed, seen, stateOf, Is}
+use Rattle.nasa.specs.Stands.{sideNamed, seen, stateOf}
 use Rattle.nasa.proofs.States.{same-state, asSeen, zone-number}
 use Rattle.nasa.proofs.Moves.{each-side}
 use Rattle.nasa.proofs.Leaders.{one-less}
 use Rattle.nasa.proofs.Asked.{in-sequence}
-use Rattle.nasa.proofs.Sequences.{order-length, last-put, full-stays, before-kept, before-last, seen-kept}
+use Rattle.nasa.proofs.Sequences.{last-put, full-stays, before-kept, before-last, seen-kept}
 use Rattle.nasa.proofs.Missing.{opposite-named, either-named}
 use Rattle.nasa.proofs.Landed.{operating}
 

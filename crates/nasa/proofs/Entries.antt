@@ -1,9 +1,9 @@
 -- Kinds 1 and 2, each of any field with its places: an accepted one is its transition. Assumes nothing.
 use mathlib.Core.Path.{_≡_, refl, sym, ap, _∙_, subst}
-use mathlib.Core.Logic.{_≢_, _⊎_, inl, inr}
-use mathlib.Core.Bool.{Bool, true, false, cond, not, _&&_, _||_, true≢false}
-use mathlib.Core.List.{List, [], _∷_, _++_, map}
-use Prim.Native.Nat.{ℕ, suc, _+_, _≤_, _<_}
+use mathlib.Core.Logic.{_≢_, inl, inr}
+use mathlib.Core.Bool.{Bool, true, false, not, _&&_, true≢false}
+use mathlib.Core.List.{List, [], _∷_, _++_}
+use Prim.Native.Nat.{ℕ, _≤_, _<_}
 use native.Mathlib.Omega.{arith}
 use borrow.Author.Tests.{eqb-true, eqb-false, eq-eqb}
 use lib.Dec.{T, eqb, ltb}
@@ -31,15 +31,15 @@ use Rattle.rules.proofs.Checks.{checks-at, effect-at}
 use Rattle.rules.proofs.StepLaws.{number-is, field-accepted}
 use Rattle.rules.proofs.Refusals.{passes}
 use Rattle.field.proofs.Tests.{decided, pass, passed, if-true, if-false}
-use Rattle.questions.proofs.FindLaws.{at, found-exactly}
+use Rattle.questions.proofs.FindLaws.{found-exactly}
 use Rattle.laws.proofs.EditLaws.{Shaped}
 use Rattle.moves.proofs.EnterAbove.{enters-empty}
 use Rattle.descent.specs.Entry.{descendBefore, descendedBefore, InTwoSteps}
 use Rattle.descent.proofs.Descent.{alone-above, found-above}
 use Rattle.descent.proofs.Entry.{in-two-steps}
-use Rattle.nasa.specs.Definitions.{Aircraft, Zone, holding3, holding2, lez, maz, SCA, approachAssigned, virtual}
-use Rattle.nasa.specs.Rules.{Transition, inTurn, when, nobodyIn, zoneNumber, enters, verticalEntry, lateralEntry, holdingPatternDescend}
-use Rattle.nasa.specs.Stands.{sideNamed, seen, stateOf, sideBefore, entryAbove, Is}
+use Rattle.nasa.specs.Definitions.{Aircraft, holding3, holding2, lez, maz, SCA, approachAssigned, virtual}
+use Rattle.nasa.specs.Rules.{nobodyIn, zoneNumber, enters, verticalEntry, lateralEntry, holdingPatternDescend}
+use Rattle.nasa.specs.Stands.{sideNamed, stateOf, sideBefore, entryAbove, Is}
 use Rattle.nasa.proofs.States.{zone-number, moved-shaped, put-here}
 use Rattle.nasa.proofs.Heads.{has-room, nobody-in, bounded, shape}
 use Rattle.nasa.proofs.Moves.{leads, each-side, descend-is}

@@ -1,14 +1,13 @@
 -- Each transition that leads on from the state of a field within the bounds and with the reason: its request is accepted, and leads to the same state. Assumes
 -- nothing.
 use mathlib.Core.Path.{_≡_, refl, sym, ap, _∙_, subst}
-use mathlib.Core.Bool.{Bool, true, false, cond, not, _&&_, _||_, or-true}
-use mathlib.Core.List.{List, [], _∷_, _++_, map}
-use Prim.Native.Nat.{ℕ, suc, _+_, _≤_, _<_}
+use mathlib.Core.Bool.{Bool, true, false, not, _&&_, _||_, or-true}
+use mathlib.Core.List.{[], _∷_, _++_}
+use Prim.Native.Nat.{ℕ, _≤_}
 use native.Mathlib.Omega.{arith}
 use lib.Dec.{T, eqb, ltb}
 use Rattle.limits.specs.Limits.{fastest}
 use Rattle.request.specs.Input.{within, firstRefused, inputNumber}
-use Rattle.request.specs.declared.Request.{Request}
 use Rattle.request.proofs.Tests as input
 use Rattle.request.proofs.ByKind.{Keeps, none-broken}
 use Rattle.request.proofs.Rules.{rule-of-entry}
@@ -17,23 +16,21 @@ use Rattle.field.specs.Boxes.{sideOf, at2000, lateral, missed, legFlownOut}
 use Rattle.questions.specs.Counts.{isEmpty, approachHolds, potentialOf}
 use Rattle.questions.specs.Find.{placeOf, aircraftAt, isFirst}
 use Rattle.rules.specs.Kinds.{placeBefore, zoneBefore, zoneAhead, startsFrom, absentChecks, verticalNeeds, lateralNeeds, mayApproach, mayMerge, baseFree}
-use Rattle.rules.specs.Step.{numberOf}
 use Rattle.rules.specs.Reason.{Sound}
 use Rattle.rules.specs.Cases.{ask}
-use Rattle.order.specs.Model.{Side, right, left, num}
+use Rattle.order.specs.Model.{Side, num}
 use Rattle.rules.proofs.Checks.{checks-at}
 use Rattle.field.proofs.Tests.{passed, if-true, if-false}
-use Rattle.questions.proofs.FindLaws.{at}
-use Rattle.nasa.specs.Definitions.{Aircraft, Zone, holding3, holding2, lez, maz, base, intermediate, final, runway, SCA, approachAssigned, virtual}
+use Rattle.nasa.specs.Definitions.{Zone, holding3, holding2, lez, maz, base, intermediate, final, runway, SCA, approachAssigned, virtual}
 use Rattle.nasa.specs.Definitions as model
 use Rattle.nasa.specs.Rules.{Transition, nobodyIn, zoneNumber, mayInitiate, verticalEntry, lateralEntry, holdingPatternDescend, verticalApproachInitiation, lateralApproachInitiation, merging, exit, finalSegment, landing, taxing, missedApproach, lowestAvailableAltitude}
-use Rattle.nasa.specs.Stands.{sideNamed, seen, stateOf, sideBefore, entryAbove}
-use Rattle.nasa.specs.Enabled.{Name, vertically, laterally, descends, initiates, initiatesLateral, merges, holds, exits, goesFinal, lands, taxies, misses, transition, moveOf, requestFor, newcomer, flownOutIn, ready, Follows, Enabled}
-use Rattle.nasa.proofs.Heads.{first-of, nobody-in, Heads}
+use Rattle.nasa.specs.Stands.{sideNamed, seen, stateOf, entryAbove}
+use Rattle.nasa.specs.Enabled.{vertically, laterally, descends, initiates, initiatesLateral, merges, holds, exits, goesFinal, lands, taxies, misses, moveOf, newcomer, Follows, Enabled}
+use Rattle.nasa.proofs.Heads.{first-of, nobody-in}
 use Rattle.nasa.proofs.Moves.{each-side}
 use Rattle.nasa.proofs.Approaching as asked
 use Rattle.nasa.proofs.Counts.{virtual-is, approach-is}
-use Rattle.nasa.proofs.Enabled.{tested, First, somebody, accepted-by, follows, found, zone-is, head, moves-on}
+use Rattle.nasa.proofs.Enabled.{tested, somebody, accepted-by, follows, zone-is, head, moves-on}
 
 module _ (f : Field) (S : Sound f) where
   abbrev State : SCA

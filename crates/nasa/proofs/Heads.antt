@@ -1,7 +1,7 @@
 -- What an accepted request tells of the field: where its aircraft is, and the queue there. Assumes nothing.
 use mathlib.Core.Path.{_≡_, refl, sym, ap, _∙_, subst}
 use mathlib.Core.Logic.{_≢_, _⊎_, inl, inr}
-use mathlib.Core.Bool.{Bool, true, false, cond, not, _&&_, _||_, true≢false}
+use mathlib.Core.Bool.{Bool, true, false, cond, not, _||_, true≢false}
 use mathlib.Core.List.{List, [], _∷_, _++_, map}
 use Prim.Native.Nat.{ℕ, suc, _+_, _≤_, _<_}
 use native.Mathlib.Omega.{arith}
@@ -9,7 +9,6 @@ use borrow.Author.Tests.{eqb-true, eqb-false}
 use lib.Dec.{T, eqb, leb, leb→le}
 use lib.Ieee.Fits.{and-l}
 use lib.ListN.{length, getD, length-map}
-use Rattle.leg.specs.Ticks.{Between}
 use Rattle.request.specs.Input.{within, isEntry, isTick, firstRefused}
 use Rattle.request.specs.declared.Request.{Request}
 use Rattle.request.proofs.Tests as input
@@ -19,16 +18,15 @@ use Rattle.questions.specs.declared.Place.{Place}
 use Rattle.field.specs.Boxes.{nobody, inZone, operation, everywhere}
 use Rattle.field.specs.Lists.{isIn}
 use Rattle.questions.specs.Counts.{total, howMany, isEmpty, inOperation}
-use Rattle.questions.specs.Find.{placeOf, aircraftAt, numbersIn}
+use Rattle.questions.specs.Find.{aircraftAt, numbersIn}
 use Rattle.bounds.specs.Bounds.{boundA, withinBounds}
-use Rattle.rules.specs.Kinds.{placeBefore, zoneBefore, startsFrom, absentChecks, headChecks, presenceChecks}
+use Rattle.rules.specs.Kinds.{placeBefore, zoneBefore, absentChecks, headChecks, presenceChecks}
 use Rattle.rules.specs.Step.{numberOf}
 use Rattle.rules.specs.Reason.{hasPlaces}
 use Rattle.order.specs.Model.{Side, right, left}
 use Rattle.rules.proofs.Checks.{HeadPassed, besides, checks-at, head-passed}
 use Rattle.rules.proofs.Refusals.{passes}
-use Rattle.field.proofs.Tests.{decided, pass, if-true, if-false, each-operation}
-use Rattle.field.proofs.Lists.{zone-listed}
+use Rattle.field.proofs.Tests.{decided, pass, if-false, each-operation}
 use Rattle.questions.proofs.FindLaws.{at, found-exactly, found-there}
 use Rattle.laws.proofs.EditLaws.{Shaped}
 use Rattle.laws.proofs.BoundLaws.{within-each}

@@ -1,9 +1,9 @@
 -- Kind 11, of any field with its places: an accepted one is its transition. Assumes nothing.
 use mathlib.Core.Path.{_≡_, refl, sym, ap, _∙_, subst}
 use mathlib.Core.Logic.{_≢_, _⊎_, inl, inr}
-use mathlib.Core.Bool.{Bool, true, false, cond, not, _&&_}
-use mathlib.Core.List.{List, [], _∷_, _++_, map}
-use Prim.Native.Nat.{ℕ, suc, _+_, _≤_, _<_}
+use mathlib.Core.Bool.{true, false, not, _&&_}
+use mathlib.Core.List.{List, [], _∷_, map}
+use Prim.Native.Nat.{ℕ, _≤_, _<_}
 use native.Mathlib.Omega.{arith}
 use borrow.Author.Tests.{eqb-false}
 use lib.Dec.{T, eqb}
@@ -25,7 +25,7 @@ use Rattle.rules.proofs.Checks.{effect-at}
 use Rattle.field.proofs.Tests.{decided, failed, if-true, if-false}
 use Rattle.laws.proofs.EditLaws.{Shaped}
 use Rattle.nasa.specs.Definitions.{Aircraft, Zone, holding3, holding2, maz, SCA}
-use Rattle.nasa.specs.Rules.{Transition, forFirst, nobodyIn, zoneNumber, put, add, lowestAvailableAltitude}
+use Rattle.nasa.specs.Rules.{zoneNumber, put, add, lowestAvailableAltitude}
 use Rattle.nasa.specs.Stands.{sideNamed, seen, stateOf, sideBefore, Is}
 use Rattle.nasa.proofs.States.{zone-number, moved-shaped, put-here, put-elsewhere, moved-state}
 use Rattle.nasa.proofs.Heads.{has-room, of-side, first-of, nobody-in, Heads, bounded, shape, heading, heads}

@@ -1,28 +1,25 @@
 -- Kinds 7 and 9, each of any field with its places: an accepted one is its transition. Assumes nothing.
 use mathlib.Core.Path.{_≡_, refl, sym, ap, _∙_, subst}
 use mathlib.Core.Logic.{_≢_, _⊎_, inl, inr}
-use mathlib.Core.Bool.{Bool, true, false, cond, not, _||_, true≢false}
-use mathlib.Core.List.{List, [], _∷_, _++_, map, map-append}
-use Prim.Native.Nat.{ℕ, suc, _+_, _-_, _≤_, _<_}
+use mathlib.Core.Bool.{Bool, true, false, cond, _||_, true≢false}
+use mathlib.Core.List.{List, [], _∷_, _++_, map}
+use Prim.Native.Nat.{ℕ, suc, _-_, _<_}
 use native.Mathlib.Omega.{arith}
 use borrow.Author.Tests.{ne-eqb, eq-eqb, eqb-true, eqb-false}
 use lib.Dec.{T, eqb}
-use lib.ListN.{length, drop}
-use Rattle.leg.specs.Ticks.{Between}
+use lib.ListN.{length}
 use Rattle.request.specs.Input.{within}
 use Rattle.request.specs.declared.Request.{Request}
 use Rattle.request.proofs.Tests as input
 use Rattle.field.specs.declared.Aircraft as field
-use Rattle.field.specs.declared.Sequence.{Sequence}
 use Rattle.field.specs.declared.Field.{Field}
 use Rattle.field.specs.Boxes.{zoneOf, inZone, orderOf, orderLength, arrived, onLeg}
 use Rattle.field.specs.Lists.{isIn}
 use Rattle.field.specs.Edits.{before, removed, withZone, withSequence}
 use Rattle.questions.specs.Counts.{howMany, isEmpty}
 use Rattle.questions.specs.Find.{aircraftAt, isFirst}
-use Rattle.bounds.specs.Bounds.{withinBounds}
 use Rattle.rules.specs.Kinds.{zoneBefore, startsFrom, flownOutCheck, headGone, tailPut, moved, outOfSequence, landed, exited}
-use Rattle.rules.specs.Step.{effectOf, numberOf}
+use Rattle.rules.specs.Step.{numberOf}
 use Rattle.rules.specs.Reason.{hasPlaces}
 use Rattle.rules.proofs.Checks.{effect-at, first-passes}
 use Rattle.field.proofs.Tests.{decided, pass, if-true, if-false, same}
@@ -33,7 +30,7 @@ use Rattle.nasa.specs.Definitions.{Aircraft, Zone, intermediate, final, 
 use Rattle.nasa.specs.Rules.{zoneNumber, sameZone, put, add, withNext, decreased, lowered, exit, landing}
 use Rattle.nasa.specs.Stands.{sideNamed, seen, stateOf, Is}
 use Rattle.nasa.proofs.States.{same-state, asSeen, zone-number, gone-here, gone-there, head-first, put-there, put-here, put-elsewhere}
-use Rattle.nasa.proofs.Heads.{only-zone, first-of, nobody-in, Heads, bounded, shape, heading, heads}
+use Rattle.nasa.proofs.Heads.{only-zone, first-of, nobody-in, bounded, shape, heading, heads}
 use Rattle.nasa.proofs.Moves.{leads}
 use Rattle.nasa.proofs.Approaching.{first-is}
 use Rattle.nasa.proofs.Sequences.{first-left}

@@ -1,13 +1,13 @@
 -- The first of the landing sequence leaves it, on any field within the bounds: everyone else's sequence number is lowered by one. Assumes nothing.
 use mathlib.Core.Path.{_≡_, refl, sym, ap, _∙_, subst}
 use mathlib.Core.Logic.{_≢_, _⊎_, inl, inr}
-use mathlib.Core.Bool.{Bool, true, false, cond, not, _&&_, _||_, true≢false, or-true}
+use mathlib.Core.Bool.{Bool, true, false, not, _||_, true≢false, or-true}
 use mathlib.Core.List.{List, [], _∷_, _++_, map}
-use Prim.Native.Nat.{ℕ, suc, _+_, _-_, _≤_, _<_}
+use Prim.Native.Nat.{ℕ, suc, _≤_}
 use native.Mathlib.Omega.{arith}
-use borrow.Author.Tests.{ne-eqb, eqb-true, eqb-false}
-use lib.Dec.{T, eqb, leb}
-use lib.Ieee.Fits.{and-l, and-r}
+use borrow.Author.Tests.{ne-eqb, eqb-true}
+use lib.Dec.{T, eqb}
+use lib.Ieee.Fits.{and-l}
 use lib.ListN.{length, getD}
 use Rattle.leg.specs.Ticks.{Between}
 use Rattle.request.specs.Input.{within}
@@ -19,17 +19,17 @@ use Rattle.questions.specs.declared.Place.{Place}
 use Rattle.field.specs.Boxes.{nobody, inZone, orderOf, everywhere}
 use Rattle.field.specs.Lists.{isIn, allDifferent}
 use Rattle.field.specs.Edits.{before}
-use Rattle.questions.specs.Counts.{howMany, isEmpty}
+use Rattle.questions.specs.Counts.{howMany}
 use Rattle.questions.specs.Find.{placeOf, aircraftAt, numbersIn, isHead, isFirst}
 use Rattle.bounds.specs.Bounds.{finalFirst, withinBounds}
-use Rattle.field.proofs.Tests.{decided, passed, failed, same}
+use Rattle.field.proofs.Tests.{decided, passed, failed}
 use Rattle.field.proofs.Lists.{absent-left, different-right, zone-listed}
 use Rattle.questions.proofs.Listed.{numbersAt}
 use Rattle.questions.proofs.FindLaws.{numbers, at, own-place}
 use Rattle.laws.proofs.BoundLaws.{within-e, numbers-different}
 use Rattle.line.proofs.Counted.{lower, not-13}
 use Rattle.nasa.specs.Definitions.{Aircraft, decrease}
-use Rattle.nasa.specs.Stands.{seen, stateOf}
+use Rattle.nasa.specs.Stands.{seen}
 use Rattle.nasa.proofs.Asked.{in-sequence, in-its-zone}
 use Rattle.nasa.proofs.Sequences.{seen-lowered}
 

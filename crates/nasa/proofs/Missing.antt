@@ -1,9 +1,9 @@
 -- Kind 10, of any field with its places: an accepted one is its transition. Assumes nothing.
 use mathlib.Core.Path.{_≡_, refl, sym, ap, _∙_, subst}
 use mathlib.Core.Logic.{_≢_, _⊎_, inl, inr}
-use mathlib.Core.Bool.{Bool, true, false, cond, not, _&&_, _||_, true≢false}
+use mathlib.Core.Bool.{Bool, true, false, cond, not, _||_}
 use mathlib.Core.List.{List, [], _∷_, _++_, map, map-append}
-use Prim.Native.Nat.{ℕ, suc, _+_, _-_, _≤_, _<_}
+use Prim.Native.Nat.{ℕ, suc, _-_, _≤_, _<_}
 use native.Mathlib.Omega.{arith}
 use borrow.Author.Tests.{ne-eqb, eqb-true, eqb-false}
 use lib.Dec.{T, eqb, eqb→eq}
@@ -14,21 +14,19 @@ use Rattle.request.specs.Input.{within}
 use Rattle.request.specs.declared.Request.{Request}
 use Rattle.request.proofs.Tests as input
 use Rattle.field.specs.declared.Aircraft as field
-use Rattle.field.specs.declared.Sequence.{Sequence}
 use Rattle.field.specs.declared.Field.{Field}
 use Rattle.field.specs.Boxes.{isSide, opposite, missed, everywhere, zoneOf, inZone, orderOf, orderLength, turnedAway, onLeg, withFix}
 use Rattle.field.specs.Lists.{isIn, every, allDifferent}
-use Rattle.field.specs.Edits.{before, appended, removed, withZone, withSequence}
+use Rattle.field.specs.Edits.{before, appended, removed, withSequence}
 use Rattle.questions.specs.Counts.{howMany}
-use Rattle.questions.specs.Find.{aircraftAt}
 use Rattle.bounds.specs.Bounds.{fitsZone, withinBounds}
 use Rattle.rules.specs.Kinds.{zoneBefore, startsFrom, headGone, tailPut, fixAfterMiss}
 use Rattle.rules.specs.Kinds as rules
-use Rattle.rules.specs.Step.{effectOf, numberOf}
+use Rattle.rules.specs.Step.{numberOf}
 use Rattle.rules.specs.Reason.{hasPlaces}
-use Rattle.order.specs.Model.{Side, right, left, opp}
+use Rattle.order.specs.Model.{Side, left, opp}
 use Rattle.rules.proofs.Checks.{effect-at}
-use Rattle.field.proofs.Tests.{decided, pass, passed, failed, if-true, if-false, same, either-way}
+use Rattle.field.proofs.Tests.{decided, passed, failed, if-true, if-false, either-way}
 use Rattle.field.proofs.Lists.{every-listed, zone-listed}
 use Rattle.laws.proofs.BoundLaws.{within-each}
 use Rattle.laws.proofs.Fits.{fits-parts}
@@ -38,7 +36,7 @@ use Rattle.nasa.specs.Definitions.{Aircraft, Zone, maz, final, runway, S
 use Rattle.nasa.specs.Rules.{zoneNumber, sameZone, put, add, withNext, decreased, missedApproach}
 use Rattle.nasa.specs.Stands.{sideNamed, seen, stateOf, Is}
 use Rattle.nasa.proofs.States.{same-state, asSeen, zone-number, head-first, put-there, put-here, put-elsewhere}
-use Rattle.nasa.proofs.Heads.{has-room, only-zone, first-of, Heads, bounded, shape, heading, heads}
+use Rattle.nasa.proofs.Heads.{has-room, only-zone, first-of, bounded, shape, heading, heads}
 use Rattle.nasa.proofs.Moves.{leads}
 use Rattle.nasa.proofs.Asked.{sequence-different}
 use Rattle.nasa.proofs.Sequences.{order-length, first-left, shaped-left, last-put, before-kept, before-last}

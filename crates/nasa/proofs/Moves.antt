@@ -1,32 +1,28 @@
 -- Kinds 3, 6 and 8, each of any field with its places: an accepted one is its transition. Assumes nothing.
 use mathlib.Core.Path.{_≡_, refl, sym, ap, _∙_, subst}
-use mathlib.Core.Logic.{_≢_}
-use mathlib.Core.Bool.{Bool, true, false, cond, not, _&&_}
-use mathlib.Core.List.{List, [], _∷_, _++_, map}
-use Prim.Native.Nat.{ℕ, suc, _+_, _≤_, _<_}
+use mathlib.Core.Bool.{Bool, true, not, _&&_}
+use mathlib.Core.List.{[], _∷_, map}
+use Prim.Native.Nat.{ℕ, _≤_}
 use native.Mathlib.Omega.{arith}
 use borrow.Author.Tests.{eqb-false}
 use lib.Dec.{T, eqb}
 use lib.Ieee.Fits.{and-l, and-r}
 use lib.ListN.{length}
-use Rattle.leg.specs.Ticks.{Between}
 use Rattle.request.specs.Input.{within}
 use Rattle.request.specs.declared.Request.{Request}
-use Rattle.request.proofs.Tests as input
-use Rattle.field.specs.declared.Aircraft as field
 use Rattle.field.specs.declared.Field.{Field}
 use Rattle.field.specs.Boxes.{sideOf, at2000, inZone}
 use Rattle.questions.specs.Counts.{howMany, isEmpty}
 use Rattle.rules.specs.Kinds.{zoneBefore, startsFrom, headGone, moved}
-use Rattle.rules.specs.Step.{effectOf, numberOf, stepOf}
+use Rattle.rules.specs.Step.{effectOf, numberOf}
 use Rattle.rules.specs.Reason.{hasPlaces}
 use Rattle.order.specs.Model.{Side, right, left}
 use Rattle.rules.proofs.Checks.{effect-at, first-passes}
 use Rattle.rules.proofs.StepLaws.{field-accepted}
-use Rattle.field.proofs.Tests.{failed, if-true, if-false, same}
+use Rattle.field.proofs.Tests.{failed, if-true}
 use Rattle.line.proofs.Counted.{not-13}
-use Rattle.nasa.specs.Definitions.{Aircraft, Zone, holding3, holding2, lez, maz, base, intermediate, final, runway, SCA}
-use Rattle.nasa.specs.Rules.{Transition, when, nobodyIn, zoneNumber, put, add, holdingPatternDescend, finalSegment, taxing}
+use Rattle.nasa.specs.Definitions.{Zone, holding3, holding2, intermediate, final, runway, SCA}
+use Rattle.nasa.specs.Rules.{Transition, zoneNumber, put, add, holdingPatternDescend, finalSegment, taxing}
 use Rattle.nasa.specs.Stands.{sideNamed, seen, stateOf, sideBefore, Is}
 use Rattle.nasa.proofs.States.{gone-state, moved-state}
 use Rattle.nasa.proofs.Heads.{has-room, of-side, only-zone, first-of, nobody-in, Heads, bounded, shape, heading, heads}

@@ -4,7 +4,7 @@ use mathlib.Core.Path.{_≡_, refl, sym, ap, _∙_, fun-ext}
 use mathlib.Core.Logic.{_≢_, _⊎_, inl, inr}
 use mathlib.Core.Bool.{Bool, true, false, cond}
 use mathlib.Core.List.{List, [], _∷_, _++_, map, map-append}
-use Prim.Native.Nat.{ℕ, suc, _≤_, _<_}
+use Prim.Native.Nat.{ℕ, suc, _<_}
 use native.Mathlib.Omega.{arith}
 use borrow.Author.Tests.{ne-eqb, eqb-true, eqb-false}
 use lib.Dec.{eqb}
@@ -17,8 +17,8 @@ use Rattle.field.specs.Edits.{before, withoutHead, withTail, withZone}
 use Rattle.questions.specs.Counts.{howMany}
 use Rattle.questions.specs.Find.{aircraftAt}
 use Rattle.rules.specs.Kinds.{headGone, tailPut, moved}
-use Rattle.order.specs.Model.{Side, right, left}
-use Rattle.field.proofs.Tests.{decided, if-true, if-false, same}
+use Rattle.order.specs.Model.{right, left}
+use Rattle.field.proofs.Tests.{decided, if-true, if-false}
 use Rattle.laws.proofs.EditLaws.{Shaped, shaped-without-head, shaped-with-tail, shaped-with-zone, queue-kept, queue-taken, queue-put}
 use Rattle.nasa.specs.Definitions.{Aircraft, Zone, holding3, holding2, lez, maz, base, intermediate, final, runway, SCA}
 use Rattle.nasa.specs.Rules.{zoneNumber, put, add}

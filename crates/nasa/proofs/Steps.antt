@@ -13,14 +13,14 @@ use Rattle.field.specs.declared.Field.{Field}
 use Rattle.field.specs.Boxes.{inZone, orderOf}
 use Rattle.field.specs.Edits.{before}
 use Rattle.tick.specs.Tick.{ticked}
-use Rattle.rules.specs.Step.{numberOf, stepOf}
+use Rattle.rules.specs.Step.{numberOf}
 use Rattle.rules.specs.Reason.{hasPlaces}
 use Rattle.rules.proofs.Checks.{effect-at}
 use Rattle.rules.proofs.StepLaws.{number-is, field-refused}
 use Rattle.rules.proofs.Refusals.{passes}
 use Rattle.field.proofs.Tests.{each-from}
 use Rattle.laws.proofs.TickLaws.{tickedAt, number-kept, fix-kept, queue-ticked}
-use Rattle.nasa.specs.Definitions.{Aircraft, Zone, SCA}
+use Rattle.nasa.specs.Definitions.{Aircraft}
 use Rattle.nasa.specs.Rules.{zoneNumber}
 use Rattle.nasa.specs.Stands.{seen, stateOf, Is}
 use Rattle.nasa.specs.Steps.{stays, transitionFor, transitionOf, StepsAs}

@@ -1,8 +1,8 @@
 -- NASA/TM-2004-213006, appendix, "Definitions": its landing part, in its terms and its order. Identification numbers and the number of the rule are for
 -- printing there, and are left out; so are departures, which document 01 leaves to others.
 use mathlib.Core.Bool.{Bool, true, false, cond, not, _||_}
-use mathlib.Core.List.{List, [], _∷_, _++_}
-use Prim.Native.Nat.{ℕ, suc, _+_, _-_}
+use mathlib.Core.List.{List, [], _∷_}
+use Prim.Native.Nat.{ℕ, _+_, _-_}
 use lib.Dec.{eqb}
 use lib.ListN.{length}
 use Rattle.order.specs.Model.{Side, right, left, opp}

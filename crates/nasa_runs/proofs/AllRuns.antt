@@ -1,21 +1,21 @@
 -- Every state that NASA's transitions reach from the empty one is the state of the field after a list of requests, from an empty field with any legal legs.
 -- Assumes nothing.
 use mathlib.Core.Path.{_≡_, refl, sym, ap, _∙_, subst}
-use mathlib.Core.Bool.{Bool, true, not, _&&_}
+use mathlib.Core.Bool.{true, not, _&&_}
 use mathlib.Core.List.{List, [], _∷_, _++_}
-use Prim.Native.Nat.{ℕ, zero, suc, _+_, _≤_, _<_}
+use Prim.Native.Nat.{ℕ, zero, suc}
 use native.Mathlib.Omega.{arith}
 use lib.Dec.{T, eqb}
 use lib.Ieee.Fits.{and-i, and-l}
 use lib.ListN.{getD}
-use Rattle.limits.specs.Limits.{longestTick, mostTicks, fastest}
+use Rattle.limits.specs.Limits.{longestTick, mostTicks}
 use Rattle.request.specs.Input.{within}
 use Rattle.request.specs.declared.Request.{Request}
 use Rattle.request.proofs.Tests as input
 use Rattle.field.specs.declared.Aircraft as field
 use Rattle.field.specs.declared.Legs.{Legs}
 use Rattle.field.specs.declared.Field.{Field}
-use Rattle.field.specs.Boxes.{nobody, emptyField, inZone, legFlownOut, zonesFrom}
+use Rattle.field.specs.Boxes.{nobody, emptyField, inZone, legFlownOut}
 use Rattle.field.specs.Lists.{every}
 use Rattle.questions.specs.Find.{placeOf, aircraftAt}
 use Rattle.bounds.specs.Bounds.{legalLegs}
@@ -23,7 +23,6 @@ use Rattle.tick.specs.Tick.{ticked}
 use Rattle.rules.specs.Step.{stepOf}
 use Rattle.rules.specs.Play.{fieldAfter}
 use Rattle.rules.specs.Reason.{Sound}
-use Rattle.order.specs.Model.{Side, right, left}
 use Rattle.demand.specs.Demand.{allFlownOut}
 use Rattle.rules.proofs.Checks.{effect-at}
 use Rattle.rules.proofs.StepLaws.{field-accepted}
@@ -37,14 +36,14 @@ use Rattle.nasa.specs.Definitions.{Zone, maz, base, intermediate, final, SCA}
 use Rattle.nasa.specs.Rules.{zoneNumber, merging, exit, finalSegment, landing, lowestAvailableAltitude}
 use Rattle.nasa.specs.Stands.{stateOf}
 use Rattle.nasa.specs.Enabled.{Name, vertically, laterally, descends, initiates, initiatesLateral, merges, holds, exits, goesFinal, lands, taxies, misses, transition, requestFor, newcomer, flownOutIn, ready}
-use Rattle.nasa.specs.Runs.{Reached, start, onward}
+use Rattle.nasa.specs.Runs.{start, onward}
 use Rattle.nasa.proofs.Moves.{each-side}
 use Rattle.nasa.proofs.Steps.{ticked-state}
 use Rattle.nasa.proofs.Enabled.{First, somebody}
 use Rattle.nasa.proofs.Followed.{enabled}
 use Rattle.nasa.proofs.Runs.{empty-state}
 use Rattle.nasa_runs.specs.AllRuns.{Comes, AllRuns}
-use Rattle.nasa_runs.proofs.Fresh.{Free, new-number, not-found}
+use Rattle.nasa_runs.proofs.Fresh.{new-number, not-found}
 
 -- one list after another
 after-both : (f : Field) (xs ys : List Request) → fieldAfter f (xs ++ ys) ≡ fieldAfter (fieldAfter f xs) ys
