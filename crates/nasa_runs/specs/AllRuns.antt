@@ -1,0 +1,18 @@
+-- Every state that NASA's transitions reach is the state of a field that requests reach.
+use mathlib.Core.Path.{_≡_}
+use mathlib.Core.List.{List}
+use Rattle.request.specs.declared.Request.{Request}
+use Rattle.field.specs.declared.Legs.{Legs}
+use Rattle.field.specs.Boxes.{emptyField}
+use Rattle.rules.specs.Play.{fieldAfter}
+use Rattle.nasa.specs.Definitions.{SCA}
+use Rattle.nasa.specs.Stands.{stateOf}
+use Rattle.nasa.specs.Runs.{Reached}
+
+-- a list of requests after which the field, from the empty one, stands for a state
+pub record Comes (legs : Legs) (s : SCA) : Type 0 where
+  pub requests : List Request
+  pub there : stateOf (fieldAfter (emptyField legs) requests) ≡ s
+
+abbrev pub AllRuns : Legs → Type 0
+AllRuns legs = (s : SCA) → Reached s → Comes legs s
