@@ -1,5 +1,5 @@
 -- On any field within the bounds and with the reason, the request for a transition that leads on is accepted, as soon as its leg is flown out. Assumes nothing.
-use mathlib.Core.Path.{_≡_, refl, sym, ap, _∙_}
+use mathlib.Core.Path.{_≡_, refl, sym, ap, _∙_, subst}
 use mathlib.Core.Logic.{inl, inr}
 use mathlib.Core.Bool.{Bool, true, false, cond, not, _||_}
 use mathlib.Core.List.{List, [], _∷_, _++_, map}
@@ -7,27 +7,30 @@ use Prim.Native.Nat.{ℕ, _≤_}
 use native.Mathlib.Omega.{arith}
 use borrow.Author.Tests.{eq-eqb, ne-eqb}
 use lib.Dec.{T}
+use lib.Ieee.Fits.{and-l}
 use lib.ListN.{length, getD}
 use Rattle.request.specs.Input.{within, isEntry, isTick, firstRefused, inputNumber}
 use Rattle.request.specs.declared.Request.{Request}
 use Rattle.request.proofs.Tests as input
-use Rattle.request.proofs.ByKind.{move-allowed}
+use Rattle.request.proofs.ByKind.{DeskKnown, move-allowed}
 use Rattle.field.specs.declared.Aircraft as field
 use Rattle.field.specs.declared.Field.{Field}
 use Rattle.questions.specs.declared.Place.{Place}
 use Rattle.field.specs.Boxes.{nobody, inZone, everywhere}
-use Rattle.field.specs.Lists.{isIn}
+use Rattle.field.specs.Lists.{isIn, every}
 use Rattle.questions.specs.Find.{placeOf, aircraftAt}
-use Rattle.bounds.specs.Bounds.{withinBounds}
-use Rattle.rules.specs.Kinds.{placeBefore, zoneBefore, zoneAhead, startsFrom, absentChecks, headChecks, presenceChecks}
+use Rattle.bounds.specs.Bounds.{fitsZone, withinBounds}
+use Rattle.rules.specs.Kinds.{placeBefore, zoneBefore, zoneAhead, startsFrom, belongsTo, absentChecks, headChecks, presenceChecks}
 use Rattle.rules.specs.Step.{needsFor, checksOf, effectOf, numberOf, stepOf}
 use Rattle.rules.specs.Reason.{Sound}
-use Rattle.rules.proofs.Checks.{checks-at, refused-append, checks-refuse}
+use Rattle.rules.proofs.Checks.{checks-at, owned, refused-append, checks-refuse}
 use Rattle.rules.proofs.StepLaws.{number-is}
 use Rattle.rules.proofs.Refusals.{accepts}
 use Rattle.field.proofs.Tests.{decided, passed, if-true, if-false, same}
 use Rattle.field.proofs.Lists.{zone-listed}
 use Rattle.questions.proofs.FindLaws.{numbers, at, in-zones}
+use Rattle.laws.proofs.Fits.{all-fit, fits-parts}
+use Rattle.laws.proofs.BoundLaws.{within-each}
 use Rattle.reason.proofs.Reason.{neither-10-nor-25}
 use Rattle.nasa.specs.Definitions.{Aircraft, Zone, SCA}
 use Rattle.nasa.specs.Rules.{when, forFirst, zoneNumber}
@@ -118,6 +121,14 @@ module _ (f : Field) (S : Sound f) where
         let e : r .number ≡ n = ap (λ (a : field.Aircraft). a .number) is-first in
         input.nonzero-known (r .number) (ap not (ne-eqb (r .number) 0 (λ q. m (sym e ∙ q))))
 
+    -- it has a desk
+    desked : DeskKnown (r .desk)
+    desked =
+        let b = zone-number z in
+        let fit = subst (λ (l : List field.Aircraft). T (every (fitsZone (f .legs) zn) l)) (F .here) (all-fit f (within-each f (S .bounds) .bound-g) zn (b .least) (b .most)) in
+        let d = fits-parts (f .legs) zn (F .x) (and-l (fitsZone (f .legs) zn (F .x)) (every (fitsZone (f .legs) zn) (F .rest)) fit) .desk in
+        subst (λ (a : field.Aircraft). DeskKnown (a .desk)) (sym is-first) (record { low = d .least; high = d .most })
+
     low : 3 ≤ k
     low = input.within-low 3 11 k (passed kind)
 
@@ -126,19 +137,21 @@ module _ (f : Field) (S : Sound f) where
 
     -- where what its kind needs besides is met, it is accepted
     pub moves-on : startsFrom k zn ≡ true → firstRefused (needsFor k f r (at zn 1) (zoneAhead f r)) ≡ 0 → numberOf f r ≡ 0
+    unfolding belongsTo
     moves-on starts needs =
         let p = placeBefore f r in
         let l = low in
         let h = high in
         let no-entry : isEntry k ≡ false = input.within-above 1 2 k (omega arith) in
         let no-tick : isTick k ≡ false = ne-eqb k 12 (λ q. omega arith) in
-        let all : presenceChecks k p ≡ headChecks k p = if-false (absentChecks p) (cond (isTick k) [] (headChecks k p)) no-entry ∙ if-false [] (headChecks k p) no-tick in
+        let checks : Place → List (ℕ × Bool) = λ q. headChecks k q (belongsTo f q (r .desk)) in
+        let all : presenceChecks k p (owned f r) ≡ checks p = if-false (absentChecks p) (cond (isTick k) [] (checks p)) no-entry ∙ if-false [] (checks p) no-tick in
         let b = zone-number z in
-        let heads = input.none-refused (headChecks k (at zn 1)) (input.nonzero-yes zn (b .least), (starts, (refl, tt))) in
-        accepted-by r (move-allowed r low high (record { side = refl; number = numbered; amount = refl }))
+        let heads = input.none-refused (checks (at zn 1)) (input.nonzero-yes zn (b .least), (same (r .desk), (starts, (refl, tt)))) in
+        accepted-by r (move-allowed r low high (record { side = refl; number = numbered; amount = refl }) desked)
         (ap firstRefused (checks-at f r refl)
         ∙ ap (λ (l : List (ℕ × Bool)). firstRefused (l ++ needsFor k f r p (zoneAhead f r))) all
-        ∙ ap (λ (q : Place). firstRefused (headChecks k q ++ needsFor k f r q (zoneAhead f r))) found
-        ∙ refused-append (headChecks k (at zn 1)) (needsFor k f r (at zn 1) (zoneAhead f r)) (tt, (tt, (tt, tt)))
-        ∙ if-true _ _ (eq-eqb (firstRefused (headChecks k (at zn 1))) 0 heads)
+        ∙ ap (λ (q : Place). firstRefused (checks q ++ needsFor k f r q (zoneAhead f r))) found
+        ∙ refused-append (checks (at zn 1)) (needsFor k f r (at zn 1) (zoneAhead f r)) (tt, (tt, (tt, (tt, tt))))
+        ∙ if-true _ _ (eq-eqb (firstRefused (checks (at zn 1))) 0 heads)
         ∙ needs)

@@ -61,7 +61,7 @@ module _ (f : Field) (t : T (withinBounds f)) (k : Shaped f) (r : Request) (s : 
   fix = fixTaken f (r .side)
 
   abbrev a : field.Aircraft
-  a = entering n fix (r .amount)
+  a = entering n fix (r .amount) (r .desk)
 
   -- ---- the queues
   in-zone : inZone g zn ≡ inZone f zn ++ (a ∷ [])

@@ -6,7 +6,7 @@ use mathlib.Core.List.{[], _∷_, _++_}
 use Prim.Native.Nat.{ℕ, _≤_}
 use native.Mathlib.Omega.{arith}
 use lib.Dec.{T, eqb, ltb}
-use Rattle.limits.specs.Limits.{fastest}
+use Rattle.limits.specs.Limits.{fastest, desks}
 use Rattle.request.specs.Input.{within, firstRefused, inputNumber}
 use Rattle.request.proofs.Tests as input
 use Rattle.request.proofs.ByKind.{Keeps, none-broken}
@@ -17,7 +17,6 @@ use Rattle.questions.specs.Counts.{isEmpty, approachHolds, potentialOf}
 use Rattle.questions.specs.Find.{placeOf, aircraftAt, isFirst}
 use Rattle.rules.specs.Kinds.{placeBefore, zoneBefore, zoneAhead, startsFrom, absentChecks, verticalNeeds, lateralNeeds, mayApproach, mayMerge, baseFree}
 use Rattle.rules.specs.Reason.{Sound}
-use Rattle.rules.specs.Cases.{ask}
 use Rattle.order.specs.Model.{Side, num}
 use Rattle.rules.proofs.Checks.{checks-at}
 use Rattle.field.proofs.Tests.{passed, if-true, if-false}
@@ -25,7 +24,7 @@ use Rattle.nasa.specs.Definitions.{Zone, holding3, holding2, lez, maz, b
 use Rattle.nasa.specs.Definitions as model
 use Rattle.nasa.specs.Rules.{Transition, nobodyIn, zoneNumber, mayInitiate, verticalEntry, lateralEntry, holdingPatternDescend, verticalApproachInitiation, lateralApproachInitiation, merging, exit, finalSegment, landing, taxing, missedApproach, lowestAvailableAltitude}
 use Rattle.nasa.specs.Stands.{sideNamed, seen, stateOf, entryAbove}
-use Rattle.nasa.specs.Enabled.{vertically, laterally, descends, initiates, initiatesLateral, merges, holds, exits, goesFinal, lands, taxies, misses, moveOf, newcomer, Follows, Enabled}
+use Rattle.nasa.specs.Enabled.{vertically, laterally, descends, initiates, initiatesLateral, merges, holds, exits, goesFinal, lands, taxies, misses, Entrant, entryOf, moveOf, mayCome, Follows, Enabled}
 use Rattle.nasa.proofs.Heads.{first-of, nobody-in}
 use Rattle.nasa.proofs.Moves.{each-side}
 use Rattle.nasa.proofs.Approaching as asked
@@ -139,32 +138,52 @@ module _ (f : Field) (S : Sound f) where
       follows f S (moveOf f 11 (maz s)) 11 refl e t (ap (λ (p : Side). lowestAvailableAltitude p State) side ∙ q)
 
   -- ---- entries
-  new-number : (number speed : ℕ) → T (newcomer f number speed) → (not (eqb number 0) ≡ true) × (eqb (placeOf f number .zone) 0 ≡ true) × (within 1 fastest speed ≡ true)
-  new-number number speed t =
-      let a = not (eqb number 0) in
-      let b = eqb (placeOf f number .zone) 0 in
-      let c = within 1 fastest speed in
-      let e = passed {b = a && b && c} t in
-      (input.both-left a b (input.both-left (a && b) c e), input.both-right a b (input.both-left (a && b) c e), input.both-right (a && b) c e)
+  module _ (new : Entrant) (t : T (mayCome f new)) where
+    abbrev not-0 : Bool
+    not-0 = not (eqb (new .number) 0)
 
-  entry-allowed : (k : ℕ) → 1 ≤ k → k ≤ 2 → (s : Side) (number speed : ℕ) → T (newcomer f number speed) → inputNumber (ask k (num s) number speed) ≡ 0
-  entry-allowed k l h s number speed t =
-      let n = new-number number speed t in
-      none-broken (ask k (num s) number speed)
-      (subst (Keeps (ask k (num s) number speed)) (sym (rule-of-entry k l h)) (record { kind = refl; side = each-side (λ s. within 1 2 (num s) ≡ true) refl refl s; number = n .0; amount = n .2 }))
+    abbrev unused : Bool
+    unused = eqb (placeOf f (new .number) .zone) 0
 
-  coming-laterally : (s : Side) (t : SCA) → lateralEntry s State ≡ t ∷ [] → (number speed : ℕ) → T (newcomer f number speed) → Follows f (ask 2 (num s) number speed) t
+    abbrev fast : Bool
+    fast = within 1 fastest (new .speed)
+
+    abbrev desked : Bool
+    desked = within 1 desks (new .desk)
+
+    three : (not-0 && unused && fast) ≡ true
+    three = input.both-left (not-0 && unused && fast) desked (passed {b = not-0 && unused && fast && desked} t)
+
+    two : (not-0 && unused) ≡ true
+    two = input.both-left (not-0 && unused) fast three
+
+    is-unused : unused ≡ true
+    is-unused = input.both-right not-0 unused two
+
+    entry-allowed : (k : ℕ) → 1 ≤ k → k ≤ 2 → (s : Side) → inputNumber (entryOf new k s) ≡ 0
+    entry-allowed k l h s =
+        none-broken (entryOf new k s)
+        (subst (Keeps (entryOf new k s)) (sym (rule-of-entry k l h))
+        (record {
+          desk = input.both-right (not-0 && unused && fast) desked (passed {b = not-0 && unused && fast && desked} t);
+          kind = refl;
+          side = each-side (λ s. within 1 2 (num s) ≡ true) refl refl s;
+          number = input.both-left not-0 unused two;
+          amount = input.both-right (not-0 && unused) fast three;
+        }))
+
+  coming-laterally : (s : Side) (t : SCA) → lateralEntry s State ≡ t ∷ [] → (new : Entrant) → T (mayCome f new) → Follows f (entryOf new 2 s) t
   unfolding lateralEntry
-  coming-laterally s t q number speed new =
-      let r = ask 2 (num s) number speed in
+  coming-laterally s t q new m =
+      let r = entryOf new 2 s in
       let none : eqb (potentialOf f (num s)) 0 ≡ true = ap (λ (m : ℕ). eqb m 0) (sym (virtual-is f (S .bounds) s)) ∙ tested (eqb (virtual State s) 0) _ t q in
-      let e = accepted-by f S r (entry-allowed 2 (omega arith) (omega arith) s number speed new) (ap firstRefused (checks-at f r refl) ∙ input.none-refused (absentChecks (placeBefore f r) ++ lateralNeeds f (num s)) (new-number number speed new .1, (none, tt))) in
+      let e = accepted-by f S r (entry-allowed new m 2 (omega arith) (omega arith) s) (ap firstRefused (checks-at f r refl) ∙ input.none-refused (absentChecks (placeBefore f r) ++ lateralNeeds f (num s)) (is-unused new m, (none, tt))) in
       follows f S r 2 refl e t (ap (λ (p : Side). lateralEntry p State) (each-side (λ s. sideNamed (num s) ≡ s) refl refl s) ∙ q)
 
-  coming-vertically : (s : Side) (t : SCA) → verticalEntry s State ≡ t ∷ [] → (number speed : ℕ) → T (newcomer f number speed) → Follows f (ask 1 (num s) number speed) t
+  coming-vertically : (s : Side) (t : SCA) → verticalEntry s State ≡ t ∷ [] → (new : Entrant) → T (mayCome f new) → Follows f (entryOf new 1 s) t
   unfolding verticalEntry
-  coming-vertically s t q number speed new =
-      let r = ask 1 (num s) number speed in
+  coming-vertically s t q new m =
+      let r = entryOf new 1 s in
       let a = ltb (virtual State s) 2 in
       let b = not (approachAssigned State s) in
       let c = nobodyIn State (maz s) in
@@ -181,20 +200,20 @@ module _ (f : Field) (S : Sound f) where
       let p19 = empty (lez s) (lateral (num s)) (each-side (λ s. lateral (num s) ≡ zoneNumber (lez s)) refl refl s) (input.both-right (a && b && c) d four) in
       let free = input.both-right (a && b && c && d) g five in
       let p20 : (isEmpty f (num s) || isEmpty f (at2000 (num s))) ≡ true = ap (λ (x : Bool). x || isEmpty f (at2000 (num s))) (empty (holding3 s) (num s) (each-side (λ s. num s ≡ zoneNumber (holding3 s)) refl refl s) free) in
-      let e = accepted-by f S r (entry-allowed 1 (omega arith) (omega arith) s number speed new) (ap firstRefused (checks-at f r refl) ∙ input.none-refused (absentChecks (placeBefore f r) ++ verticalNeeds f (num s)) (new-number number speed new .1, (p16, (p17, (p18, (p19, (p20, tt))))))) in
+      let e = accepted-by f S r (entry-allowed new m 1 (omega arith) (omega arith) s) (ap firstRefused (checks-at f r refl) ∙ input.none-refused (absentChecks (placeBefore f r) ++ verticalNeeds f (num s)) (is-unused new m, (p16, (p17, (p18, (p19, (p20, tt))))))) in
       follows f S r 1 refl e t (ap (λ (p : Side). entryAbove p State) (each-side (λ s. sideNamed (num s) ≡ s) refl refl s) ∙ if-true _ _ free ∙ q)
 
   -- ---- every transition
   pub enabled : Enabled f
-  enabled (vertically s) t q number speed new = coming-vertically s t q number speed new
-  enabled (laterally s) t q number speed new = coming-laterally s t q number speed new
-  enabled (descends s) t q number speed new = descending s t q
-  enabled (initiates s) t q number speed new = from-2000 s t q
-  enabled (initiatesLateral s) t q number speed new = from-lateral s t q
-  enabled (merges s) t q number speed new = merging-on s t q (passed new)
-  enabled exits t q number speed new = exiting t q (passed new)
-  enabled goesFinal t q number speed new = going-final t q (passed new)
-  enabled lands t q number speed new = landing-on t q (passed new)
-  enabled taxies t q number speed new = taxiing t q
-  enabled misses t q number speed new = missing t q
-  enabled (holds s) t q number speed new = holding s t q (passed new)
+  enabled (vertically s) t q new m = coming-vertically s t q new m
+  enabled (laterally s) t q new m = coming-laterally s t q new m
+  enabled (descends s) t q new m = descending s t q
+  enabled (initiates s) t q new m = from-2000 s t q
+  enabled (initiatesLateral s) t q new m = from-lateral s t q
+  enabled (merges s) t q new m = merging-on s t q (passed m)
+  enabled exits t q new m = exiting t q (passed m)
+  enabled goesFinal t q new m = going-final t q (passed m)
+  enabled lands t q new m = landing-on t q (passed m)
+  enabled taxies t q new m = taxiing t q
+  enabled misses t q new m = missing t q
+  enabled (holds s) t q new m = holding s t q (passed m)

@@ -24,7 +24,7 @@ use Rattle.rules.specs.Kinds.{placeBefore, zoneBefore, absentChecks, headChecks
 use Rattle.rules.specs.Step.{numberOf}
 use Rattle.rules.specs.Reason.{hasPlaces}
 use Rattle.order.specs.Model.{Side, right, left}
-use Rattle.rules.proofs.Checks.{HeadPassed, besides, checks-at, head-passed}
+use Rattle.rules.proofs.Checks.{HeadPassed, besides, owned, checks-at, head-passed}
 use Rattle.rules.proofs.Refusals.{passes}
 use Rattle.field.proofs.Tests.{decided, pass, if-false, each-operation}
 use Rattle.questions.proofs.FindLaws.{at, found-exactly, found-there}
@@ -116,12 +116,13 @@ module _ (f : Field) (h : T (hasPlaces f)) (r : Request) (e : numberOf f r ≡ 0
   shape = shaped f h bounded
 
   module _ (k : ℕ) (q : r .kind ≡ k) (no-entry : isEntry k ≡ false) (no-tick : isTick k ≡ false) where
-    -- it has passed 12 to 14, and what its kind needs besides
-    pub heading : HeadPassed k (placeBefore f r) (besides f r k)
+    -- it has passed 12, 26, 13 and 14, and what its kind needs besides
+    pub heading : HeadPassed k (placeBefore f r) (owned f r) (besides f r k)
     heading =
         let here = placeBefore f r in
-        let all : presenceChecks k here ≡ headChecks k here = if-false (absentChecks here) (cond (isTick k) [] (headChecks k here)) no-entry ∙ if-false [] (headChecks k here) no-tick in
-        head-passed k here (besides f r k) (ap (λ (l : List (ℕ × Bool)). firstRefused (l ++ besides f r k)) (sym all) ∙ sym (ap firstRefused (checks-at f r q)) ∙ passes f r e .checks)
+        let heads = headChecks k here (owned f r) in
+        let all : presenceChecks k here (owned f r) ≡ heads = if-false (absentChecks here) (cond (isTick k) [] heads) no-entry ∙ if-false [] heads no-tick in
+        head-passed k here (owned f r) (besides f r k) (ap (λ (l : List (ℕ × Bool)). firstRefused (l ++ besides f r k)) (sym all) ∙ sym (ap firstRefused (checks-at f r q)) ∙ passes f r e .checks)
 
     -- it is found, at the head
     pub found : placeBefore f r ≡ at (zoneBefore f r) 1
