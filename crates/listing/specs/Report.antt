@@ -47,7 +47,8 @@ builtReport b = cond (eqb (b .number) 0) (nextLine (b .after .field .next) ++ li
 unfoldable pub speedIn : List ℕ → ℕ
 speedIn input = cond (leb 10 (length input)) (number16 input 8) 0
 
--- of bytes that hold the legs, as body 1 of a practice file has them, the speed and the entries: with fewer bytes than the legs have a leg is not there, which is refused 7
+-- of bytes that hold the legs, as body 1 of a practice file has them, the speed and the entries; with fewer bytes than the legs have, a leg is
+-- not there, which is refused 7
 unfoldable pub builtOf : List ℕ → List ℕ
 builtOf input = cond (leb 8 (length input)) (builtReport (fieldOf (legsOf input) (speedIn input) (drop 10 input))) (refusal 7)
 
