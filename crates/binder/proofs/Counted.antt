@@ -1,8 +1,8 @@
 -- Every answer of the files that play is counted exactly once, and so is every file. Assumes nothing.
 use mathlib.Core.Path.{_≡_, refl, sym, ap, _∙_, subst}
 use mathlib.Core.Logic.{inl, inr}
-use mathlib.Core.Bool.{Bool, true, false, cond, _&&_}
-use mathlib.Core.List.{List, [], _∷_, _++_}
+use mathlib.Core.Bool.{Bool, true, false, cond, _&&_, _||_}
+use mathlib.Core.List.{List, [], _∷_, _++_, map}
 use Prim.Native.Nat.{ℕ, _+_}
 use native.Mathlib.Omega.{arith}
 use lib.Dec.{T, leb, eqb, leb→le}
@@ -11,17 +11,21 @@ use lib.Ieee.Fits.{and-l, and-r}
 use borrow.Author.Tests.{eqb-true}
 use Rattle.request.specs.Input.{within, firstRefused, inputNumber}
 use Rattle.request.specs.declared.Request.{Request}
-use Rattle.practice.specs.File.{opens, contentsAllowed, legsOf, legsBody, legsAllowed, fileNumber}
-use Rattle.practice.specs.Practice.{Practice, refused, holds, practiceOf}
+use Rattle.practice.specs.File.{opens, contentsAllowed, legsOf, legsBody, requestsBody, legsAllowed, fileNumber}
+use Rattle.practice.specs.Practice.{Practice, refused, holds, practiceOf, fromFile}
+use Rattle.practice.specs.Requests.{requestsOf}
 use Rattle.field.specs.declared.Field.{Field}
 use Rattle.field.specs.Boxes.{emptyField}
-use Rattle.field.proofs.Tests.{pass, passed, either-way, every-from}
+use Rattle.field.proofs.Tests.{pass, passed, decided, either-way, every-from}
 use Rattle.questions.specs.Counts.{total}
 use Rattle.bounds.specs.Bounds.{withinBounds}
 use Rattle.rules.specs.declared.Answer.{Answer}
 use Rattle.rules.specs.Step.{checksOf, effectOf, numberOf, stepOf}
 use Rattle.rules.specs.Play.{played}
-use Rattle.rules.proofs.Checks.{numberedIn, checks-numbered, input-numbered}
+use Rattle.rules.proofs.Checks.{needNumbers, numberedBy, checks-numbered, input-numbered}
+use Rattle.owners.specs.Owners.{Each, AllAskedBy, NoDeskRefuses}
+use Rattle.owners.proofs.OneDesk.{one-desk}
+use Rattle.practice.proofs.ReadBack.{from-bytes}
 use Rattle.rules.proofs.StepLaws.{number-is}
 use Rattle.line.proofs.Counted.{total-add, total-none}
 use Rattle.playing.specs.Playing.{legsInMiles, answersFrom, requestsHeld, answersHeld, requestsOfFile, answersOf}
@@ -72,33 +76,41 @@ row-once kind =
 abbrev isColumn : ℕ → Bool
 isColumn m = eqb (listed columns m) 1
 
--- the checks of a kind and refusal 25 after them
-check-column : (cs : List (ℕ × Bool)) (b : Bool) → T (numberedIn 11 24 cs) → T (isColumn (firstRefused (cs ++ ((25, b) ∷ []))))
-unfolding columns
-check-column [] true t = tt
-check-column [] false t = tt
-check-column ((n, true) ∷ cs) b t = check-column cs b (and-r (leb 11 n && leb n 24) (numberedIn 11 24 cs) t)
-check-column ((n, false) ∷ cs) b t =
-    let u = and-l (leb 11 n && leb n 24) (numberedIn 11 24 cs) t in
-    every-from isColumn 11 14 tt n (leb→le 11 n (and-l (leb 11 n) (leb n 24) u)) (let h = leb→le n 24 (and-r (leb 11 n) (leb n 24) u) in omega arith)
+-- one of the numbers from low to high, and not one more that the test lets through
+not-more : (low high more n : ℕ) → T (within low high n || eqb n more) → (n ≡ more → ⊥) → T (within low high n)
+not-more low high more n t h =
+    elim (decided (within low high n)) [ inl e ↦ pass e | inr e ↦ absurd (h (eqb-true n more (passed (subst (λ (b : Bool). T (b || eqb n more)) e t)))) ]
 
--- the input rules
-input-column : (r : Request) → T (isColumn (inputNumber r))
+-- the checks of a kind and refusal 25 after them, where 26 is not the number
+check-column : (cs : List (ℕ × Bool)) (b : Bool) → T (numberedBy needNumbers cs) → (firstRefused (cs ++ ((25, b) ∷ [])) ≡ 26 → ⊥) → T (isColumn (firstRefused (cs ++ ((25, b) ∷ []))))
 unfolding columns
-input-column r =
+check-column [] true t h = tt
+check-column [] false t h = tt
+check-column ((n, true) ∷ cs) b t h = check-column cs b (and-r (needNumbers n) (numberedBy needNumbers cs) t) h
+check-column ((n, false) ∷ cs) b t h =
+    let u = not-more 11 24 26 n (and-l (needNumbers n) (numberedBy needNumbers cs) t) h in
+    every-from isColumn 11 14 tt n (leb→le 11 n (and-l (leb 11 n) (leb n 24) u)) (let k = leb→le n 24 (and-r (leb 11 n) (leb n 24) u) in omega arith)
+
+-- the input rules, where 31 is not the number
+input-column : (r : Request) → (inputNumber r ≡ 31 → ⊥) → T (isColumn (inputNumber r))
+unfolding columns
+input-column r h =
     elim (input-numbered r) [
       | inl z ↦ subst (λ (n : ℕ). T (isColumn n)) (sym z) tt
-      | inr t ↦ every-from isColumn 1 4 tt (inputNumber r) (leb→le 1 (inputNumber r) (and-l (leb 1 (inputNumber r)) (leb (inputNumber r) 4) t)) (let h = leb→le (inputNumber r) 4 (and-r (leb 1 (inputNumber r)) (leb (inputNumber r) 4) t) in omega arith)
+      | inr t ↦
+          let n = inputNumber r in
+          let u = not-more 1 4 31 n t h in
+          every-from isColumn 1 4 tt n (leb→le 1 n (and-l (leb 1 n) (leb n 4) u)) (let k = leb→le n 4 (and-r (leb 1 n) (leb n 4) u) in omega arith)
     ]
 
-number-column : (f : Field) (r : Request) → T (isColumn (numberOf f r))
+number-column : (f : Field) (r : Request) → (numberOf f r ≡ 26 → ⊥) → (numberOf f r ≡ 31 → ⊥) → T (isColumn (numberOf f r))
 unfolding numberOf columns
 number-column f r =
-    let P : ℕ → Type 0 = λ n. T (isColumn n) in
+    let P : ℕ → Type 0 = λ n. (n ≡ 26 → ⊥) → (n ≡ 31 → ⊥) → T (isColumn n) in
     let later = firstRefused (checksOf f r ++ ((25, withinBounds (effectOf f r)) ∷ [])) in
     either-way P (eqb (inputNumber r) 0) (cond (withinBounds f) later 10) (inputNumber r)
-    (λ e. either-way P (withinBounds f) later 10 (λ e. check-column (checksOf f r) (withinBounds (effectOf f r)) (checks-numbered f r)) (λ e. tt))
-    (λ e. input-column r)
+    (λ e. either-way P (withinBounds f) later 10 (λ e h k. check-column (checksOf f r) (withinBounds (effectOf f r)) (checks-numbered f r) h) (λ e h k. tt))
+    (λ e h k. input-column r k)
 
 -- ---- lists of answers
 
@@ -111,10 +123,12 @@ headed-append : (ps qs : List (Request × Answer)) → Headed ps → Headed qs �
 headed-append [] qs h k = k
 headed-append (p ∷ ps) qs h k = (h .0, headed-append ps qs (h .1) k)
 
-headed-played : (f : Field) (rs : List Request) → Headed (played f rs)
-headed-played f [] = tt
-headed-played f (r ∷ rs) =
-    (ap (listed columns) (number-is f r) ∙ eqb-true (listed columns (numberOf f r)) 1 (passed (number-column f r)), headed-played (stepOf f r .field) rs)
+-- where no answer refuses by a desk (02, 2.10)
+headed-played : (f : Field) (rs : List Request) → Each NoDeskRefuses (played f rs) → Headed (played f rs)
+headed-played f [] h = tt
+headed-played f (r ∷ rs) h =
+    let column = number-column f r (λ e. h .0 .not-26 (number-is f r ∙ e)) (λ e. h .0 .not-31 (number-is f r ∙ e)) in
+    (ap (listed columns) (number-is f r) ∙ eqb-true (listed columns (numberOf f r)) 1 (passed column), headed-played (stepOf f r .field) rs (h .1))
 
 -- so each answer adds 1 to the table
 sum-more : (p : Request × Answer) (ps : List (Request × Answer)) → listed columns (p .1 .number) ≡ 1 → tableSum (p ∷ ps) ≡ 1 + tableSum ps
@@ -132,13 +146,19 @@ table-sum [] h = sum-none
 table-sum (p ∷ ps) h = let more = sum-more p ps (h .0) in let rest = table-sum ps (h .1) in omega arith
 
 -- ---- files
+all-of-1 : (rs : List Request) → AllAskedBy 1 (map fromFile rs)
+all-of-1 [] = tt
+all-of-1 (r ∷ rs) = (refl, all-of-1 rs)
+
 pub headed-file : (file : List ℕ) → Headed (answersOf file)
-unfolding answersOf answersFrom
-headed-file file = by (practiceOf file)
-  where
-    by : (p : Practice) → Headed (answersHeld p)
-    by (refused number) = tt
-    by (holds legs requests) = headed-played (emptyField (legsInMiles legs)) requests
+unfolding answersOf answersFrom practiceOf
+headed-file file =
+    let legs = legsOf (legsBody file) in
+    let bytes = requestsBody file in
+    let asked = subst (AllAskedBy 1) (from-bytes bytes) (all-of-1 (requestsOf bytes)) in
+    either-way (λ (p : Practice). Headed (answersHeld p)) (eqb (fileNumber file) 0) (holds legs (requestsOf bytes)) (refused (fileNumber file))
+    (λ e. headed-played (emptyField (legsInMiles legs)) (requestsOf bytes) (one-desk (legsInMiles legs) (requestsOf bytes) asked))
+    (λ e. tt)
 
 headed-in : (files : List (List ℕ)) → Headed (answersIn files)
 headed-in [] = tt

@@ -36,7 +36,8 @@ rowOf kind = cond (within 1 12 kind) kind 0
 unfoldable pub rows : List ℕ
 rows = 1 ∷ 2 ∷ 3 ∷ 4 ∷ 5 ∷ 6 ∷ 7 ∷ 8 ∷ 9 ∷ 10 ∷ 11 ∷ 12 ∷ 0 ∷ []
 
--- the columns: the numbers that a request can be answered with, 0 to 4 and 10 to 25 (02, 2.1)
+-- the columns: the numbers that a request of a practice file can be answered with, 0 to 4 and 10 to 25 (02, 2.1); a file is played as desk 1, so that 26
+-- and 31 never come (02, 2.10)
 unfoldable pub columns : List ℕ
 columns = 0 ∷ 1 ∷ 2 ∷ 3 ∷ 4 ∷ 10 ∷ 11 ∷ 12 ∷ 13 ∷ 14 ∷ 15 ∷ 16 ∷ 17 ∷ 18 ∷ 19 ∷ 20 ∷ 21 ∷ 22 ∷ 23 ∷ 24 ∷ 25 ∷ []
 

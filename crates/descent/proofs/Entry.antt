@@ -27,7 +27,7 @@ use Rattle.rules.specs.declared.Answer.{Answer}
 use Rattle.rules.specs.Kinds.{placeBefore, zoneBefore, zoneAhead, absentChecks, headChecks, presenceChecks, verticalNeeds, lateralNeeds, descendNeeds, approachNeeds, mergeNeeds, flownOutNeeds, landNeeds, exitNeeds, descended, entered, shownTo, shownAt3000}
 use Rattle.rules.specs.Step.{needsFor, checksOf, effectOf, numberOf, numberAndZeros, acceptance, acceptanceOn, alongFor, answerOf, stepOf}
 use Rattle.rules.specs.Reason.{hasPlaces}
-use Rattle.rules.proofs.Checks.{refused-append, by-kind, owned, inputNumbers, presence-refuses, checks-refuse, input-numbered, checks-at}
+use Rattle.rules.proofs.Checks.{Never, never-without, never-append, by-kind, owned, inputNumbers, presence-refuses, checks-refuse, input-numbered, checks-at}
 use Rattle.rules.proofs.StepLaws.{number-is, field-accepted, answer-accepted}
 use Rattle.rules.proofs.Refusals.{Passes, accepts, passes}
 use Rattle.field.proofs.Tests.{passed, pass, failed, decided, if-true, if-false, either-way}
@@ -43,17 +43,13 @@ use Rattle.descent.proofs.Descent.{shaped, alone-above, none-below, des
 
 -- a list of checks does not answer 20
 abbrev Not20 : List (ℕ × Bool) → Type 0
-Not20 cs = firstRefused cs ≡ 20 → ⊥
+Not20 = Never 20
 
--- one that has no such number
 without-20 : (cs : List (ℕ × Bool)) → T (every (λ c. not (eqb (c .0) 20)) cs) → Not20 cs
-without-20 [] t e = omega arith
-without-20 ((n, true) ∷ cs) t e = without-20 cs (and-r (not (eqb n 20)) (every (λ c. not (eqb (c .0) 20)) cs) t) e
-without-20 ((n, false) ∷ cs) t e = true≢false (sym (eq-eqb n 20 e) ∙ failed (and-l (not (eqb n 20)) (every (λ c. not (eqb (c .0) 20)) cs) t))
+without-20 = never-without 20 (omega arith)
 
--- nor do two lists one after the other
 append-20 : (cs ds : List (ℕ × Bool)) → input.Numbered cs → Not20 cs → Not20 ds → Not20 (cs ++ ds)
-append-20 cs ds k p q e = either-way (λ (n : ℕ). n ≡ 20 → ⊥) (eqb (firstRefused cs) 0) (firstRefused ds) (firstRefused cs) (λ u. q) (λ u. p) (sym (refused-append cs ds k) ∙ e)
+append-20 = never-append 20
 
 -- those in the holdings of a side are counted for it
 holdings-counted : (f : Field) (side : ℕ) → 1 ≤ side → side ≤ 2 → howMany f (at3000 side) + howMany f (at2000 side) ≤ potentialOf f side

@@ -29,7 +29,8 @@ use Rattle.rules.specs.Play.{fieldAfter}
 use Rattle.renaming.specs.Renaming.{Renaming, exchanged}
 use Rattle.renaming.proofs.Exchanged.{exchange-apart, exchange-renames}
 use Rattle.indexed.specs.Indexed.{withIndex, numberIndexed, stepIndexed}
-use Rattle.isolated.specs.Isolated.{Each, FixesOne, FixesAircraft, KeepsOwn}
+use Rattle.owners.specs.Owners.{Each}
+use Rattle.isolated.specs.Isolated.{FixesOne, FixesAircraft, KeepsOwn}
 use Rattle.isolated.specs.Seen.{otherLets, seen}
 use Rattle.isolated.specs.Weaker.{OnlyAccepted, OnlyNamed, NotApart, ZeroToo, EachNeeded}
 

@@ -27,8 +27,9 @@ use Rattle.rules.specs.Step.{stepOf}
 use Rattle.rules.specs.Play.{played, ofDesk}
 use Rattle.renaming.specs.Renaming.{Renaming, renamedAircraft, renamedZone, renamedField, renamedRequest, renamedPair}
 use Rattle.renaming.proofs.Theorems.{played-renamed}
-use Rattle.isolated.specs.Isolated.{Each, FixesRequest, FixesRequests, FixesOne, FixesAircraft, Isolation, renamedOther, renamedOthersIn, renamedOthers, renamedOtherRequest, renamedOtherRequests}
-use Rattle.isolated.proofs.Lists.{each-parts, each-places, maps-agree}
+use Rattle.owners.specs.Owners.{Each}
+use Rattle.isolated.specs.Isolated.{FixesRequest, FixesRequests, FixesOne, FixesAircraft, Isolation, renamedOther, renamedOthersIn, renamedOthers, renamedOtherRequest, renamedOtherRequests}
+use Rattle.owners.proofs.Lists.{each-parts, each-places, maps-agree}
 use Rattle.isolated.proofs.Stays.{StaysIn, Stays, step-stays}
 use Rattle.isolated.proofs.Shown.{pair-stays}
 

@@ -1,4 +1,3 @@
-pub mod Lists
 pub mod Stays
 pub mod Shown
 pub mod Isolation

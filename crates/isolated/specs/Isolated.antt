@@ -13,6 +13,7 @@ use Rattle.field.specs.declared.Field.{Field}
 use Rattle.field.specs.Boxes.{inZone}
 use Rattle.bounds.specs.Bounds.{withinBounds}
 use Rattle.rules.specs.Play.{played, ofDesk}
+use Rattle.owners.specs.Owners.{Each}
 use Rattle.renaming.specs.Renaming.{Renaming, renamedAircraft, renamedSequence, renamedRequest}
 
 -- ---- the other desk's numbers renamed; this desk is d
@@ -38,11 +39,6 @@ abbrev pub renamedOtherRequests : ℕ → (ℕ → ℕ) → List Request → Lis
 renamedOtherRequests d π rs = map (renamedOtherRequest d π) rs
 
 -- ---- the numbers that stay
-
--- what holds of each one in a list
-abbrev pub Each : {A : Type 0} → (A → Type 0) → List A → Type 0
-Each P [] = Unit
-Each P (x ∷ xs) = P x × Each P xs
 
 -- the number that a request of desk d names
 abbrev pub FixesRequest : ℕ → (ℕ → ℕ) → Request → Type 0

@@ -15,7 +15,8 @@ use Rattle.rules.specs.declared.Answer.{Answer}
 use Rattle.rules.specs.Play.{fieldAfter, played, ofDesk}
 use Rattle.renaming.specs.Renaming.{Renaming}
 use Rattle.indexed.specs.Indexed.{playedIndexed}
-use Rattle.isolated.specs.Isolated.{renamedOthers, renamedOtherRequest, renamedOtherRequests, Each, FixesRequests, FixesAircraft, KeepsOwn}
+use Rattle.owners.specs.Owners.{Each}
+use Rattle.isolated.specs.Isolated.{renamedOthers, renamedOtherRequest, renamedOtherRequests, FixesRequests, FixesAircraft, KeepsOwn}
 
 -- ---- something less is asked of the new numbers
 

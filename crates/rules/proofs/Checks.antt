@@ -8,14 +8,14 @@ use native.Mathlib.Nat.{ne-of-gt}
 use native.Mathlib.Omega.{arith}
 use lib.Dec.{T, leb, eqb, leb→le, le→leb}
 use lib.Ieee.Fits.{and-i, and-l, and-r}
-use borrow.Author.Tests.{ne-eqb, eqb-true}
+use borrow.Author.Tests.{ne-eqb, eq-eqb, eqb-true}
 use Rattle.request.specs.Input.{within, isEntry, isTick, firstRefused, deskAllowed, kindAllowed, sideAllowed, numberAllowed, amountAllowed, inputNumber}
 use Rattle.request.specs.declared.Request.{Request}
 use Rattle.request.proofs.Tests.{Numbered}
 use Rattle.field.specs.declared.Field.{Field}
 use Rattle.questions.specs.declared.Place.{Place}
 use Rattle.field.specs.Lists.{every}
-use Rattle.field.proofs.Tests.{pass, passed, decided, if-false, either-way}
+use Rattle.field.proofs.Tests.{pass, passed, failed, decided, if-false, either-way}
 use Rattle.field.proofs.Parts.{or-else}
 use Rattle.rules.specs.Kinds.{placeBefore, zoneBefore, zoneAhead, startsFrom, belongsTo, absentChecks, headChecks, presenceChecks}
 use Rattle.rules.specs.Step.{byKind, needsFor, checksFor, effectFor, checksOf, effectOf}
@@ -122,6 +122,22 @@ pub both-pass : (cs ds : List (ℕ × Bool)) → Numbered cs → firstRefused (c
 both-pass [] ds k e = (refl, e)
 both-pass ((n, true) ∷ cs) ds k e = both-pass cs ds (k .1) e
 both-pass ((n, false) ∷ cs) ds k e = absurd (ne-of-gt (leb→le 1 n (k .0)) e)
+
+-- ---- a number that a list of checks does not answer
+abbrev pub Never : ℕ → List (ℕ × Bool) → Type 0
+Never n cs = firstRefused cs ≡ n → ⊥
+
+-- one that has no such number
+pub never-without : (n : ℕ) → 1 ≤ n → (cs : List (ℕ × Bool)) → T (every (λ c. not (eqb (c .0) n)) cs) → Never n cs
+never-without n l [] t e = omega arith
+never-without n l ((m, true) ∷ cs) t e = never-without n l cs (and-r (not (eqb m n)) (every (λ c. not (eqb (c .0) n)) cs) t) e
+never-without n l ((m, false) ∷ cs) t e = true≢false (sym (eq-eqb m n e) ∙ failed (and-l (not (eqb m n)) (every (λ c. not (eqb (c .0) n)) cs) t))
+
+-- nor do two lists one after the other
+pub never-append : (n : ℕ) (cs ds : List (ℕ × Bool)) → Numbered cs → Never n cs → Never n ds → Never n (cs ++ ds)
+never-append n cs ds k p q e = either-way (λ (m : ℕ). m ≡ n → ⊥) (eqb (firstRefused cs) 0) (firstRefused ds) (firstRefused cs) (λ u. q) (λ u. p) (sym (refused-append cs ds k) ∙ e)
+
+-- ---- the tables by kind
 
 -- what holds of each entry of a table by kind, where that is the kind, holds of the kind's own
 pub by-kind {ℓ} : {A : Type ℓ} (P : A → Type 0) (kind : ℕ) {k1 k2 k3 k4 k5 k6 k7 k8 k9 k10 k11 k12 : A}
