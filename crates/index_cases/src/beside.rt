@@ -25,6 +25,7 @@ fn asked(x: Indexed, kind: u8, side: u8, number: u16, amount: u16) {
         side: side,
         number: number,
         amount: amount,
+        desk: 1,
     };
     let after = stepped(x, r);
     if same_field(x.field, after.field) {

@@ -11,6 +11,7 @@ fn asked(x: Indexed, kind: u8, side: u8, number: u16, amount: u16) -> Indexed {
         side: side,
         number: number,
         amount: amount,
+        desk: 1,
     };
     let after = stepped(x, r);
     io::write_all(STDOUT_FILENO, b"\n");

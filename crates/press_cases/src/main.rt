@@ -33,7 +33,7 @@ fn nobody_there() -> Field {
 
 // An aircraft that has flown so many miles of a leg of a mile.
 fn flying(number: u16, fix: u8, miles: f64) -> Aircraft {
-    on_leg(entering(number, fix, 64), Progress::Flying(miles), 1.0)
+    on_leg(entering(number, fix, 64, 1), Progress::Flying(miles), 1.0)
 }
 
 // The field with an aircraft at the tail of a zone.
@@ -108,12 +108,16 @@ fn within() {
     line(b"nobody:", empty);
     line(
         b"one on the runway:",
-        standing(empty, 13, entering(7, 1, 64)),
+        standing(empty, 13, entering(7, 1, 64, 1)),
     );
-    line(b"one at 3000:", more(empty, 2, entering(7, 1, 64)));
+    line(b"one at 3000:", more(empty, 2, entering(7, 1, 64, 1)));
     line(
         b"the first at 3000 behind the second at 2000:",
-        more(more(empty, 1, entering(7, 1, 64)), 3, entering(8, 2, 64)),
+        more(
+            more(empty, 1, entering(7, 1, 64, 1)),
+            3,
+            entering(8, 2, 64, 1),
+        ),
     );
     line(
         b"the first on base behind the second on intermediate, whose move to final is refused 25:",
@@ -133,9 +137,9 @@ fn broken() {
     line(
         b"two on the runway:",
         standing(
-            standing(empty, 13, entering(7, 1, 64)),
+            standing(empty, 13, entering(7, 1, 64, 1)),
             13,
-            entering(8, 2, 64),
+            entering(8, 2, 64, 1),
         ),
     );
 }

@@ -31,7 +31,7 @@ pub fn legs(miles: f64) -> Legs {
 
 // An aircraft of speed 64 as it enters a zone of a field with legs of a mile.
 pub fn into(zone: usize, number: u16, fix: u8) -> Aircraft {
-    arrived(legs(1.0), zone, entering(number, fix, 64))
+    arrived(legs(1.0), zone, entering(number, fix, 64, 1))
 }
 
 // The field with an aircraft at the tail of a zone.
@@ -88,6 +88,7 @@ pub fn with_waited(a: Aircraft, miles: f64) -> Aircraft {
         progress: p,
         waited: miles,
         leg: a.leg,
+        desk: a.desk,
     }
 }
 

@@ -91,6 +91,7 @@ fn tick(name: &[u8], f: Field) {
             side: 0,
             number: 0,
             amount: 64,
+            desk: 1,
         },
     );
 }
@@ -105,6 +106,7 @@ fn move_of(name: &[u8], f: Field, kind: u8, number: u16) {
             side: 0,
             number: number,
             amount: 0,
+            desk: 1,
         },
     );
 }
@@ -119,7 +121,8 @@ fn within() {
     move_of(b"8 approaches", f, 4, 8);
     move_of(b"8 misses", f, 10, 8);
     tick(b"tick", f);
-    tick(b"9 of speed 512", with_nine(entering(9, 1, 512)));
+    tick(b"9 of speed 512", with_nine(entering(9, 1, 512, 1)));
+    tick(b"9 of desk 2", with_nine(entering(9, 1, 64, 2)));
     tick(
         b"7 at the leg's end",
         with_seven(Progress::Flying(1.0), 1.0),
@@ -129,11 +132,11 @@ fn within() {
     tick(b"one on the runway", standing(f, 13, into(13, 10, 2)));
     tick(
         b"9 with 4096 miles waited",
-        with_nine(with_waited(entering(9, 1, 64), 4096.0)),
+        with_nine(with_waited(entering(9, 1, 64, 1), 4096.0)),
     );
     tick(
         b"9 with minus 0 waited",
-        with_nine(with_waited(entering(9, 1, 64), -0.0)),
+        with_nine(with_waited(entering(9, 1, 64, 1), -0.0)),
     );
     tick(
         b"minus 0 waited past a zone's length",
@@ -145,7 +148,7 @@ fn within() {
 fn own_legs_within() {
     tick(
         b"9 with minus 0 as its leg",
-        with_nine(on_leg(entering(9, 1, 64), Progress::Waiting, -0.0)),
+        with_nine(on_leg(entering(9, 1, 64, 1), Progress::Waiting, -0.0)),
     );
     tick(
         b"minus 0 as the leg past a zone's length",
@@ -226,7 +229,11 @@ fn past_a_length() {
     tick(b"e: a zone's length 5", with_left(nobody(), 5));
     tick(
         b"e: a number past a zone's length",
-        with_left(entering(10, 0, 0), 0),
+        with_left(entering(10, 0, 0, 0), 0),
+    );
+    tick(
+        b"e: a desk past a zone's length",
+        with_left(entering(0, 0, 0, 1), 0),
     );
     tick(
         b"e: flying past a zone's length",
@@ -248,12 +255,14 @@ fn past_a_length() {
 
 // Bound g.
 fn not_as_said() {
-    tick(b"g: fix 3", with_nine(entering(9, 3, 64)));
-    tick(b"g: speed 0", with_nine(entering(9, 1, 0)));
-    tick(b"g: speed 513", with_nine(entering(9, 1, 513)));
+    tick(b"g: fix 3", with_nine(entering(9, 3, 64, 1)));
+    tick(b"g: desk 0", with_nine(entering(9, 1, 64, 0)));
+    tick(b"g: desk 3", with_nine(entering(9, 1, 64, 3)));
+    tick(b"g: speed 0", with_nine(entering(9, 1, 0, 1)));
+    tick(b"g: speed 513", with_nine(entering(9, 1, 513, 1)));
     tick(
         b"g: flying at 3000",
-        with_nine(on_leg(entering(9, 1, 64), Progress::Flying(0.0), 0.0)),
+        with_nine(on_leg(entering(9, 1, 64, 1), Progress::Flying(0.0), 0.0)),
     );
     tick(b"g: waiting on final", with_seven(Progress::Waiting, 1.0));
     tick(
@@ -270,22 +279,22 @@ fn not_as_said() {
     );
     tick(
         b"g: waited past 4096 miles",
-        with_nine(with_waited(entering(9, 1, 64), 4096.000000000001)),
+        with_nine(with_waited(entering(9, 1, 64, 1), 4096.000000000001)),
     );
     tick(
         b"g: waited below 0",
-        with_nine(with_waited(entering(9, 1, 64), -5e-324)),
+        with_nine(with_waited(entering(9, 1, 64, 1), -5e-324)),
     );
     tick(
         b"g: waited not a number",
-        with_nine(with_waited(entering(9, 1, 64), 0.0 / 0.0)),
+        with_nine(with_waited(entering(9, 1, 64, 1), 0.0 / 0.0)),
     );
     tick(b"g: legs of 0", flown(0.0));
     tick(b"g: legs past 64 miles", flown(64.00000000000001));
     tick(b"g: legs not a number", flown(0.0 / 0.0));
     move_of(
         b"g: speed 0, and a request for the number 0",
-        with_nine(entering(9, 1, 0)),
+        with_nine(entering(9, 1, 0, 1)),
         10,
         0,
     );
@@ -303,7 +312,7 @@ fn own_legs() {
     );
     tick(
         b"g: a leg at 3000",
-        with_nine(on_leg(entering(9, 1, 64), Progress::Waiting, 1.0)),
+        with_nine(on_leg(entering(9, 1, 64, 1), Progress::Waiting, 1.0)),
     );
     tick(
         b"g: on final a longer leg than the field's",

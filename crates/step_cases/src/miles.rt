@@ -27,6 +27,7 @@ fn head_after(name: &[u8], f: Field, kind: u8, number_of: u16, zone: usize) -> A
         side: 0,
         number: number_of,
         amount: amount,
+        desk: 1,
     };
     let after = step(f, r);
     io::write_all(STDOUT_FILENO, name);
