@@ -94,13 +94,14 @@ pub fn field(legs_64ths: [u16; 4], speed: u16, list: &[Listed]) -> Result<Indexe
     }
 }
 
-/// The same from bytes: the legs as a practice file has them, the speed, and the list. Where legs and speed are not both wholly there,
-/// 7 is said; a list with a part of an aircraft is none.
+/// The same from bytes: the legs as a practice file has them, the speed, and the list. A leg or a speed that is not wholly there is
+/// refused as a wrong one is; a list with a part of an aircraft is none.
 pub fn from_bytes(input: &[u8]) -> Result<Indexed, ClassroomRefusal> {
-    let (head, list) = input.split_at_checked(LEGS_LENGTH + SPEED_LENGTH).ok_or(ClassroomRefusal::Leg)?;
-    let legs_64ths = [0, 2, 4, 6].map(|at| u16_at(head, at));
+    let (legs, rest) = input.split_at_checked(LEGS_LENGTH).ok_or(ClassroomRefusal::Leg)?;
+    let legs_64ths = [0, 2, 4, 6].map(|at| u16_at(legs, at));
     check_legs(legs_64ths)?;
-    let speed = u16_at(head, LEGS_LENGTH);
+    let (speed, list) = rest.split_at_checked(SPEED_LENGTH).ok_or(ClassroomRefusal::Speed)?;
+    let speed = u16_at(speed, 0);
     check_speed(speed)?;
     if !list.len().is_multiple_of(LISTED) {
         return Err(ClassroomRefusal::List);

@@ -191,7 +191,7 @@ fn bytes_of_an_input() {
     let refused =
         |input: &[u8]| reference::classroom::from_bytes(input).map_or_else(|refusal| refusal.number(), |_| 0);
     let numbers: Vec<u8> = (0..=good.len()).map(|length| refused(&good[..length])).collect();
-    assert_eq!(numbers, [7, 7, 7, 7, 7, 7, 7, 7, 7, 7, 0, 29, 29, 29, 29, 29, 29, 29, 0]);
+    assert_eq!(numbers, [7, 7, 7, 7, 7, 7, 7, 7, 4, 4, 0, 29, 29, 29, 29, 29, 29, 29, 0]);
     // A leg and a speed that are refused come before a list that is cut.
     assert_eq!(refused(&[0; 9]), 7);
     assert_eq!(refused(&[0; 11]), 7);

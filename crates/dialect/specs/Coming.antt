@@ -62,8 +62,8 @@ listAllowed bytes = eqb (length bytes % 8) 0 && leb (length (entriesIn bytes)) 5
 unfoldable pub fixIn : ℕ → ℕ
 fixIn fix = cond (isSide fix) fix 0
 
--- one of the list in its zone, waiting, at the end of the sequence, with the speed "from the caller", nothing waited, no leg of its own and desk 1 as its owner; "the next fix
--- follows our rules": it is the opposite of this one's
+-- one of the list in its zone, waiting, at the end of the sequence, with the speed "from the caller", nothing waited, no leg of its own and
+-- desk 1 as its owner; "the next fix follows our rules": it is the opposite of this one's
 unfoldable pub withEntry : Field → ℕ → Entry → Field
 withEntry f speed e =
     withSequence (withZone f (e .location) (withTail (zoneOf f (e .location)) (entering (e .number) (fixIn (e .fix)) speed 1)))
@@ -94,7 +94,7 @@ comingNumber legs speed bytes =
 unfoldable pub notBuilt : ℕ → Built
 notBuilt number = record { number = number; after = withIndex (emptyField (legsInMiles noLegs)) }
 
--- the field of a list, with its index beside it
+-- the field of a list, with its index beside it; it keeps the bounds, and need not be one that requests reach
 unfoldable pub fieldOf : FileLegs → ℕ → List ℕ → Built
 fieldOf legs speed bytes =
     cond (eqb (comingNumber legs speed bytes) 0)

@@ -43,9 +43,14 @@ nextLine fix = 110 ∷ 101 ∷ 120 ∷ 116 ∷ space ∷ line (fix ∷ [])
 unfoldable pub builtReport : Built → List ℕ
 builtReport b = cond (eqb (b .number) 0) (nextLine (b .after .field .next) ++ listReport (listOf (b .after))) (refusal (b .number))
 
--- of bytes that hold the legs, as body 1 of a practice file has them, the speed and the entries; fewer bytes than legs and speed have are refused 7
+-- the speed, two bytes behind the legs; 0, which is none, where they are not both there
+unfoldable pub speedIn : List ℕ → ℕ
+speedIn input = cond (leb 10 (length input)) (number16 input 8) 0
+
+-- of bytes that hold the legs, as body 1 of a practice file has them, the speed and the entries; with fewer bytes than the legs have, a leg is
+-- not there, which is refused 7
 unfoldable pub builtOf : List ℕ → List ℕ
-builtOf input = cond (leb 10 (length input)) (builtReport (fieldOf (legsOf input) (number16 input 8) (drop 10 input))) (refusal 7)
+builtOf input = cond (leb 8 (length input)) (builtReport (fieldOf (legsOf input) (speedIn input) (drop 10 input))) (refusal 7)
 
 -- how many bytes the caller's buffer has
 abbrev pub classroomRoom : ℕ

@@ -58,10 +58,13 @@ pub fn rebuilt(input: &[u8], out: &mut ClassroomBuffer) -> usize
     ensures { λ r. ⌜ r ≤ classroomRoom ⌝ }
 {
     let bytes: &mut [u8] = out;
-    if input.len() < 10 {
+    if input.len() < 8 {
         return put_refusal(bytes, 0, 7);
     }
     let legs = legs_in(input);
+    if input.len() < 10 {
+        return put_built(bytes, field_of(legs, 0, &input[8..8]));
+    }
     let speed = word(input[8], input[9]);
     let b = field_of(legs, speed, &input[10..]);
     put_built(bytes, b)

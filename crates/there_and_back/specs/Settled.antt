@@ -1,4 +1,5 @@
 -- Document 02, 2.12: what "there and back" loses. Of a field all else stays: these parts are set to what a field built from a list has.
+-- Kept fields (2.13) stand beside a field and are in no list, so they are lost too: a field built from a list has none kept.
 -- Definitions only. The words in quotes are those of document 02, 2.12.
 use mathlib.Core.Bool.{cond}
 use mathlib.Core.List.{_++_, map}
