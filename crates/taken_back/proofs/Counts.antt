@@ -72,7 +72,7 @@ unfolding startOf
 none-kept legs = record { below = omega arith; near = omega arith; exact = refl }
 
 -- a step back that is accepted finds a kept field
-some-kept : (h : History) (desk : ℕ) → numberBack h desk ≡ 0 → 0 < h .count
+pub some-kept : (h : History) (desk : ℕ) → numberBack h desk ≡ 0 → 0 < h .count
 unfolding numberBack
 some-kept h desk z = go (within 1 2 desk) (withinBoundsHistory h) (ltb 0 (h .count)) refl z
   where

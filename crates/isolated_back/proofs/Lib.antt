@@ -1,0 +1,3 @@
+pub mod Kept
+pub mod Renamed
+pub mod Isolation
