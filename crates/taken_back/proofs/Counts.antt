@@ -20,7 +20,7 @@ use Rattle.indexed.specs.Indexed.{withIndex}
 use Rattle.finder.specs.declared.Indexed.{Indexed}
 use Rattle.history.specs.declared.History.{History}
 use Rattle.history.specs.declared.SteppedHistory.{SteppedHistory}
-use Rattle.history.specs.History.{mostKept, startOf, keeping, numberHistory, stepHistory, withinBoundsHistory, numberBack, givenBack, stepBack}
+use Rattle.history.specs.History.{mostKept, startOf, startWith, keeping, numberHistory, stepHistory, withinBoundsHistory, numberBack, givenBack, stepBack}
 use Rattle.history.proofs.Numbers as numbers
 use Rattle.taken_back.specs.Calls.{Call, request, back, called, playedCalls, afterCalls, withCall, withCalls, historyOf, longestFrom, longestOf}
 use Rattle.taken_back.proofs.GivenBack.{passes}
@@ -68,7 +68,7 @@ module _ {count long most : ℕ} (p : Counts count long most) where
       (λ u. record { below = omega (arith, b); near = omega (arith, e, some); exact = omega (arith, e, some) })
 
 none-kept : (legs : Legs) → Counts (startOf legs .count) 0 0
-unfolding startOf
+unfolding startOf startWith
 none-kept legs = record { below = omega arith; near = omega arith; exact = refl }
 
 -- a step back that is accepted finds a kept field
