@@ -138,7 +138,7 @@ fn print_typical() {
     let [base, intermediate, final_, missed] = practice.legs_64ths;
     println!("{base} {intermediate} {final_} {missed}");
     println!("# A typical session of {TYPICAL_REQUESTS} requests, from seed {TYPICAL_SEED}.");
-    for Request { kind, side, number, amount } in practice.requests {
+    for Request { kind, side, number, amount, .. } in practice.requests {
         println!("{kind} {side} {number} {amount}");
     }
 }

@@ -100,7 +100,7 @@ fn main() {
         };
         // Accepted or refused, the next one sees the field that this one left.
         let _ = field.step(&request);
-        let Request { kind, side, number, amount } = request;
+        let Request { kind, side, number, amount, .. } = request;
         println!("{kind} {side} {number} {amount}");
     }
 }

@@ -38,6 +38,6 @@ fn ask(field: &mut Field, request: Request) {
 
 fn play(field: &mut Field, request: Request) {
     field.step(&request).expect("accepted");
-    let Request { kind, side, number, amount } = request;
+    let Request { kind, side, number, amount, .. } = request;
     println!("{kind} {side} {number} {amount}");
 }

@@ -2,7 +2,7 @@
 
 use crate::field::{Answer, Field, Zone};
 use crate::refusal::Refusal;
-use crate::request::{Request, LONGEST_TICK};
+use crate::request::{Request, FIRST_DESK, LONGEST_TICK};
 
 /// The most moves from a field that was reached from the empty one, before the next entry or miss (2.14), and the most
 /// ticks before each of them.
@@ -15,7 +15,7 @@ pub const MOST_PRESSES: usize = MOST_MOVES * (MOST_TICKS + 1);
 const KINDS: [u8; 7] = [8, 7, 6, 5, 11, 4, 3];
 
 /// What is played where nobody can move.
-pub const TICK: Request = Request { kind: 12, side: 0, number: 0, amount: LONGEST_TICK };
+pub const TICK: Request = Request { kind: 12, side: 0, number: 0, amount: LONGEST_TICK, desk: FIRST_DESK };
 
 /// How holding the button down ended.
 #[derive(Clone, Copy, Debug, PartialEq, Eq)]
@@ -37,11 +37,11 @@ pub fn proposed(field: &Field) -> Result<Option<Request>, Refusal> {
     Ok(Some(candidates(field).find(|request| field.accepts(request)).unwrap_or(TICK)))
 }
 
-/// Each kind for the head of each zone, by the kinds' order and then by the zones' numbers.
+/// Each kind for the head of each zone, by its own desk, in the kinds' order and then by the zones' numbers.
 fn candidates(field: &Field) -> impl Iterator<Item = Request> + '_ {
     KINDS.into_iter().flat_map(move |kind| {
         let heads = Zone::ALL.into_iter().filter_map(move |zone| field.zone(zone).front());
-        heads.map(move |head| Request::new(kind, 0, head.number, 0))
+        heads.map(move |head| Request::new(kind, 0, head.number, 0).by(head.desk))
     })
 }
 

@@ -7,7 +7,7 @@ use crate::field::{Aircraft, Field, Legs, Progress, Side, Zone};
 use crate::file::{leg_allowed, u16_at, LEGS_LENGTH};
 use crate::index::Indexed;
 use crate::refusal::ClassroomRefusal;
-use crate::request::FASTEST;
+use crate::request::{FASTEST, FIRST_DESK};
 
 /// A longer list is refused, whatever it says.
 pub const MOST: usize = 5;
@@ -71,7 +71,7 @@ pub fn list(indexed: &Indexed) -> Result<Vec<Listed>, ClassroomRefusal> {
     Ok(in_sequence.chain(landed).collect())
 }
 
-/// The field of a list, where everyone waits at 3000 or 2000 at this speed; legs are base, intermediate, final and missed, in 64ths
+/// The field of a list, where everyone waits at 3000 or 2000 at this speed and is desk 1's; legs are base, intermediate, final and missed, in 64ths
 /// of a mile.
 pub fn field(legs_64ths: [u16; 4], speed: u16, list: &[Listed]) -> Result<Indexed, ClassroomRefusal> {
     check_legs(legs_64ths)?;
@@ -81,7 +81,8 @@ pub fn field(legs_64ths: [u16; 4], speed: u16, list: &[Listed]) -> Result<Indexe
     for &Listed { number, location, fix, .. } in list {
         // No field can have another fix, and bound g has none.
         let fix = side(fix).ok_or(ClassroomRefusal::BuiltBreaksBound)?;
-        let aircraft = Aircraft { number, fix, speed, progress: Progress::Waiting, waited: 0.0, leg: 0.0 };
+        let progress = Progress::Waiting;
+        let aircraft = Aircraft { number, fix, speed, progress, waited: 0.0, leg: 0.0, desk: FIRST_DESK };
         field.zones[usize::from(location) - 1].push_back(aircraft);
         field.sequence.push_back(number);
         field.next_fix = fix.opposite();

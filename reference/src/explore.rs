@@ -10,7 +10,7 @@ use std::collections::{HashMap, VecDeque};
 
 use crate::field::{Aircraft, Field, Legs, Progress, Side, Zone};
 use crate::refusal::Refusal;
-use crate::request::Request;
+use crate::request::{Request, FIRST_DESK};
 
 /// A field without numbers and miles: for each aircraft in the order of zones
 /// and places its zone, fix and place in the sequence; then the next fix.
@@ -40,12 +40,15 @@ pub fn tick() -> Request {
     Request::new(12, 0, 0, 64)
 }
 
-/// One request of every kind but the tick, for everyone there and one new.
+/// One request of every kind but the tick, for everyone there, by its own desk, and for one new, by desk 1.
 pub fn requests(field: &Field) -> Vec<Request> {
-    let numbers: Vec<u16> = field.everyone().map(|(_, aircraft)| aircraft.number).collect();
-    let new = (1..).find(|number| !numbers.contains(number)).unwrap_or(0);
+    let there: Vec<(u16, u8)> =
+        field.everyone().map(|(_, aircraft)| (aircraft.number, aircraft.desk)).collect();
+    let new = (1..).find(|&new| there.iter().all(|&(number, _)| number != new)).unwrap_or(0);
     let entries = [(1, 1), (1, 2), (2, 1), (2, 2)].map(|(kind, side)| Request::new(kind, side, new, 512));
-    let moves = numbers.iter().flat_map(|&n| (3..=11).map(move |kind| Request::new(kind, 0, n, 0)));
+    let moves = there
+        .iter()
+        .flat_map(|&(number, desk)| (3..=11).map(move |kind| Request::new(kind, 0, number, 0).by(desk)));
     entries.into_iter().chain(moves).collect()
 }
 
@@ -159,7 +162,7 @@ pub fn describe(field: &Field) -> String {
 }
 
 /// Hands on every field within the bounds, reached or not, numbers and miles aside. They are 1, 2 and so on along
-/// the sequence, then the runway; each has its own speed, miles and miles waited, and after a miss its own leg.
+/// the sequence, then the runway, all of desk 1; each has its own speed, miles and miles waited, and after a miss its own leg.
 pub fn each_within_bounds(mut each: impl FnMut(&Field)) {
     for next_fix in Side::BOTH {
         let none = Field { next_fix, ..Field::empty(Legs::from_64ths([64; 4])) };
@@ -197,5 +200,5 @@ fn distinct(number: u16, fix: Side, zone: Zone) -> Aircraft {
         _ if zone.is_flying() => (Progress::Flying(part), 1.0),
         _ => (Progress::Waiting, 0.0),
     };
-    Aircraft { number, fix, speed: 100 + number, progress, waited: 2.0 + part, leg }
+    Aircraft { number, fix, speed: 100 + number, progress, waited: 2.0 + part, leg, desk: FIRST_DESK }
 }

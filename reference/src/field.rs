@@ -4,7 +4,7 @@ use std::collections::VecDeque;
 use std::fmt;
 
 use crate::refusal::Refusal;
-use crate::request::{Call, Request, FASTEST};
+use crate::request::{Call, Newcomer, Request, DESKS, FASTEST};
 
 #[derive(Clone, Copy, Debug, PartialEq, Eq, Hash)]
 pub enum Side {
@@ -133,6 +133,8 @@ pub struct Aircraft {
     pub waited: f64,
     /// Length of its own leg in miles; 0 while it waits.
     pub leg: f64,
+    /// The desk that let it in.
+    pub desk: u8,
 }
 
 /// The most miles that are added up as waited.
@@ -356,7 +358,10 @@ impl Field {
         legs_allowed
             && self.everyone().all(|(zone, aircraft)| {
                 let waited_fits = (0.0..=MOST_WAITED).contains(&aircraft.waited);
-                (1..=FASTEST).contains(&aircraft.speed) && self.leg_fits(zone, aircraft) && waited_fits
+                (1..=FASTEST).contains(&aircraft.speed)
+                    && self.leg_fits(zone, aircraft)
+                    && waited_fits
+                    && DESKS.contains(&aircraft.desk)
             })
     }
 
@@ -385,19 +390,19 @@ impl Field {
         if !self.within_bounds() {
             return Err(Refusal::FieldBreaksBound);
         }
-        let (after, answer) = self.judged_after(call)?;
+        let (after, answer) = self.judged_after(call, request.desk)?;
         *self = after;
         Ok(answer)
     }
 
     /// Whether a field within the bounds accepts a request.
     pub fn accepts(&self, request: &Request) -> bool {
-        request.check().and_then(|call| self.judged_after(call)).is_ok()
+        request.check().and_then(|call| self.judged_after(call, request.desk)).is_ok()
     }
 
     /// The field after a call, if that is within the bounds, and the answer; whether this one is, is the caller's.
-    fn judged_after(&self, call: Call) -> Result<(Field, Answer), Refusal> {
-        let (after, answer) = self.played(call)?;
+    fn judged_after(&self, call: Call, desk: u8) -> Result<(Field, Answer), Refusal> {
+        let (after, answer) = self.played(call, desk)?;
         if !after.within_bounds() {
             return Err(Refusal::StepBreaksBound);
         }
@@ -406,16 +411,26 @@ impl Field {
 
     /// The same, of a field that keeps the bounds and whose step keeps them: they are not checked.
     pub fn step_unjudged(&mut self, request: &Request) -> Result<Answer, Refusal> {
-        let (after, answer) = self.played(request.check()?)?;
+        let (after, answer) = self.played(request.check()?, request.desk)?;
         *self = after;
         Ok(answer)
     }
 
-    /// The field after a call, and the answer; the bounds are the caller's.
-    fn played(&self, call: Call) -> Result<(Field, Answer), Refusal> {
+    /// The field after a desk's call, and the answer; the bounds are the caller's.
+    fn played(&self, call: Call, desk: u8) -> Result<(Field, Answer), Refusal> {
+        if let Some(number) = call.moves() {
+            self.check_owner(number, desk)?;
+        }
+        let (after, answer) = self.unhidden(call)?;
+        let answer = after.shown_to(desk, answer);
+        Ok((after, answer))
+    }
+
+    /// The same for a call by the aircraft's own desk, with everybody's leader and along in the answer.
+    fn unhidden(&self, call: Call) -> Result<(Field, Answer), Refusal> {
         match call {
-            Call::VerticalEntry { side, number, speed } => self.vertical_entry(side, number, speed),
-            Call::LateralEntry { side, number, speed } => self.lateral_entry(side, number, speed),
+            Call::VerticalEntry(newcomer) => self.vertical_entry(newcomer),
+            Call::LateralEntry(newcomer) => self.lateral_entry(newcomer),
             Call::Descend(number) => self.descend(number),
             Call::Approach(number) => self.approach(number),
             Call::Merge(number) => self.merge(number),
@@ -430,8 +445,9 @@ impl Field {
     }
 
     /// Where 3000 is taken and 2000 is not, the one at 3000 descends and makes room, in the same step.
-    fn vertical_entry(&self, side: Side, number: u16, speed: u16) -> Result<(Field, Answer), Refusal> {
-        self.check_absent(number)?;
+    fn vertical_entry(&self, newcomer: Newcomer) -> Result<(Field, Answer), Refusal> {
+        let side = newcomer.side;
+        self.check_absent(newcomer.number)?;
         if self.potential(side) >= 2 {
             return Err(Refusal::Potential);
         }
@@ -445,23 +461,23 @@ impl Field {
             return Err(Refusal::LateralOccupied);
         }
         if self.is_empty(Holding3(side)) {
-            return Ok(self.entered(Holding3(side), side, number, speed));
+            return Ok(self.entered(Holding3(side), newcomer));
         }
         if !self.is_empty(Holding2(side)) {
             return Err(Refusal::Holding3Occupied);
         }
         let mut below = self.clone();
         let along = below.transfer(Holding3(side), Holding2(side));
-        let (after, answer) = below.entered(Holding3(side), side, number, speed);
+        let (after, answer) = below.entered(Holding3(side), newcomer);
         Ok((after, Answer { along, ..answer }))
     }
 
-    fn lateral_entry(&self, side: Side, number: u16, speed: u16) -> Result<(Field, Answer), Refusal> {
-        self.check_absent(number)?;
-        if self.potential(side) != 0 {
+    fn lateral_entry(&self, newcomer: Newcomer) -> Result<(Field, Answer), Refusal> {
+        self.check_absent(newcomer.number)?;
+        if self.potential(newcomer.side) != 0 {
             return Err(Refusal::Potential);
         }
-        Ok(self.entered(Lateral(side), side, number, speed))
+        Ok(self.entered(Lateral(newcomer.side), newcomer))
     }
 
     fn descend(&self, number: u16) -> Result<(Field, Answer), Refusal> {
@@ -599,6 +615,15 @@ impl Field {
         }
     }
 
+    /// Whether the aircraft is on the field, and then whether it is this desk's.
+    fn check_owner(&self, number: u16, desk: u8) -> Result<(), Refusal> {
+        let (_, aircraft) = self.find(number).ok_or(Refusal::NotOnField)?;
+        match aircraft.desk == desk {
+            true => Ok(()),
+            false => Err(Refusal::OtherDesk),
+        }
+    }
+
     /// Where the aircraft is, if the kind starts there and it is at the head.
     fn at_head<T>(&self, number: u16, starts_from: impl Fn(Zone) -> Option<T>) -> Result<(Zone, T), Refusal> {
         let (zone, _) = self.find(number).ok_or(Refusal::NotOnField)?;
@@ -624,12 +649,14 @@ impl Field {
         Ok(zone)
     }
 
-    fn entered(&self, to: Zone, side: Side, number: u16, speed: u16) -> (Field, Answer) {
+    fn entered(&self, to: Zone, newcomer: Newcomer) -> (Field, Answer) {
+        let Newcomer { side, number, speed, desk } = newcomer;
         let mut after = self.clone();
         let fix = if after.sequence.is_empty() { side } else { after.next_fix };
         after.next_fix = fix.opposite();
         after.sequence.push_back(number);
-        after.put(Aircraft { number, fix, speed, progress: Progress::Waiting, waited: 0.0, leg: 0.0 }, to);
+        let progress = Progress::Waiting;
+        after.put(Aircraft { number, fix, speed, progress, waited: 0.0, leg: 0.0, desk }, to);
         let answer = after.answer(number);
         (after, answer)
     }
@@ -677,5 +704,14 @@ impl Field {
             None => (0, 0),
         };
         Answer { aircraft: number, zone, fix, leader: self.leader(number).unwrap_or(0), along: 0 }
+    }
+
+    /// What a desk is told of an answer on this field: no leader and no along that is the other desk's.
+    fn shown_to(&self, desk: u8, answer: Answer) -> Answer {
+        let shown = |number| match self.find(number) {
+            Some((_, aircraft)) if aircraft.desk == desk => number,
+            _ => 0,
+        };
+        Answer { leader: shown(answer.leader), along: shown(answer.along), ..answer }
     }
 }

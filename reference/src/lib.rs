@@ -13,11 +13,13 @@
 //! [`mod@button`] what a press proposes, [`mod@spacing`] the gaps along the
 //! path, [`index`] a field with an index beside it, [`writer`] writes a
 //! practice file, [`classroom`] converts a field to a list and back,
-//! [`history`] keeps the last fields and takes requests back.
+//! [`history`] keeps the last fields and takes requests back, [`desks`] renames
+//! what is the other desk's.
 
 pub mod binder;
 pub mod button;
 pub mod classroom;
+pub mod desks;
 pub mod explore;
 pub mod field;
 pub mod file;
@@ -31,6 +33,7 @@ pub mod writer;
 pub use binder::Week;
 pub use button::Ending;
 pub use classroom::Listed;
+pub use desks::{Asked, Renaming};
 pub use field::{Aircraft, Answer, Field, Legs, Progress, Side, Zone};
 pub use file::PracticeFile;
 pub use history::History;

@@ -93,6 +93,7 @@ impl BackRefusal {
 /// Why a request is not accepted.
 #[derive(Clone, Copy, Debug, PartialEq, Eq)]
 pub enum Refusal {
+    Desk,
     Kind,
     Side,
     Number,
@@ -100,6 +101,7 @@ pub enum Refusal {
     FieldBreaksBound,
     AlreadyPresent,
     NotOnField,
+    OtherDesk,
     WrongZone,
     NotAtHead,
     LegNotFlownOut,
@@ -118,6 +120,7 @@ pub enum Refusal {
 impl Refusal {
     pub fn number(self) -> u8 {
         match self {
+            Refusal::Desk => 31,
             Refusal::Kind => 1,
             Refusal::Side => 2,
             Refusal::Number => 3,
@@ -125,6 +128,7 @@ impl Refusal {
             Refusal::FieldBreaksBound => 10,
             Refusal::AlreadyPresent => 11,
             Refusal::NotOnField => 12,
+            Refusal::OtherDesk => 26,
             Refusal::WrongZone => 13,
             Refusal::NotAtHead => 14,
             Refusal::LegNotFlownOut => 15,

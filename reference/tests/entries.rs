@@ -72,8 +72,15 @@ fn as_descend_and_entry(field: &Field, answered: &mut BTreeMap<u8, usize>) {
 /// What an entry that moves another leaves, said without any step.
 fn seen_in_the_field(field: &Field, entered: &Field, side: Side, lower: u16) {
     let fix = field.next_fix;
-    let caller =
-        Aircraft { number: NEW, fix, speed: SPEED, progress: Progress::Waiting, waited: 0.0, leg: 0.0 };
+    let caller = Aircraft {
+        number: NEW,
+        fix,
+        speed: SPEED,
+        progress: Progress::Waiting,
+        waited: 0.0,
+        leg: 0.0,
+        desk: 1,
+    };
     let mut expected = field.clone();
     let one = expected.zone_mut(Holding3(side)).pop_front().expect("3000 is taken");
     assert_eq!(one.number, lower);
@@ -142,8 +149,15 @@ fn both_holdings_taken() {
             let mut field = empty();
             for (number, zone) in [(1, Holding3(side)), (2, below)] {
                 let fix = side.opposite();
-                let waiting =
-                    Aircraft { number, fix, speed: 64, progress: Progress::Waiting, waited: 0.0, leg: 0.0 };
+                let waiting = Aircraft {
+                    number,
+                    fix,
+                    speed: 64,
+                    progress: Progress::Waiting,
+                    waited: 0.0,
+                    leg: 0.0,
+                    desk: 1,
+                };
                 field.zone_mut(zone).push_back(waiting);
             }
             assert_eq!(field.step_unjudged(&entry(side)), Err(Refusal::Potential));

@@ -44,6 +44,8 @@ fn broken() -> Vec<(&'static str, Indexed)> {
         ("speed 0", changed(|field| field.zones[8][0].speed = 0)),
         ("miles waited", changed(|field| field.zones[3][0].waited = -1.0)),
         ("its own leg", changed(|field| field.zones[8][0].leg = 2.0)),
+        ("no desk", changed(|field| field.zones[8][0].desk = 0)),
+        ("a third desk", changed(|field| field.zones[12][0].desk = 3)),
         ("no index", index(|index| *index = Index::default())),
         ("a zone in the index", index(|index| index.0[1].zone = 3)),
         ("a place in the index", index(|index| index.0[0].place = 2)),

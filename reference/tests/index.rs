@@ -78,10 +78,10 @@ fn plays(indexed: &mut Indexed, request: &Request) -> bool {
 
 /// Requests that break an input rule, each with its number.
 const UNREADABLE: [(Request, Refusal); 4] = [
-    (Request { kind: 13, side: 0, number: 1, amount: 0 }, Refusal::Kind),
-    (Request { kind: 1, side: 3, number: 9, amount: 64 }, Refusal::Side),
-    (Request { kind: 5, side: 0, number: 0, amount: 0 }, Refusal::Number),
-    (Request { kind: 12, side: 0, number: 0, amount: 65 }, Refusal::Amount),
+    (Request { kind: 13, side: 0, number: 1, amount: 0, desk: 1 }, Refusal::Kind),
+    (Request { kind: 1, side: 3, number: 9, amount: 64, desk: 1 }, Refusal::Side),
+    (Request { kind: 5, side: 0, number: 0, amount: 0, desk: 1 }, Refusal::Number),
+    (Request { kind: 12, side: 0, number: 0, amount: 65, desk: 1 }, Refusal::Amount),
 ];
 
 #[test]

@@ -8,13 +8,14 @@ pub fn bits(indexed: &Indexed) -> Vec<u64> {
     let mut all = Vec::new();
     for queue in zones {
         all.push(queue.len() as u64);
-        for &Aircraft { number, fix, speed, progress, waited, leg } in queue {
+        for &Aircraft { number, fix, speed, progress, waited, leg, desk } in queue {
             let (flies, miles) = match progress {
                 Progress::Waiting => (0, 0),
                 Progress::Flying(miles) => (1, miles.to_bits()),
             };
             all.extend([u64::from(number), fix.number().into(), speed.into(), flies, miles]);
             all.extend([waited, leg].map(f64::to_bits));
+            all.push(desk.into());
         }
     }
     all.push(sequence.len() as u64);
@@ -63,8 +64,8 @@ pub fn back(history: &mut History, desk: u8) -> u8 {
 
 /// Requests that break an input rule, each with its number.
 pub const UNREADABLE: [(Request, u8); 4] = [
-    (Request { kind: 0, side: 0, number: 1, amount: 0 }, 1),
-    (Request { kind: 2, side: 0, number: 9, amount: 64 }, 2),
-    (Request { kind: 12, side: 0, number: 1, amount: 64 }, 3),
-    (Request { kind: 1, side: 1, number: 9, amount: 513 }, 4),
+    (Request { kind: 0, side: 0, number: 1, amount: 0, desk: 1 }, 1),
+    (Request { kind: 2, side: 0, number: 9, amount: 64, desk: 1 }, 2),
+    (Request { kind: 12, side: 0, number: 1, amount: 64, desk: 1 }, 3),
+    (Request { kind: 1, side: 1, number: 9, amount: 513, desk: 1 }, 4),
 ];

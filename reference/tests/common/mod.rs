@@ -2,6 +2,7 @@
 #![allow(dead_code)]
 
 pub mod classroom;
+pub mod desks;
 pub mod history;
 
 use reference::explore::requests;
@@ -11,13 +12,13 @@ pub fn empty() -> Field {
     Field::empty(Legs::from_64ths([64; 4]))
 }
 
-/// One more at the end of a zone, at the start of its leg, and of the sequence.
+/// One more at the end of a zone, at the start of its leg, and of the sequence, of desk 1.
 pub fn put(field: &mut Field, zone: Zone, number: u16, fix: Side) {
     let (progress, leg) = match field.legs.of(zone) {
         Some(leg) => (Progress::Flying(0.0), leg),
         None => (Progress::Waiting, 0.0),
     };
-    field.zone_mut(zone).push_back(Aircraft { number, fix, speed: 64, progress, waited: 0.0, leg });
+    field.zone_mut(zone).push_back(Aircraft { number, fix, speed: 64, progress, waited: 0.0, leg, desk: 1 });
     if zone != Zone::Runway {
         field.sequence.push_back(number);
         field.next_fix = fix.opposite();

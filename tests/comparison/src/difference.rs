@@ -176,7 +176,7 @@ fn text(file: &[u8]) -> String {
     let Ok(practice) = PracticeFile::read(file) else { return hexadecimal(file) };
     let [base, intermediate, final_, missed] = practice.legs_64ths;
     let mut text = format!("{base} {intermediate} {final_} {missed}\n");
-    for Request { kind, side, number, amount } in practice.requests {
+    for Request { kind, side, number, amount, .. } in practice.requests {
         text += &format!("{kind} {side} {number} {amount}\n");
     }
     text

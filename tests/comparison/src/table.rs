@@ -7,7 +7,8 @@ use reference::file::MOST_REQUESTS;
 use reference::PracticeFile;
 use std::fmt;
 
-/// What can be answered to a kind from an empty field, never 10, 20 and 25; kind 0 stands for every other than 1 to 12.
+/// What can be answered to a kind from an empty field, never 10, 20 and 25, and to desk 1 alone, as which a file plays, never 26 and 31;
+/// kind 0 stands for every other than 1 to 12.
 fn reachable(kind: u8) -> &'static [u8] {
     match kind {
         0 => &[1],
