@@ -1,6 +1,5 @@
 -- Each part that kept fields have in the claim of two desks with steps back is needed, a short list for each: by one computation. This desk is desk 1. Assumes nothing.
 use mathlib.Core.Path.{_≡_, refl, sym, ap}
-use mathlib.Core.Logic.{_⊎_, inl, inr}
 use mathlib.Core.Bool.{Bool, true, false, not, _||_, true≢false}
 use mathlib.Core.List.{List, [], _∷_}
 use Prim.Native.Nat.{ℕ}
@@ -8,15 +7,13 @@ use native.Mathlib.Omega.{arith}
 use lib.Dec.{T, eqb, leb, leb→le, eqb→eq}
 use lib.Ieee.Fits.{and-l, and-r}
 use borrow.Author.Tests.{eq-eqb}
-use Rattle.leg.specs.Ticks.{Between}
-use Rattle.request.specs.declared.Request.{Request}
 use Rattle.field.specs.declared.Aircraft.{Aircraft}
 use Rattle.field.specs.declared.Field.{Field}
 use Rattle.field.specs.Lists.{every}
 use Rattle.field.proofs.Lists.{every-listed, zone-listed}
 use lib.Ieee.{neg, add, sub, mul, div, ofInt, round, lt, le, eq}
 use Rattle.leg.specs.Progress.{advanced, pastEnd, waitedAfter, missedLeg}
-use Rattle.request.specs.Input.{within, deskAllowed, kindAllowed, sideAllowed, numberAllowed, amountAllowed, inputNumber}
+use Rattle.request.specs.Input.{deskAllowed, kindAllowed, sideAllowed, numberAllowed, amountAllowed, inputNumber}
 use Rattle.field.specs.Boxes.{everywhere, isSide, sideOf, opposite, isFlyingZone, zoneOf, queueOf, inZone, orderOf, legOf, progressInto, entering, onLeg, arrived, turnedAway, withFix, legFlownOut, emptyField}
 use Rattle.questions.specs.Counts.{howMany, howManyWithFix, presentOn, inOperation, inArea, perFix, approachHolds, countedFor, potentialOf}
 use Rattle.questions.specs.Find.{findIn, placeOf, aircraftAt, fixOf, isFirst, leaderOf, leaderZone}
@@ -30,7 +27,7 @@ use Rattle.finder.specs.Finder.{entryOf, isBefore, firstOf, secondOf, indexOf, 
 use Rattle.finder.specs.declared.Indexed.{Indexed}
 use Rattle.rules.specs.declared.Answer.{Answer}
 use Rattle.rules.specs.Cases.{ask, allLegs}
-use Rattle.renaming.specs.Renaming.{Renaming, exchanged}
+use Rattle.renaming.specs.Renaming.{exchanged}
 use Rattle.renaming.proofs.Exchanged.{exchange-renames}
 use Rattle.indexed.specs.Indexed.{withIndex}
 use Rattle.isolated.specs.Isolated.{Each, FixesOne, FixesAircraft}

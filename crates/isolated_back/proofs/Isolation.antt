@@ -2,13 +2,13 @@
 -- nothing.
 use mathlib.Core.Path.{_≡_, refl, sym, ap, _∙_, subst⁻¹}
 use mathlib.Core.Logic.{_⊎_, inl, inr}
-use mathlib.Core.Bool.{Bool, true, false, cond, _&&_}
-use mathlib.Core.List.{List, [], _∷_, _++_, map}
+use mathlib.Core.Bool.{Bool, true, false, cond}
+use mathlib.Core.List.{List, [], _∷_, map}
 use Prim.Native.Nat.{ℕ, _≤_}
 use native.Mathlib.Omega.{arith}
 use lib.Dec.{T, eqb, leb}
 use lib.Ieee.Fits.{and-l, and-r}
-use lib.ListN.{length, take, drop, length-map, length-append, length-drop}
+use lib.ListN.{length, drop, length-map, length-append, length-drop}
 use lib.Seq.{length-take-le, take-at}
 use borrow.Author.Tests.{eqb-true, eq-eqb}
 use Rattle.request.specs.declared.Request.{Request}
@@ -17,11 +17,10 @@ use Rattle.field.proofs.Tests.{pass, passed, decided, if-false, either-way}
 use Rattle.finder.specs.declared.Indexed.{Indexed}
 use Rattle.finder.specs.Finder.{withinBoundsIndexed}
 use Rattle.rules.specs.declared.Answer.{Answer}
-use Rattle.rules.specs.Step.{numberAndZeros, stepOf}
-use Rattle.renaming.specs.Renaming.{Renaming, renamedField, renamedRequest, renamedAnswer}
+use Rattle.renaming.specs.Renaming.{Renaming, renamedRequest, renamedAnswer}
 use Rattle.indexed.specs.Indexed.{withIndex}
 use Rattle.indexed.proofs.Steps.{field-within, index-own}
-use Rattle.isolated.specs.Isolated.{Each, renamedOthers, renamedOtherRequest, FixesRequest, FixesAircraft}
+use Rattle.isolated.specs.Isolated.{Each, FixesAircraft}
 use Rattle.isolated.proofs.Lists.{maps-agree}
 use Rattle.isolated.proofs.Shown.{zeros-stay, answer-stays}
 use Rattle.isolated.proofs.Isolation.{own-stay, field-is, request-is}
@@ -30,7 +29,7 @@ use Rattle.history.specs.declared.SteppedHistory.{SteppedHistory}
 use Rattle.history.specs.History.{mostKept, counted, keptWithinBounds, withinBoundsHistory, numberHistory, stepHistory, numberBack, stepBack}
 use Rattle.history.proofs.Numbers as numbers
 use Rattle.taken_back.specs.Calls.{Call, request, back, called, playedCalls}
-use Rattle.isolated_back.specs.IsolatedBack.{renamedIndexed, renamedHistory, renamedOtherCall, callDesk, callsOf, FixesCall, KeepsOwnBack, Shaped, IsolationBack}
+use Rattle.isolated_back.specs.IsolatedBack.{renamedIndexed, renamedHistory, renamedOtherCall, callDesk, callsOf, FixesCall, Shaped, IsolationBack}
 use Rattle.isolated_back.proofs.Renamed.{renamed, Own, Renamed, Answered, request-renamed, back-renamed}
 
 module _ (d : ℕ) {π : ℕ → ℕ} (p : Renaming π) where

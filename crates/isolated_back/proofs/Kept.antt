@@ -1,9 +1,9 @@
--- The kept fields that count after a field is kept, and how many. Assumes nothing.
+-- The kept fields that count after a field is kept. Assumes nothing.
 use mathlib.Core.Path.{_≡_, refl, sym, ap, _∙_}
 use mathlib.Core.Logic.{inl, inr}
-use mathlib.Core.Bool.{Bool, cond}
+use mathlib.Core.Bool.{cond}
 use mathlib.Core.List.{List, [], _∷_, _++_, map}
-use Prim.Native.Nat.{ℕ, _+_, _≤_}
+use Prim.Native.Nat.{_+_, _≤_}
 use native.Mathlib.Numerals.{add-one}
 use native.Mathlib.Omega.{arith}
 use lib.Dec.{ltb}
@@ -15,20 +15,13 @@ use Rattle.finder.specs.declared.Indexed.{Indexed}
 use Rattle.history.specs.declared.History.{History}
 use Rattle.history.specs.History.{mostKept, counted, keeping}
 use Rattle.history.proofs.Moved.{movedUp, moved-length}
+use Rattle.taken_back.proofs.Counts.{keeping-count}
 
 -- the kept fields that still count when one more is kept
 abbrev pub leftOf : History → List Indexed
 leftOf h = cond (ltb (h .count) mostKept) (counted h) (drop 1 (counted h))
 
 module _ (h : History) (places : length (h .kept) ≡ mostKept) (few : h .count ≤ mostKept) (next : Indexed) where
-  pub kept-count : keeping h next .count ≡ cond (ltb (h .count) mostKept) (h .count + 1) (h .count)
-  unfolding keeping
-  kept-count =
-      elim (decided (ltb (h .count) mostKept)) [
-        | inl t ↦ ap (λ (g : History). g .count) (if-true _ _ t) ∙ sym (if-true _ _ t)
-        | inr t ↦ ap (λ (g : History). g .count) (if-false _ _ t) ∙ sym (if-false _ _ t)
-      ]
-
   pub kept-now : keeping h next .now ≡ next
   unfolding keeping
   kept-now =
@@ -39,7 +32,7 @@ module _ (h : History) (places : length (h .kept) ≡ mostKept) (few : h .count 
 
   pub kept-few : keeping h next .count ≤ mostKept
   kept-few =
-      let e = kept-count in
+      let e = keeping-count h next in
       elim (decided (ltb (h .count) mostKept)) [
         | inl t ↦ let room = ltb-true (h .count) mostKept t in let k = e ∙ if-true _ _ t in omega (arith, k, room)
         | inr t ↦ let k = e ∙ if-false _ _ t in omega (arith, k, few)

@@ -9,14 +9,13 @@ use lib.Dec.{eqb, leb, ltb}
 use lib.ListN.{length, getD, take, drop, List·getD-map}
 use lib.Seq.{getD-take, take-take}
 use borrow.Author.Tests.{eqb-true, eqb-false}
-use Rattle.request.specs.Input.{within, inputNumber, firstRefused}
+use Rattle.request.specs.Input.{within, firstRefused}
 use Rattle.request.specs.declared.Request.{Request}
 use Rattle.field.specs.declared.Field.{Field}
 use Rattle.field.specs.Lists.{every}
 use Rattle.field.proofs.Tests.{decided, either-way}
 use Rattle.finder.specs.declared.Indexed.{Indexed}
 use Rattle.finder.specs.Finder.{withinBoundsIndexed}
-use Rattle.rules.specs.declared.Answer.{Answer}
 use Rattle.rules.specs.declared.Stepped.{Stepped}
 use Rattle.rules.specs.Step.{numberOf, numberAndZeros, stepOf}
 use Rattle.renaming.specs.Renaming.{Renaming, renamedField, renamedRequest, renamedAnswer}
@@ -34,8 +33,8 @@ use Rattle.history.specs.declared.History.{History}
 use Rattle.history.specs.declared.SteppedHistory.{SteppedHistory}
 use Rattle.history.specs.History.{mostKept, counted, keptWithinBounds, withinBoundsHistory, keeping, numberHistory, stepHistory, numberBack, givenBack, stepBack}
 use Rattle.history.proofs.Numbers as numbers
-use Rattle.taken_back.proofs.Counts.{some-kept}
-use Rattle.isolated_back.proofs.Kept.{leftOf, kept-count, kept-now, kept-few, kept-places, kept-counted, map-behind}
+use Rattle.taken_back.proofs.Counts.{some-kept, keeping-count}
+use Rattle.isolated_back.proofs.Kept.{leftOf, kept-now, kept-few, kept-places, kept-counted, map-behind}
 
 module _ (d : ℕ) {π : ℕ → ℕ} (p : Renaming π) where
   -- a field with its index: all numbers renamed, and the index put in order again
@@ -110,8 +109,8 @@ module _ (d : ℕ) {π : ℕ → ℕ} (p : Renaming π) where
           let ch = kept-counted h (q .places) (q .few) next in
           record {
             count =
-                kept-count g (q .places-too) few-too (renamed next) ∙ ap (λ (k : ℕ). cond (ltb k mostKept) (k + 1) k) (q .count)
-                ∙ sym (kept-count h (q .places) (q .few) next);
+                keeping-count g (renamed next) ∙ ap (λ (k : ℕ). cond (ltb k mostKept) (k + 1) k) (q .count)
+                ∙ sym (keeping-count h next);
             few = kept-few h (q .places) (q .few) next;
             places = kept-places h (q .places) (q .few) next;
             places-too = kept-places g (q .places-too) few-too (renamed next);

@@ -82,6 +82,14 @@ some-kept h desk z = go (within 1 2 desk) (withinBoundsHistory h) (ltb 0 (h .cou
     go true false k e z = absurd (omega (arith, z))
     go false b k e z = absurd (omega (arith, z))
 
+-- how many count when one more is kept
+pub keeping-count : (h : History) (next : Indexed) → keeping h next .count ≡ cond (ltb (h .count) mostKept) (h .count + 1) (h .count)
+unfolding keeping
+keeping-count h next = elim (decided (ltb (h .count) mostKept)) [
+  | inl t ↦ ap (λ (g : History). g .count) (if-true _ _ t) ∙ sym (if-true _ _ t)
+  | inr t ↦ ap (λ (g : History). g .count) (if-false _ _ t) ∙ sym (if-false _ _ t)
+]
+
 module _ (h : History) (rs : List Request) (most : ℕ) (p : Counts (h .count) (length rs) most) where
   -- what a call leaves that makes `more` of the history where it is accepted
   abbrev Left : List Request → SteppedHistory → Type 0
@@ -94,13 +102,6 @@ module _ (h : History) (rs : List Request) (most : ℕ) (p : Counts (h .count) (
   unfolding numberAndZeros
   turned-away more n z = subst⁻¹ (λ (l : List Request). After (h .count) (length l) most) (if-false more rs (ne-eqb n 0 z)) (counts-same p)
 
-  keeping-count : (next : Indexed) → keeping h next .count ≡ cond (ltb (h .count) mostKept) (h .count + 1) (h .count)
-  unfolding keeping
-  keeping-count next = elim (decided (ltb (h .count) mostKept)) [
-    | inl t ↦ ap (λ (g : History). g .count) (if-true _ _ t) ∙ sym (if-true _ _ t)
-    | inr t ↦ ap (λ (g : History). g .count) (if-false _ _ t) ∙ sym (if-false _ _ t)
-  ]
-
   requested : (r : Request) → Left (rs ++ (r ∷ [])) (stepHistory h r)
   requested r =
       let f = h .now .field in
@@ -110,7 +111,7 @@ module _ (h : History) (rs : List Request) (most : ℕ) (p : Counts (h .count) (
             let z = eqb-true (numberHistory h r) 0 e in
             subst (Left (rs ++ (r ∷ []))) (numbers.let-through h r z)
             (let-through (rs ++ (r ∷ [])) (stepOf f r .answer) (keeping h next) (number-is f r ∙ passes h r z .number)
-            (rw (keeping-count next, length-append rs (r ∷ [])) (counts-more p)))
+            (rw (keeping-count h next, length-append rs (r ∷ [])) (counts-more p)))
         | inr e ↦
             let z = eqb-false (numberHistory h r) 0 e in
             subst (Left (rs ++ (r ∷ []))) (numbers.turned-away h r refl z) (turned-away (rs ++ (r ∷ [])) (numberHistory h r) z)

@@ -17,7 +17,6 @@ use Rattle.indexed.proofs.Own.{within-own}
 use Rattle.playing.specs.Playing.{legsInMiles}
 use Rattle.dialect.specs.declared.Entry.{Entry}
 use Rattle.dialect.specs.Coming.{withEntry, builtOn, built, entriesIn, fieldOf}
-use Rattle.history.specs.declared.History.{History}
 use Rattle.history.specs.History.{mostKept, startWith, keptWithinBounds, withinBoundsHistory}
 use Rattle.there_and_back.specs.FromList.{FromList}
 use Rattle.there_and_back.proofs.Accepted.{accepted}
