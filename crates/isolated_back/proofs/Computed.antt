@@ -30,7 +30,8 @@ use Rattle.rules.specs.Cases.{ask, allLegs}
 use Rattle.renaming.specs.Renaming.{exchanged}
 use Rattle.renaming.proofs.Exchanged.{exchange-renames}
 use Rattle.indexed.specs.Indexed.{withIndex}
-use Rattle.isolated.specs.Isolated.{Each, FixesOne, FixesAircraft}
+use Rattle.owners.specs.Owners.{Each}
+use Rattle.isolated.specs.Isolated.{FixesOne, FixesAircraft}
 use Rattle.isolated.specs.Seen.{otherLets}
 use Rattle.history.specs.declared.History.{History}
 use Rattle.history.specs.History.{counted, startOf, startWith, keptWithinBounds, withinBoundsHistory, keeping, numberHistory, stepHistory, numberBack, givenBack, stepBack}

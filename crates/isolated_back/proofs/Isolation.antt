@@ -20,8 +20,9 @@ use Rattle.rules.specs.declared.Answer.{Answer}
 use Rattle.renaming.specs.Renaming.{Renaming, renamedRequest, renamedAnswer}
 use Rattle.indexed.specs.Indexed.{withIndex}
 use Rattle.indexed.proofs.Steps.{field-within, index-own}
-use Rattle.isolated.specs.Isolated.{Each, FixesAircraft}
-use Rattle.isolated.proofs.Lists.{maps-agree}
+use Rattle.owners.specs.Owners.{Each}
+use Rattle.isolated.specs.Isolated.{FixesAircraft}
+use Rattle.owners.proofs.Lists.{maps-agree}
 use Rattle.isolated.proofs.Shown.{zeros-stay, answer-stays}
 use Rattle.isolated.proofs.Isolation.{own-stay, field-is, request-is}
 use Rattle.history.specs.declared.History.{History}

@@ -25,8 +25,9 @@ use Rattle.renaming.proofs.Needed.{input-renamed}
 use Rattle.renaming.proofs.Theorems.{number-renamed, step-renamed}
 use Rattle.indexed.specs.Indexed.{withIndex}
 use Rattle.indexed.proofs.Own.{within-own}
-use Rattle.isolated.specs.Isolated.{Each, FixesRequest}
-use Rattle.isolated.proofs.Lists.{each-drop, each-take, each-append, each-at}
+use Rattle.owners.specs.Owners.{Each}
+use Rattle.isolated.specs.Isolated.{FixesRequest}
+use Rattle.owners.proofs.Lists.{each-drop, each-take, each-append, each-at}
 use Rattle.isolated.proofs.Stays.{Stays, step-stays}
 use Rattle.isolated.proofs.Shown.{zeros-stay}
 use Rattle.history.specs.declared.History.{History}

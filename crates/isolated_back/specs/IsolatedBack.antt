@@ -10,7 +10,8 @@ use Rattle.finder.specs.declared.Indexed.{Indexed}
 use Rattle.rules.specs.declared.Answer.{Answer}
 use Rattle.renaming.specs.Renaming.{Renaming}
 use Rattle.indexed.specs.Indexed.{withIndex}
-use Rattle.isolated.specs.Isolated.{Each, renamedOthers, renamedOtherRequest, FixesRequest, FixesAircraft}
+use Rattle.owners.specs.Owners.{Each}
+use Rattle.isolated.specs.Isolated.{renamedOthers, renamedOtherRequest, FixesRequest, FixesAircraft}
 use Rattle.history.specs.declared.History.{History}
 use Rattle.history.specs.History.{mostKept, counted, withinBoundsHistory}
 use Rattle.taken_back.specs.Calls.{Call, request, back, playedCalls}

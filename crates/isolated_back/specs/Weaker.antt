@@ -7,7 +7,8 @@ use lib.ListN.{drop}
 use Rattle.finder.specs.declared.Entry.{Entry}
 use Rattle.finder.specs.declared.Indexed.{Indexed}
 use Rattle.renaming.specs.Renaming.{Renaming}
-use Rattle.isolated.specs.Isolated.{Each, renamedOthers, FixesAircraft}
+use Rattle.owners.specs.Owners.{Each}
+use Rattle.isolated.specs.Isolated.{renamedOthers, FixesAircraft}
 use Rattle.history.specs.declared.History.{History}
 use Rattle.history.specs.History.{counted, withinBoundsHistory}
 use Rattle.taken_back.specs.Calls.{Call, playedCalls}
