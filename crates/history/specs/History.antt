@@ -22,9 +22,14 @@ use Rattle.history.specs.declared.SteppedHistory.{SteppedHistory}
 abbrev pub mostKept : ℕ
 mostKept = 8
 
--- the start: the empty field with these legs, of which no field before it is kept; all eight places hold that field too (02, 2.13)
+-- a field with its index, such as one built from a classroom list (02, 2.12), of which no field before it is kept; all eight places hold the empty field
+-- with its legs (02, 2.13)
+unfoldable pub startWith : Indexed → History
+startWith x = record { now = x; kept = replicate mostKept (withIndex (emptyField (x .field .legs))); count = 0 }
+
+-- the start: so with the empty field with these legs
 unfoldable pub startOf : Legs → History
-startOf legs = record { now = withIndex (emptyField legs); kept = replicate mostKept (withIndex (emptyField legs)); count = 0 }
+startOf legs = startWith (withIndex (emptyField legs))
 
 -- the kept fields that count, oldest first; the places behind them are not looked at
 abbrev pub counted : History → List Indexed

@@ -11,7 +11,7 @@ use rules::Answer;
 use step::number_and_zeros;
 ghost use mathlib.Core.Path.{_≡_};
 ghost use Rattle.rules.specs.Step.{numberAndZeros};
-ghost use Rattle.history.specs.History.{startOf, keptWithinBounds, withinBoundsHistory, keeping, stepHistory, stepBack};
+ghost use Rattle.history.specs.History.{startWith, startOf, keptWithinBounds, withinBoundsHistory, keeping, stepHistory, stepBack};
 
 // The most fields that are kept.
 const MOST_KEPT: usize = 8;
@@ -29,16 +29,24 @@ pub struct SteppedHistory {
     pub after: History,
 }
 
+// A field with its index, with none kept.
+pub fn start_with(x: Indexed) -> History
+    ensures { λ h. ⌜ h ≡ startWith x ⌝ }
+{
+    let f = x.field;
+    let empty = with_index(empty_field(f.legs));
+    History {
+        now: x,
+        kept: [empty; 8],
+        count: 0,
+    }
+}
+
 // The empty field with these legs, with none kept.
 pub fn start(legs: Legs) -> History
     ensures { λ h. ⌜ h ≡ startOf legs ⌝ }
 {
-    let x = with_index(empty_field(legs));
-    History {
-        now: x,
-        kept: [x; 8],
-        count: 0,
-    }
+    start_with(with_index(empty_field(legs)))
 }
 
 // Whether at most eight kept fields count, and each of them is within the bounds.

@@ -73,10 +73,10 @@ module _ (d : ℕ) {π : ℕ → ℕ} (p : Renaming π) where
   zone-is : (q : Zone) → StaysIn d π q → renamedOthersIn d π q ≡ renamedZone π q
   zone-is q h = rw (maps-agree (FixesOne d π) (renamedOther d π) (renamedAircraft π) aircraft-is (q .aircraft) h) refl
 
-  field-is : (f : Field) → Stays d π f → renamedOthers d π f ≡ renamedField π f
+  pub field-is : (f : Field) → Stays d π f → renamedOthers d π f ≡ renamedField π f
   field-is f h = rw (maps-agree (StaysIn d π) (renamedOthersIn d π) (renamedZone π) zone-is (f .zones) h) refl
 
-  request-is : (r : Request) → FixesRequest d π r → renamedOtherRequest d π r ≡ renamedRequest π r
+  pub request-is : (r : Request) → FixesRequest d π r → renamedOtherRequest d π r ≡ renamedRequest π r
   request-is r k =
       either-way (λ (s : Request). s ≡ renamedRequest π r) (eqb (r .desk) d) r (renamedRequest π r)
       (λ e. rw (k (eqb-true (r .desk) d e)) refl)

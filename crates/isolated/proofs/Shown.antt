@@ -27,7 +27,7 @@ module _ (d : ℕ) {π : ℕ → ℕ} (p : Renaming π) where
   shown-at-stays f h desk z place e = rw e (shown-stays (aircraftAt f z place) (at-stays d p f z place h))
 
   -- ---- answers
-  zeros-stay : (number : ℕ) → renamedAnswer π (numberAndZeros number) ≡ numberAndZeros number
+  pub zeros-stay : (number : ℕ) → renamedAnswer π (numberAndZeros number) ≡ numberAndZeros number
   unfolding numberAndZeros
   zeros-stay number = rw (p .zero) refl
 

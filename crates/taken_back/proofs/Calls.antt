@@ -39,6 +39,7 @@ use Rattle.taken_back.specs.Calls.{Call, request, back, called, playedCa
 use Rattle.history.proofs.Numbers as numbers
 use Rattle.taken_back.specs.TakenBack.{neverAnswered, Follows, TakenBack, asCall, NoneTakenBack}
 use Rattle.taken_back.proofs.Lists.{after-behind, every-read, sound-after}
+use Rattle.taken_back.proofs.Counts.{count-exact}
 use Rattle.taken_back.proofs.Follows.{field-now, follows-start, follows-keeping, follows-given}
 
 module _ (legs : Legs) (l : T (legalLegs legs)) where
@@ -156,7 +157,7 @@ module _ (legs : Legs) (l : T (legalLegs legs)) where
   pub taken-back : (cs : List Call) → TakenBack legs cs
   taken-back cs =
       let run = runs (startOf legs) [] (follows-start legs) cs in
-      record { follows = run .follows; no-10 = run .no-10; no-25 = run .no-25; demand = demand-3 legs l (historyOf legs cs) }
+      record { follows = run .follows; count = count-exact legs cs; no-10 = run .no-10; no-25 = run .no-25; demand = demand-3 legs l (historyOf legs cs) }
 
   -- ---- requests alone
   module _ (h : History) (rs : List Request) (p : Follows legs h rs) (r : Request) where

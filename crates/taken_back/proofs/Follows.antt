@@ -19,7 +19,7 @@ use Rattle.rules.specs.Play.{fieldAfter}
 use Rattle.rules.proofs.StepLaws.{number-is}
 use Rattle.indexed.specs.Indexed.{withIndex}
 use Rattle.history.specs.declared.History.{History}
-use Rattle.history.specs.History.{mostKept, startOf, keeping, givenBack}
+use Rattle.history.specs.History.{mostKept, startOf, startWith, keeping, givenBack}
 use Rattle.history.proofs.Moved.{movedUp, moved-length, moved-at, moved-last}
 use Rattle.taken_back.specs.TakenBack.{fieldAt, Follows}
 use Rattle.taken_back.proofs.Lists.{after-behind, accepted-more, accepted-fewer}
@@ -30,7 +30,7 @@ module _ (legs : Legs) where
 
   -- at the start
   pub follows-start : Follows legs (startOf legs) []
-  unfolding startOf
+  unfolding startOf startWith
   follows-start = record { accepted = tt; now = refl; few = omega arith; before = omega arith; places = refl; kept = λ i d k. absurd (omega arith) }
 
   module _ (h : History) (rs : List Request) (p : Follows legs h rs) where

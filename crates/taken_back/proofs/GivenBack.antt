@@ -39,11 +39,11 @@ every-rest p [] e = refl
 every-rest p (x ∷ l) e = both-right (p x) (every p l) e
 
 -- what an accepted request has passed
-record Passed (h : History) (r : Request) : Type 0 where
+pub record Passed (h : History) (r : Request) : Type 0 where
   pub bounds : withinBoundsHistory h ≡ true
   pub number : numberOf (h .now .field) r ≡ 0
 
-passes : (h : History) (r : Request) → numberHistory h r ≡ 0 → Passed h r
+pub passes : (h : History) (r : Request) → numberHistory h r ≡ 0 → Passed h r
 unfolding numberHistory
 passes h r z = go (eqb (inputNumber r) 0) refl (withinBoundsHistory h) refl z
   where

@@ -1,4 +1,5 @@
 pub mod Lists
 pub mod Follows
-pub mod Calls
 pub mod GivenBack
+pub mod Counts
+pub mod Calls

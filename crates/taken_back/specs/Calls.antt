@@ -2,7 +2,7 @@
 use mathlib.Core.Bool.{cond}
 use mathlib.Core.List.{List, [], _∷_, _++_}
 use Prim.Native.Nat.{ℕ, _-_}
-use lib.Dec.{eqb}
+use lib.Dec.{eqb, ltb}
 use lib.ListN.{length, take}
 use Rattle.request.specs.declared.Request.{Request}
 use Rattle.field.specs.declared.Legs.{Legs}
@@ -42,3 +42,12 @@ withCalls rs (p ∷ ps) = withCalls (withCall rs p) ps
 -- the history of calls from the start with these legs: the accepted requests that no step back took back, in order (02, 2.13)
 abbrev pub historyOf : Legs → List Call → List Request
 historyOf legs cs = withCalls [] (playedCalls (startOf legs) cs)
+
+-- how many requests the history has had at most, where it has had `most` before these calls: more only after a call that makes it longer
+abbrev pub longestFrom : ℕ → List Request → List (Call × Answer) → ℕ
+longestFrom most rs [] = most
+longestFrom most rs (p ∷ ps) = let next = withCall rs p in longestFrom (cond (ltb most (length next)) (length next) most) next ps
+
+-- the length of the history of calls when it was longest
+abbrev pub longestOf : Legs → List Call → ℕ
+longestOf legs cs = longestFrom 0 [] (playedCalls (startOf legs) cs)

@@ -17,7 +17,7 @@ use Rattle.indexed.specs.Indexed.{withIndex}
 use Rattle.demand.specs.Demand.{Demand3}
 use Rattle.history.specs.declared.History.{History}
 use Rattle.history.specs.History.{mostKept, counted, startOf, stepHistory, stepBack}
-use Rattle.taken_back.specs.Calls.{Call, request, called, playedCalls, afterCalls, historyOf}
+use Rattle.taken_back.specs.Calls.{Call, request, called, playedCalls, afterCalls, historyOf, longestOf}
 
 -- no call is answered with the number
 abbrev pub neverAnswered : ℕ → List (Call × Answer) → Bool
@@ -43,6 +43,8 @@ pub record Follows (legs : Legs) (h : History) (rs : List Request) : Type 0 wher
 -- what holds after a list of calls from the empty field with these legs
 pub record TakenBack (legs : Legs) (cs : List Call) : Type 0 where
   pub follows : Follows legs (afterCalls (startOf legs) cs) (historyOf legs cs)
+  -- as many count as the history has requests, less those over eight when it was longest: "one dropped earlier does not return" (02, 2.13)
+  pub count : afterCalls (startOf legs) cs .count ≡ length (historyOf legs cs) - (longestOf legs cs - mostKept)
   -- refusals 10 and 25 never come
   pub no-10 : T (neverAnswered 10 (playedCalls (startOf legs) cs))
   pub no-25 : T (neverAnswered 25 (playedCalls (startOf legs) cs))

@@ -5,3 +5,4 @@ pub mod Back
 pub mod Gone
 pub mod There
 pub mod ReadBack
+pub mod FromList

@@ -1,10 +1,8 @@
 -- `history::start` meets its contract. Assumes nothing.
 use mathlib.Core.Path.{ap, _∙_}
-use lib.ListN.{replicate}
 use borrow.Author.Needs.{needs}
-use Rattle.finder.specs.declared.Indexed.{Indexed}
 use Rattle.indexed.specs.Indexed.{withIndex}
-use Rattle.history.specs.History.{startOf}
+use Rattle.history.specs.History.{startWith, startOf}
 use Rattle.history.proofs.start.Statement.{statement}
 use Rattle.history.proofs.start.Tie as tie
 
@@ -14,10 +12,12 @@ empty-field-requires c κs = search needs
 with-index-requires : tie.Need-with-index-requires
 with-index-requires c κs = search needs
 
+start-with-requires : tie.Need-start-with-requires
+start-with-requires c κs = search needs
+
 returns : tie.Need-returns
 unfolding startOf
-returns c =
-    ap (λ (x : Indexed). record { now = x; kept = replicate 8 x; count = 0 }) (c .with-index .ensures ∙ ap withIndex (c .before .empty-field .ensures))
+returns c = c .start-with .ensures ∙ ap startWith (c .before .with-index .ensures ∙ ap withIndex (c .before .before .empty-field .ensures))
 
 pub start-spec : {M : Type 1} → statement M
-start-spec = tie.close (tie.spec empty-field-requires with-index-requires returns)
+start-spec = tie.close (tie.spec empty-field-requires with-index-requires start-with-requires returns)

@@ -1,0 +1,4 @@
+pub mod Kept
+pub mod Renamed
+pub mod Isolation
+pub mod Computed

@@ -1,0 +1,2 @@
+pub mod IsolatedBack
+pub mod Weaker

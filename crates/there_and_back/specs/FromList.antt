@@ -1,0 +1,23 @@
+-- Document 02, 2.13: a field built from a classroom list (2.12), as a step back finds it. Definitions only.
+use mathlib.Core.Path.{_≡_}
+use mathlib.Core.List.{List}
+use Prim.Native.Nat.{ℕ}
+use lib.Dec.{T}
+use lib.ListN.{replicate}
+use Rattle.practice.specs.declared.FileLegs.{FileLegs}
+use Rattle.field.specs.Boxes.{emptyField}
+use Rattle.indexed.specs.Indexed.{withIndex}
+use Rattle.playing.specs.Playing.{legsInMiles}
+use Rattle.dialect.specs.Coming.{fieldOf}
+use Rattle.history.specs.declared.History.{History}
+use Rattle.history.specs.History.{mostKept, startWith, withinBoundsHistory}
+
+-- the field of a list with its index, and none kept
+abbrev pub historyOfList : FileLegs → ℕ → List ℕ → History
+historyOfList legs speed bytes = startWith (fieldOf legs speed bytes .after)
+
+-- "in a field built from a classroom list, none is kept and all eight places hold the empty field with those legs", and the bounds are kept
+pub record FromList (legs : FileLegs) (speed : ℕ) (bytes : List ℕ) : Type 0 where
+  pub none : historyOfList legs speed bytes .count ≡ 0
+  pub places : historyOfList legs speed bytes .kept ≡ replicate mostKept (withIndex (emptyField (legsInMiles legs)))
+  pub bounds : T (withinBoundsHistory (historyOfList legs speed bytes))
