@@ -7,15 +7,15 @@ pub mod zones;
 
 // Document 01's aircraft: a number (never 0), a fix (the side for its missed approach), a speed in 64ths of a mile
 // per minute, and a progress; and document 02's miles waited, those past the ends of its legs added up since it entered,
-// the length of its own leg in miles, and the desk that let it in.
+// the length of its own leg in miles, and the desk that let it in, which stands beside the fix so that an aircraft is as long as before.
 pub struct Aircraft {
     pub number: u16,
     pub fix: u8,
+    pub desk: u8,
     pub speed: u16,
     pub progress: Progress,
     pub waited: f64,
     pub leg: f64,
-    pub desk: u8,
 }
 
 // Document 01's zone: a first-in first-out queue kept as a fixed array with its length, the head at place 0.
