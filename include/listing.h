@@ -23,7 +23,7 @@ size_t baguymo_list(const uint8_t *file, size_t length, uint8_t *out);
    speed, then entries of number, location, place and fix, each number of 16 bits, little-endian. Any bytes are allowed: refused ones give the line
    `refused` and 7, 4, 29 or 25; with fewer than 8 bytes a leg is not there, which is 7, and with 8 or 9 the speed, which is 4. Everyone on the field belongs
    to desk 1. A field that is built so keeps the bounds, and need not be one that requests reach: nothing of demand 3 is claimed of it, and somebody may be
-   on it with nobody able to move. So it is at once on 36 of the 130 patterns of up to four in the holdings; one is A at 3000 right with fix 1 ahead of B at
+   on it with nobody able to move. So it is at once on 36 of the 128 patterns of one to four in the holdings; one is A at 3000 right with fix 1 ahead of B at
    2000 right with fix 2. */
 size_t baguymo_field(const uint8_t *input, size_t length, uint8_t *out);
 
