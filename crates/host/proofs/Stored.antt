@@ -10,8 +10,11 @@ use Rattle.layout.specs.Written.{historyBytes}
 use Rattle.practice.specs.declared.FileLegs.{FileLegs}
 use Rattle.practice.specs.File.{legsAllowed}
 use Rattle.playing.specs.Playing.{legsInMiles}
-use Rattle.history.specs.History.{startOf}
-use Rattle.host.specs.Calls.{stateAfter, startNumber, startedState}
+use Rattle.request.specs.declared.Request.{Request}
+use Rattle.history.specs.declared.SteppedHistory.{SteppedHistory}
+use Rattle.history.specs.History.{startOf, stepHistory, stepBack}
+use Rattle.layout.specs.Read.{historyOf}
+use Rattle.host.specs.Calls.{stateAfter, startNumber, startedState, askedOf, backOf}
 
 pub state-stored : (state : List ℕ) (number : ℕ) (h : History) → number ≡ 0 → stateAfter state number h ≡ historyBytes h
 state-stored state number h e = if-true _ _ (eq-eqb number 0 e)
@@ -29,3 +32,12 @@ pub start-stored : (state : List ℕ) (legs : FileLegs) → legsAllowed legs ≡
 start-stored state legs h =
     let e : startNumber legs ≡ 0 = if-true _ _ h in
     (sym e, sym (ap (λ (n : ℕ). stateAfter state n (startOf (legsInMiles legs))) e))
+
+-- ---- a step on the history that the bytes are read as
+pub asked : (state : List ℕ) (r : Request) {h : History} {s : SteppedHistory} → s ≡ stepHistory h r → h ≡ historyOf state → s ≡ askedOf state r
+unfolding askedOf
+asked state r e g = e ∙ ap (λ (x : History). stepHistory x r) g
+
+pub stepped-back : (state : List ℕ) (desk : ℕ) {h : History} {s : SteppedHistory} → s ≡ stepBack h desk → h ≡ historyOf state → s ≡ backOf state desk
+unfolding backOf
+stepped-back state desk e g = e ∙ ap (λ (x : History). stepBack x desk) g

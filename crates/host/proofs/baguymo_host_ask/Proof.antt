@@ -1,10 +1,10 @@
 -- `host::baguymo_host_ask` meets its contract: the answer and the state of the step on the history that the bytes are read as. Assumes nothing.
 use mathlib.Core.Path.{_≡_, ap, _∙_}
+use denote.Ref.{now}
 use borrow.Author.Needs.{needs}
-use Rattle.history.specs.declared.History.{History}
 use Rattle.history.specs.declared.SteppedHistory.{SteppedHistory}
-use Rattle.history.specs.History.{stepHistory}
-use Rattle.host.specs.Calls.{answerNumbers, steppedState, askedOf}
+use Rattle.host.specs.Calls.{answerNumbers, steppedState}
+use Rattle.host.proofs.Stored.{asked}
 use Rattle.host.proofs.baguymo_host_ask.Statement.{statement}
 use Rattle.host.proofs.baguymo_host_ask.Tie as tie
 
@@ -21,12 +21,12 @@ store-step-requires : tie.Need-store-step-requires
 store-step-requires c κs = search needs
 
 returns : tie.Need-returns
-unfolding askedOf
 returns c =
     let k = c .before .before .before in
-    let e = k .step-history .ensures ∙ ap (λ (h : History). stepHistory h _) (k .before .history-of .ensures) in (
+    let state = now (k .before .before .before .before .before .args .state) in
+    let e = asked state _ (k .step-history .ensures) (k .before .history-of .ensures) in (
       ap (λ (s : SteppedHistory). s .answer .number) e,
-      (c .before .put-answer .ensures ∙ ap (λ (s : SteppedHistory). answerNumbers (s .answer)) e, c .store-step .ensures ∙ ap (λ (s : SteppedHistory). steppedState _ s) e),
+      (c .before .put-answer .ensures ∙ ap (λ (s : SteppedHistory). answerNumbers (s .answer)) e, c .store-step .ensures ∙ ap (steppedState state) e),
     )
 
 pub baguymo-host-ask-spec : {M : Type 1} → statement M

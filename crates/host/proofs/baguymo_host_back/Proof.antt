@@ -1,10 +1,10 @@
 -- `host::baguymo_host_back` meets its contract: the number and the state of the step back on the history that the bytes are read as. Assumes nothing.
 use mathlib.Core.Path.{_≡_, ap, _∙_}
+use denote.Ref.{now}
 use borrow.Author.Needs.{needs}
-use Rattle.history.specs.declared.History.{History}
 use Rattle.history.specs.declared.SteppedHistory.{SteppedHistory}
-use Rattle.history.specs.History.{stepBack}
-use Rattle.host.specs.Calls.{steppedState, backOf}
+use Rattle.host.specs.Calls.{steppedState}
+use Rattle.host.proofs.Stored.{stepped-back}
 use Rattle.host.proofs.baguymo_host_back.Statement.{statement}
 use Rattle.host.proofs.baguymo_host_back.Tie as tie
 
@@ -18,11 +18,11 @@ store-step-requires : tie.Need-store-step-requires
 store-step-requires c κs = search needs
 
 returns : tie.Need-returns
-unfolding backOf
 returns c =
     let k = c .before .before in
-    let e = k .step-back .ensures ∙ ap (λ (h : History). stepBack h _) (k .before .history-of .ensures) in
-    (ap (λ (s : SteppedHistory). s .answer .number) e, c .before .store-step .ensures ∙ ap (λ (s : SteppedHistory). steppedState _ s) e)
+    let state = now (k .before .before .before .before .args .state) in
+    let e = stepped-back state _ (k .step-back .ensures) (k .before .history-of .ensures) in
+    (ap (λ (s : SteppedHistory). s .answer .number) e, c .before .store-step .ensures ∙ ap (steppedState state) e)
 
 pub baguymo-host-back-spec : {M : Type 1} → statement M
 baguymo-host-back-spec = tie.close (tie.spec history-of-requires step-back-requires store-step-requires returns)

@@ -1,10 +1,8 @@
 -- `host::baguymo_host_start` meets its contract: 7, or the state of the start. Assumes nothing.
-use mathlib.Core.Path.{_≡_, sym, ap, _∙_}
-use mathlib.Core.Bool.{Bool, not}
+use mathlib.Core.Path.{ap, _∙_}
 use borrow.Author.Needs.{needs}
-use Rattle.field.specs.declared.Legs.{Legs}
+use Rattle.field.proofs.Parts.{holds, fails}
 use Rattle.history.specs.History.{startOf}
-use Rattle.history.specs.declared.History.{History}
 use Rattle.layout.specs.Written.{historyBytes}
 use Rattle.host.proofs.Stored.{start-refused, start-stored}
 use Rattle.host.proofs.baguymo_host_start.Statement.{statement}
@@ -14,7 +12,7 @@ legs-allowed-requires : tie.Need-legs-allowed-requires
 legs-allowed-requires c κs = search needs
 
 returns : tie.Need-returns
-returns c = start-refused _ _ (sym (c .before .legs-allowed .ensures) ∙ c .if1 .taken)
+returns c = start-refused _ _ (fails (c .before .legs-allowed .ensures) (c .if1 .taken))
 
 legs-in-miles-requires : tie.Need-legs-in-miles-requires
 legs-in-miles-requires c κs = search needs
@@ -29,7 +27,7 @@ returns-2 : tie.Need-returns-2
 returns-2 c =
     let k = c .before .before in
     let e = c .before .start .ensures ∙ ap startOf (k .legs-in-miles .ensures) in
-    let t = start-stored _ _ (sym (k .before .before .legs-allowed .ensures) ∙ k .before .if1 .left) in
+    let t = start-stored _ _ (holds (k .before .before .legs-allowed .ensures) (k .before .if1 .left)) in
     (t .0, c .store .ensures ∙ ap historyBytes e ∙ t .1)
 
 pub baguymo-host-start-spec : {M : Type 1} → statement M
