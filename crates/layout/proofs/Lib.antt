@@ -1,2 +1,3 @@
 pub mod Bytes
 pub mod ReadBack
+pub mod Owned
