@@ -1,3 +1,5 @@
 pub mod Bytes
+pub mod Sizes
 pub mod ReadBack
+pub mod WriteBack
 pub mod Owned
