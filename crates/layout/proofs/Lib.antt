@@ -3,3 +3,5 @@ pub mod Sizes
 pub mod ReadBack
 pub mod WriteBack
 pub mod Owned
+pub mod Kept
+pub mod States

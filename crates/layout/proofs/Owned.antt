@@ -24,7 +24,8 @@ use Rattle.field.specs.declared.Field.{Field}
 use Rattle.finder.specs.declared.Indexed.{Indexed}
 use Rattle.finder.proofs.Known.{index-known}
 use Rattle.history.specs.declared.History.{History}
-use Rattle.layout.specs.Held.{Each, MilesHeld, ProgressWith, AircraftWith, ZoneWith, LegsWith, FieldWith, IndexedWith, HistoryHeld}
+use Rattle.owners.specs.Owners.{Each}
+use Rattle.layout.specs.Held.{MilesHeld, ProgressWith, AircraftWith, ZoneWith, LegsWith, FieldWith, IndexedWith, HistoryHeld}
 
 -- what each element of an array is known to have
 module _ (F : struct.Field) (P : F .Value → Type 0) (known : (x : F .Value) (v : Val) → Is (F .row) (F .into x) (v ∷ []) → P x) where

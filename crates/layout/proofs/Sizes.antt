@@ -15,7 +15,8 @@ use Rattle.finder.specs.declared.Indexed.{Indexed}
 use Rattle.history.specs.declared.History.{History}
 use Rattle.layout.specs.Read.{stateSize}
 use Rattle.layout.specs.Written.{bytesOfEach, aircraftBytes, zoneBytes, sequenceBytes, legsBytes, fieldBytes, entryBytes, indexedBytes, historyBytes}
-use Rattle.layout.specs.Held.{Each, AircraftWith, ZoneWith, FieldWith, IndexedWith, HistoryWith}
+use Rattle.owners.specs.Owners.{Each}
+use Rattle.layout.specs.Held.{AircraftWith, ZoneWith, FieldWith, IndexedWith, HistoryWith}
 use Rattle.layout.proofs.Bytes.{each-size}
 
 -- numbers and entries of which nothing is asked

@@ -1,7 +1,6 @@
 -- What a history has by its types, of that which its bytes do not tell by themselves: each array has its places, and each float is one of 64 bits. Numbers need
 -- nothing: each is read back from what is written of it. And a history without a NaN. Definitions only.
 use mathlib.Core.Path.{_≡_}
-use mathlib.Core.List.{List, [], _∷_}
 use mathlib.Core.Bool.{not}
 use lib.Dec.{T}
 use lib.Ieee.{Float, fits, isNan, binary64}
@@ -13,13 +12,9 @@ use Rattle.field.specs.declared.Zone.{Zone}
 use Rattle.field.specs.declared.Legs.{Legs}
 use Rattle.field.specs.declared.Field.{Field}
 use Rattle.finder.specs.declared.Indexed.{Indexed}
+use Rattle.owners.specs.Owners.{Each}
 use Rattle.history.specs.History.{mostKept}
 use Rattle.history.specs.declared.History.{History}
-
--- each one of a list has it
-abbrev pub Each : {A : Type 0} → (A → Type 0) → List A → Type 0
-Each P [] = Unit {0}
-Each P (x ∷ xs) = P x × Each P xs
 
 -- ---- each array has its places, and each float has Q
 
