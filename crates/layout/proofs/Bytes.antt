@@ -1,7 +1,7 @@
 -- Which bytes stand at a place of others, and the numbers, miles and parts of one size that are read there. Assumes nothing.
 use mathlib.Core.Path.{_≡_, refl, sym, ap, subst, _∙_}
 use mathlib.Core.List.{List, [], _∷_, _++_, append-assoc}
-use Prim.Native.Nat.{ℕ, zero, suc, _+_, _*_, _/_, _%_}
+use Prim.Native.Nat.{ℕ, _+_, _*_, _/_, _%_}
 use native.Mathlib.Nat.{mul-suc}
 use native.Mathlib.Omega.{arith}
 use lib.Ieee.{Float, nan, binary64, toBits, ofBits}
@@ -18,7 +18,8 @@ use Rattle.leg.specs.declared.Progress.the-variants.{Waiting, Flying}
 use Rattle.field.proofs.Tests.{if-false}
 use Rattle.layout.specs.Read.{several, waiting, progressOf}
 use Rattle.layout.specs.Written.{bytesOfEach, progressBits}
-use Rattle.layout.specs.Held.{Each, MilesHeld, ProgressHeld}
+use Rattle.owners.specs.Owners.{Each}
+use Rattle.layout.specs.Held.{MilesHeld, ProgressWith}
 
 -- ---- bytes at a place
 
@@ -74,7 +75,7 @@ not-waiting x fit e =
     let two : waiting ≡ 9221120237041090560 = sym e ∙ ap (toBits binary64) is-nan ∙ nan-pattern in
     absurd (omega (arith, two))
 
-pub progress-back : (b : List ℕ) (at : ℕ) (p : Progress) → ProgressHeld p → Holds b at (bytes64 (progressBits p)) → progressOf (number64 b at) ≡ p
+pub progress-back : (b : List ℕ) (at : ℕ) (p : Progress) → ProgressWith MilesHeld p → Holds b at (bytes64 (progressBits p)) → progressOf (number64 b at) ≡ p
 progress-back b at Waiting fit h = ap progressOf (back64 b at waiting h)
 progress-back b at (Flying x) fit h =
     ap progressOf (back64 b at (bitsOf x) h) ∙ if-false _ _ (ne-eqb (bitsOf x) waiting (not-waiting x fit)) ∙ ap Flying (ofBits-toBits binary64 x fit)

@@ -1,7 +1,5 @@
 -- What owning a history tells of it: `HistoryHeld`. `Is the-row x vs` is what `field`'s `proofs/Known.antt` says it is. Assumes nothing.
-use mathlib.Core.Path.{_≡_}
 use mathlib.Core.List.{List, [], _∷_, map}
-use lib.Dec.{T}
 use lib.Ieee.{Float, binary64}
 use mir.Val.{Val}
 use denote.Shadow.{shadow}
@@ -14,7 +12,6 @@ use Rattle.field.proofs.Aircraft as aircraft
 use Rattle.field.proofs.Zone as zone
 use Rattle.field.proofs.Legs as legs
 use Rattle.field.proofs.Field as field
-use Rattle.finder.proofs.Entry as entry
 use Rattle.finder.proofs.Indexed as indexed
 use Rattle.history.proofs.History as history
 use Rattle.field.proofs.Known.{array-known, sequence-known}
@@ -27,7 +24,8 @@ use Rattle.field.specs.declared.Field.{Field}
 use Rattle.finder.specs.declared.Indexed.{Indexed}
 use Rattle.finder.proofs.Known.{index-known}
 use Rattle.history.specs.declared.History.{History}
-use Rattle.layout.specs.Held.{Each, MilesHeld, ProgressHeld, AircraftHeld, ZoneHeld, LegsHeld, FieldHeld, IndexedHeld, HistoryHeld}
+use Rattle.owners.specs.Owners.{Each}
+use Rattle.layout.specs.Held.{MilesHeld, ProgressWith, AircraftWith, ZoneWith, LegsWith, FieldWith, IndexedWith, HistoryHeld}
 
 -- what each element of an array is known to have
 module _ (F : struct.Field) (P : F .Value → Type 0) (known : (x : F .Value) (v : Val) → Is (F .row) (F .into x) (v ∷ []) → P x) where
@@ -39,22 +37,22 @@ module _ (F : struct.Field) (P : F .Value → Type 0) (known : (x : F .Value) (v
 miles-held : (x : Float) {vs : List Val} → Is (FloatOf binary64) x vs → MilesHeld x
 miles-held x p = passes _ (p .1)
 
-progress-held : (p : Progress) {vs : List Val} → Is progress.the-row p vs → ProgressHeld p
+progress-held : (p : Progress) {vs : List Val} → Is progress.the-row p vs → ProgressWith MilesHeld p
 progress-held Waiting k = tt
 progress-held (Flying x) k = miles-held x (k .1 .1 .1 .1 .0)
 
-aircraft-held : (a : Aircraft) {vs : List Val} → Is aircraft.the-row a vs → AircraftHeld a
+aircraft-held : (a : Aircraft) {vs : List Val} → Is aircraft.the-row a vs → AircraftWith MilesHeld a
 aircraft-held a k =
     let m = k .1 .1 .1 .1 .1 .1 in
     record { progress = progress-held (a .progress) (m .0); waited = miles-held (a .waited) (m .1 .0); leg = miles-held (a .leg) (m .1 .1 .0) }
 
-zone-held : (z : Zone) {vs : List Val} → Is zone.the-row z vs → ZoneHeld z
+zone-held : (z : Zone) {vs : List Val} → Is zone.the-row z vs → ZoneWith MilesHeld z
 zone-held z k = record {
   places = array-known aircraft.the-field 4 (z .aircraft) (k .1 .1 .0);
-  aircraft = each-known aircraft.the-field AircraftHeld (λ a v. aircraft-held a) (z .aircraft) _ (k .1 .1 .0 .1 .1);
+  aircraft = each-known aircraft.the-field (AircraftWith MilesHeld) (λ a v. aircraft-held a) (z .aircraft) _ (k .1 .1 .0 .1 .1);
 }
 
-legs-held : (l : Legs) {vs : List Val} → Is legs.the-row l vs → LegsHeld l
+legs-held : (l : Legs) {vs : List Val} → Is legs.the-row l vs → LegsWith MilesHeld l
 legs-held l k =
     let m = k .1 .1 in
     record {
@@ -64,17 +62,17 @@ legs-held l k =
       last = miles-held (l .«final_approach») (m .1 .1 .1 .0);
     }
 
-field-held : (f : Field) {vs : List Val} → Is field.the-row f vs → FieldHeld f
+field-held : (f : Field) {vs : List Val} → Is field.the-row f vs → FieldWith MilesHeld f
 field-held f k =
     let m = k .1 .1 in
     record {
       places = array-known zone.the-field 13 (f .zones) (m .0);
-      zones = each-known zone.the-field ZoneHeld (λ z v. zone-held z) (f .zones) _ (m .0 .1 .1);
+      zones = each-known zone.the-field (ZoneWith MilesHeld) (λ z v. zone-held z) (f .zones) _ (m .0 .1 .1);
       numbers = sequence-known (f .sequence) (m .1 .0) .places;
       legs = legs-held (f .legs) (m .1 .1 .1 .0);
     }
 
-indexed-held : (x : Indexed) {vs : List Val} → Is indexed.the-row x vs → IndexedHeld x
+indexed-held : (x : Indexed) {vs : List Val} → Is indexed.the-row x vs → IndexedWith MilesHeld x
 indexed-held x k = record { field = field-held (x .field) (k .1 .1 .0); entries = index-known (x .index) (k .1 .1 .1 .0) .places }
 
 pub history-held : (h : History) {vs : List Val} → Is history.the-row h vs → HistoryHeld h
@@ -83,5 +81,5 @@ history-held h k =
     record {
       now = indexed-held (h .now) (m .0);
       places = array-known indexed.the-field 8 (h .kept) (m .1 .0);
-      kept = each-known indexed.the-field IndexedHeld (λ x v. indexed-held x) (h .kept) _ (m .1 .0 .1 .1);
+      kept = each-known indexed.the-field (IndexedWith MilesHeld) (λ x v. indexed-held x) (h .kept) _ (m .1 .0 .1 .1);
     }

@@ -1,12 +1,12 @@
--- A history that is written is read back as it was, and its bytes are as many as the state has. Assumes nothing.
-use mathlib.Core.Path.{_≡_, refl, sym, ap, subst, _∙_}
+-- A history that is written is read back as it was. Assumes nothing.
+use mathlib.Core.Path.{_≡_, refl, ap, subst, _∙_}
 use mathlib.Core.List.{List, [], _∷_, _++_}
-use Prim.Native.Nat.{ℕ, _+_, _*_}
+use Prim.Native.Nat.{ℕ, _+_}
 use native.Mathlib.Omega.{arith}
 use lib.ListN.{length, getD, length-append}
 use Rattle.practice.specs.File.{number16}
 use Rattle.practice.specs.Practice.{bytes16}
-use Rattle.words.specs.Words.{number64, bytes64, bitsOf}
+use Rattle.words.specs.Words.{bytes64, bitsOf}
 use Rattle.field.specs.declared.Aircraft.{Aircraft}
 use Rattle.field.specs.declared.Zone.{Zone}
 use Rattle.field.specs.declared.Sequence.{Sequence}
@@ -15,95 +15,14 @@ use Rattle.field.specs.declared.Field.{Field}
 use Rattle.finder.specs.declared.Entry.{Entry}
 use Rattle.finder.specs.declared.Indexed.{Indexed}
 use Rattle.history.specs.declared.History.{History}
-use Rattle.layout.specs.Read.{several, aircraftAt, zoneAt, sequenceAt, legsAt, fieldAt, entryAt, indexedAt, historyOf, stateSize}
+use Rattle.layout.specs.Read.{several, aircraftAt, zoneAt, sequenceAt, legsAt, fieldAt, entryAt, indexedAt, historyOf}
 use Rattle.layout.specs.Written.{bytesOfEach, progressBits, aircraftBytes, zoneBytes, sequenceBytes, legsBytes, fieldBytes, entryBytes, indexedBytes, historyBytes}
-use Rattle.layout.specs.Held.{Each, AircraftHeld, ZoneHeld, LegsHeld, FieldHeld, IndexedHeld, HistoryHeld}
+use Rattle.layout.specs.Held.{MilesHeld, AircraftWith, ZoneWith, LegsWith, FieldWith, IndexedWith, HistoryHeld}
+use Rattle.layout.proofs.Sizes.{Any, any-each, aircraft-size, zone-size, sequence-size, zones-size, field-size, indexed-size, kept-size}
 use Rattle.layout.proofs.Bytes.{Holds, holds-first, holds-behind, holds-from, holds-after, back16, back64, miles-back, progress-back, each-size, each-back}
 
--- numbers and entries of which nothing is asked
-abbrev Any : {A : Type 0} → A → Type 0
-Any x = Unit {0}
-
-any-each : {A : Type 0} (xs : List A) → Each Any xs
-any-each [] = tt
-any-each (x ∷ xs) = (tt, any-each xs)
-
--- ---- how many bytes
-
-aircraft-size : (a : Aircraft) → AircraftHeld a → length (aircraftBytes a) ≡ 30
-unfolding aircraftBytes
-aircraft-size a p = refl
-
-zone-size : (z : Zone) → ZoneHeld z → length (zoneBytes z) ≡ 128
-unfolding zoneBytes
-zone-size z p =
-    let a = length-append (bytesOfEach aircraftBytes (z .aircraft)) (bytes64 (z .length)) in
-    let e = each-size AircraftHeld aircraftBytes 30 aircraft-size (z .aircraft) (p .aircraft) in
-    let n = p .places in
-    omega (arith, a, e, n)
-
-sequence-size : (s : Sequence) → length (s .numbers) ≡ 4 → length (sequenceBytes s) ≡ 16
-unfolding sequenceBytes
-sequence-size s n =
-    let a = length-append (bytesOfEach bytes16 (s .numbers)) (bytes64 (s .length)) in
-    let e = each-size Any bytes16 2 (λ x p. refl) (s .numbers) (any-each (s .numbers)) in
-    omega (arith, a, e, n)
-
-legs-size : (legs : Legs) → length (legsBytes legs) ≡ 32
-unfolding legsBytes
-legs-size legs = refl
-
--- the zones of a field, with what stands behind them
-zones-size : (f : Field) → FieldHeld f → length (bytesOfEach zoneBytes (f .zones)) ≡ 1664
-zones-size f p =
-    let e = each-size ZoneHeld zoneBytes 128 zone-size (f .zones) (p .zones) in
-    let n = p .places in
-    omega (arith, e, n)
-
-field-size : (f : Field) → FieldHeld f → length (fieldBytes f) ≡ 1713
-unfolding fieldBytes
-field-size f p =
-    let z = bytesOfEach zoneBytes (f .zones) in
-    let s = sequenceBytes (f .sequence) in
-    let a1 = length-append (z ++ s ++ (f .next ∷ [])) (legsBytes (f .legs)) in
-    let a2 = length-append (z ++ s) (f .next ∷ []) in
-    let a3 = length-append z s in
-    let e1 = zones-size f p in
-    let e2 = sequence-size (f .sequence) (p .numbers) in
-    let e3 = legs-size (f .legs) in
-    omega (arith, a1, a2, a3, e1, e2, e3)
-
-indexed-size : (x : Indexed) → IndexedHeld x → length (indexedBytes x) ≡ 1733
-unfolding indexedBytes
-indexed-size x p =
-    let es = x .index .entries in
-    let a = length-append (fieldBytes (x .field)) (bytesOfEach entryBytes es) in
-    let e1 = field-size (x .field) (p .field) in
-    let e2 = each-size Any entryBytes 4 (λ x p. refl) es (any-each es) in
-    let n = p .entries in
-    omega (arith, a, e1, e2, n)
-
-kept-size : (h : History) → HistoryHeld h → length (bytesOfEach indexedBytes (h .kept)) ≡ 13864
-kept-size h p =
-    let e = each-size IndexedHeld indexedBytes 1733 indexed-size (h .kept) (p .kept) in
-    let n = p .places in
-    omega (arith, e, n)
-
-pub state-size : (h : History) → HistoryHeld h → length (historyBytes h) ≡ stateSize
-unfolding historyBytes
-state-size h p =
-    let x = indexedBytes (h .now) in
-    let k = bytesOfEach indexedBytes (h .kept) in
-    let a1 = length-append (x ++ k) (bytes64 (h .count)) in
-    let a2 = length-append x k in
-    let e1 = indexed-size (h .now) (p .now) in
-    let e2 = kept-size h p in
-    omega (arith, a1, a2, e1, e2)
-
--- ---- what is read where it stands
-
 module _ (b : List ℕ) where
-  aircraft-back : (a : Aircraft) → AircraftHeld a → (at : ℕ) → Holds b at (aircraftBytes a) → aircraftAt b at ≡ a
+  aircraft-back : (a : Aircraft) → AircraftWith MilesHeld a → (at : ℕ) → Holds b at (aircraftBytes a) → aircraftAt b at ≡ a
   unfolding aircraftAt aircraftBytes
   aircraft-back a p at h =
       let n = bytes16 (a .number) in
@@ -125,14 +44,14 @@ module _ (b : List ℕ) where
       let leg = miles-back b (at + 22) (a .leg) (p .leg) (holds-behind b at (n ++ d ++ s ++ r ++ w) l h) in
       λ t. record { number = number t; fix = (two .0) t; desk = desk t; speed = speed t; progress = progress t; waited = waited t; leg = leg t }
 
-  zone-back : (z : Zone) → ZoneHeld z → (at : ℕ) → Holds b at (zoneBytes z) → zoneAt b at ≡ z
+  zone-back : (z : Zone) → ZoneWith MilesHeld z → (at : ℕ) → Holds b at (zoneBytes z) → zoneAt b at ≡ z
   unfolding zoneAt zoneBytes
   zone-back z p at h =
       let row = bytesOfEach aircraftBytes (z .aircraft) in
-      let e = each-size AircraftHeld aircraftBytes 30 aircraft-size (z .aircraft) (p .aircraft) in
+      let e = each-size (AircraftWith MilesHeld) aircraftBytes 30 aircraft-size (z .aircraft) (p .aircraft) in
       let n = p .places in
       let before : length row ≡ 120 = omega (arith, e, n) in
-      let four = each-back AircraftHeld aircraftBytes 30 aircraft-size b (aircraftAt b) aircraft-back (z .aircraft) (p .aircraft) at (holds-first b at row (bytes64 (z .length)) h) in
+      let four = each-back (AircraftWith MilesHeld) aircraftBytes 30 aircraft-size b (aircraftAt b) aircraft-back (z .aircraft) (p .aircraft) at (holds-first b at row (bytes64 (z .length)) h) in
       let all = subst (λ (k : ℕ). several (aircraftAt b) 30 k at ≡ z .aircraft) n four in
       let long = back64 b (at + 120) (z .length) (holds-from b at row (bytes64 (z .length)) h before) in
       λ t. record { aircraft = all t; length = long t }
@@ -149,7 +68,7 @@ module _ (b : List ℕ) where
       let long = back64 b (at + 8) (s .length) (holds-from b at ns (bytes64 (s .length)) h before) in
       λ t. record { numbers = all t; length = long t }
 
-  legs-back : (legs : Legs) → LegsHeld legs → (at : ℕ) → Holds b at (legsBytes legs) → legsAt b at ≡ legs
+  legs-back : (legs : Legs) → LegsWith MilesHeld legs → (at : ℕ) → Holds b at (legsBytes legs) → legsAt b at ≡ legs
   unfolding legsAt legsBytes
   legs-back legs p at h =
       let m = bytes64 (bitsOf (legs .missed)) in
@@ -164,7 +83,7 @@ module _ (b : List ℕ) where
       let last = miles-back b (at + 24) (legs .«final_approach») (p .last) (holds-behind b at (m ++ s ++ i) f h) in
       λ t. record { missed = missed t; base = base t; intermediate = middle t; «final_approach» = last t }
 
-  field-back : (f : Field) → FieldHeld f → (at : ℕ) → Holds b at (fieldBytes f) → fieldAt b at ≡ f
+  field-back : (f : Field) → FieldWith MilesHeld f → (at : ℕ) → Holds b at (fieldBytes f) → fieldAt b at ≡ f
   unfolding fieldAt fieldBytes
   field-back f p at h =
       let z = bytesOfEach zoneBytes (f .zones) in
@@ -180,7 +99,7 @@ module _ (b : List ℕ) where
       let a1 = length-append z s in
       let two : length (z ++ s) ≡ 1680 = omega (arith, a1, e1, e2) in
       let three : length (z ++ s ++ o) ≡ 1681 = omega (arith, a2, two) in
-      let some = each-back ZoneHeld zoneBytes 128 zone-size b (zoneAt b) zone-back (f .zones) (p .zones) at (holds-first b at z s h1) in
+      let some = each-back (ZoneWith MilesHeld) zoneBytes 128 zone-size b (zoneAt b) zone-back (f .zones) (p .zones) at (holds-first b at z s h1) in
       let zones = subst (λ (k : ℕ). several (zoneAt b) 128 k at ≡ f .zones) n some in
       let sequence = sequence-back (f .sequence) (p .numbers) (at + 1664) (holds-from b at z s h1 e1) in
       let next = holds-from b at (z ++ s) o h2 two in
@@ -196,7 +115,7 @@ module _ (b : List ℕ) where
       let place : getD b (at + 3) 0 ≡ e .place = ap (λ (i : ℕ). getD b i 0) (omega arith) ∙ two .1 .0 in
       λ t. record { number = number t; zone = (two .0) t; place = place t }
 
-  indexed-back : (x : Indexed) → IndexedHeld x → (at : ℕ) → Holds b at (indexedBytes x) → indexedAt b at ≡ x
+  indexed-back : (x : Indexed) → IndexedWith MilesHeld x → (at : ℕ) → Holds b at (indexedBytes x) → indexedAt b at ≡ x
   unfolding indexedAt indexedBytes
   indexed-back x p at h =
       let es = x .index .entries in
@@ -220,7 +139,7 @@ module _ (b : List ℕ) where
       let two : length (x ++ k) ≡ 15597 = omega (arith, a, e1, e2) in
       let first = holds-first b 0 (x ++ k) c at in
       let now = indexed-back (h .now) (p .now) 0 (holds-first b 0 x k first) in
-      let some = each-back IndexedHeld indexedBytes 1733 indexed-size b (indexedAt b) indexed-back (h .kept) (p .kept) 1733 (holds-from b 0 x k first e1) in
+      let some = each-back (IndexedWith MilesHeld) indexedBytes 1733 indexed-size b (indexedAt b) indexed-back (h .kept) (p .kept) 1733 (holds-from b 0 x k first e1) in
       let eight = subst (λ (n : ℕ). several (indexedAt b) 1733 n 1733 ≡ h .kept) (p .places) some in
       let count = back64 b 15597 (h .count) (holds-from b 0 (x ++ k) c at two) in
       λ t. record { now = now t; kept = eight t; count = count t }
