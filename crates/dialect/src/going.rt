@@ -42,7 +42,7 @@ pub(crate) fn no_entry() -> Entry
 }
 
 // The answer with a refusal's number and nobody listed.
-fn refused(number: u16) -> Listing
+pub fn refused(number: u16) -> Listing
     ensures { λ r. ⌜ r ≡ refused number ⌝ }
 {
     let e = no_entry();

@@ -127,7 +127,7 @@ fn pair_of(f: Field, spacing: u16, leader: u16, follower: u16) -> Pair
 }
 
 // The answer with a refusal's number and no pair.
-fn refused(number: u16) -> Spacings
+pub fn refused(number: u16) -> Spacings
     ensures { λ r. ⌜ r ≡ refused number ⌝ }
 {
     let p = no_pair();

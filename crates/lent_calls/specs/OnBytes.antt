@@ -11,9 +11,13 @@ use Rattle.taken_back.specs.Calls.{Call, called, playedCalls, afterCalls}
 use Rattle.layout.specs.Read.{stateSize, historyOf}
 use Rattle.layout.specs.Written.{historyBytes}
 
--- the bytes after a call: those of the history after it, or, where it is refused, every byte as it was
+-- the bytes after a call with this number: where it is 0 those of the history after it, else every byte as it was
+abbrev pub stateAfter : List ℕ → ℕ → History → List ℕ
+stateAfter b number after = cond (eqb number 0) (historyBytes after) b
+
+-- the bytes after a request or a step back
 abbrev pub calledBytes : List ℕ → Call → List ℕ
-calledBytes b c = cond (eqb (called (historyOf b) c .answer .number) 0) (historyBytes (called (historyOf b) c .after)) b
+calledBytes b c = stateAfter b (called (historyOf b) c .answer .number) (called (historyOf b) c .after)
 
 -- a list of calls, each on the bytes that the one before left: each with its answer, ..
 abbrev pub playedBytes : List ℕ → List Call → List (Call × Answer)

@@ -3,8 +3,8 @@ use mathlib.Core.Path.{_≡_, ap, _∙_}
 use denote.Ref.{now}
 use borrow.Author.Needs.{needs}
 use Rattle.history.specs.declared.SteppedHistory.{SteppedHistory}
-use Rattle.host.specs.Calls.{answerNumbers, steppedState}
-use Rattle.host.proofs.Stored.{asked}
+use Rattle.host.specs.Calls.{answerNumbers}
+use Rattle.host.proofs.Stored.{asked, after-step}
 use Rattle.host.proofs.baguymo_host_ask.Statement.{statement}
 use Rattle.host.proofs.baguymo_host_ask.Tie as tie
 
@@ -17,8 +17,8 @@ step-history-requires c κs = search needs
 put-answer-requires : tie.Need-put-answer-requires
 put-answer-requires c κs = search needs
 
-store-step-requires : tie.Need-store-step-requires
-store-step-requires c κs = search needs
+store-after-requires : tie.Need-store-after-requires
+store-after-requires c κs = search needs
 
 returns : tie.Need-returns
 returns c =
@@ -26,7 +26,7 @@ returns c =
     let state = now (k .before .before .before .before .before .args .state) in
     let e = asked state _ (k .step-history .ensures) (k .before .history-of .ensures) in (
       ap (λ (s : SteppedHistory). s .answer .number) e,
-      (c .before .put-answer .ensures ∙ ap (λ (s : SteppedHistory). answerNumbers (s .answer)) e, c .store-step .ensures ∙ ap (steppedState state) e),
+      (c .before .put-answer .ensures ∙ ap (λ (s : SteppedHistory). answerNumbers (s .answer)) e, c .store-after .ensures ∙ after-step state e),
     )
 
 pub baguymo-host-ask-spec : {M : Type 1} → statement M
@@ -36,5 +36,5 @@ baguymo-host-ask-spec =
     history-of-requires
     step-history-requires
     put-answer-requires
-    store-step-requires
+    store-after-requires
     returns)

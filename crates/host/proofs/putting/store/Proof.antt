@@ -1,4 +1,4 @@
--- `host::store` meets its contract: the encoding is as long as the state. Assumes nothing.
+-- `host::putting::store` meets its contract: the encoding is as long as the state. Assumes nothing.
 use mathlib.Core.Path.{_≡_, ap, _∙_}
 use mathlib.Core.List.{List, [], _++_, append-nil}
 use Prim.Native.Nat.{ℕ, _≤_}
@@ -10,10 +10,10 @@ use Rattle.text.specs.Buffer.{Put}
 use Rattle.text.proofs.Texts.{put-whole}
 use Rattle.history.specs.declared.History.{History}
 use Rattle.layout.specs.Written.{historyBytes}
-use Rattle.layout.proofs.ReadBack.{state-size}
+use Rattle.layout.proofs.Sizes.{state-size}
 use Rattle.layout.proofs.Owned.{history-held}
-use Rattle.host.proofs.store.Statement.{statement}
-use Rattle.host.proofs.store.Tie as tie
+use Rattle.host.proofs.putting.store.Statement.{statement}
+use Rattle.host.proofs.putting.store.Tie as tie
 
 -- bytes that are put over as many are all that stands there
 put-over : {before after bytes : List ℕ} {n : ℕ} (size : ℕ) → Put before 0 bytes after n → length before ≡ size → length bytes ≡ size → after ≡ bytes

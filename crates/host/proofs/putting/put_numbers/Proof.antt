@@ -1,4 +1,4 @@
--- `host::put_numbers` meets its contract: before place i the numbers are written. Assumes nothing.
+-- `host::putting::put_numbers` meets its contract: before place i the numbers are written. Assumes nothing.
 use mathlib.Core.Path.{_≡_, refl, sym, _∙_}
 use mathlib.Core.List.{List, _++_}
 use Prim.Native.Nat.{ℕ, _+_, _-_, _≤_, _<_}
@@ -7,8 +7,8 @@ use lib.ListN.{length, take, drop, getD, set, length-set}
 use denote.Ref.{now}
 use borrow.Author.Needs.{needs}
 use Rattle.field.proofs.Arrays.{filled-more, filled-all}
-use Rattle.host.proofs.put_numbers.Statement.{statement}
-use Rattle.host.proofs.put_numbers.Tie as tie
+use Rattle.host.proofs.putting.put_numbers.Statement.{statement}
+use Rattle.host.proofs.putting.put_numbers.Tie as tie
 
 record Copied (before numbers : List ℕ) (out : List ℕ) (i : ℕ) : Type 0 where
   pub same : length numbers ≡ length before
