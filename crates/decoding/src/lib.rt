@@ -1,4 +1,4 @@
-// The state that a host lends, read from its bytes (`layout`'s specs/Read.antt).
+// The state that a host lends, read from its bytes (layout's specs/Read.antt).
 use field::Aircraft;
 use field::Field;
 use field::Legs;

@@ -1,4 +1,4 @@
--- What owning a history tells of it: `HistoryHeld`. `Is the-row x vs` is what `field`'s `proofs/Known.antt` says it is. Assumes nothing.
+-- What owning a history tells of it: `HistoryHeld`. `Is the-row x vs` is what field's proofs/Known.antt says it is. Assumes nothing.
 use mathlib.Core.List.{List, [], _∷_, map}
 use lib.Ieee.{Float, binary64}
 use mir.Val.{Val}

@@ -1,17 +1,22 @@
 -- Calls on the bytes of a history are calls on the history, from any history and from the start. Assumes nothing.
-use mathlib.Core.Path.{_≡_, refl, sym, ap, _∙_}
+use mathlib.Core.Path.{_≡_, refl, sym, ap, subst⁻¹, _∙_}
 use mathlib.Core.Logic.{inl, inr}
 use mathlib.Core.Bool.{cond}
 use mathlib.Core.List.{List, [], _∷_}
 use Prim.Native.Nat.{ℕ}
-use lib.Dec.{eqb}
+use lib.Dec.{T, eqb}
 use lib.ListN.{length}
 use borrow.Author.Tests.{eqb-false}
 use Rattle.field.specs.Boxes.{legsIn64ths}
 use Rattle.field.proofs.Tests.{decided, if-true, if-false}
+use Rattle.rules.specs.declared.Answer.{Answer}
+use Rattle.demand.specs.Exact.{WholeLegs, inMiles}
+use Rattle.demand.proofs.Flights.{legs-legal}
 use Rattle.history.specs.declared.History.{History}
 use Rattle.history.specs.History.{startOf}
 use Rattle.taken_back.specs.Calls.{Call, request, back, called, playedCalls, afterCalls}
+use Rattle.taken_back.specs.TakenBack.{neverAnswered}
+use Rattle.taken_back.proofs.Calls.{taken-back}
 use Rattle.taken_back.proofs.GivenBack.{nothing-changed}
 use Rattle.layout.specs.Read.{historyOf}
 use Rattle.layout.specs.Written.{historyBytes}
@@ -19,7 +24,7 @@ use Rattle.layout.specs.Held.{HistoryHeld}
 use Rattle.layout.proofs.Sizes.{state-size}
 use Rattle.layout.proofs.ReadBack.{read-back}
 use Rattle.layout.proofs.States.{start-held, legs-in-64ths-held, step-history-held, step-back-held}
-use Rattle.lent_calls.specs.OnBytes.{calledBytes, playedBytes, bytesAfter, OnBytes}
+use Rattle.lent_calls.specs.OnBytes.{calledBytes, playedBytes, bytesAfter, OnBytes, NeverBroken}
 
 called-held : (h : History) (c : Call) → HistoryHeld h → HistoryHeld (called h c .after)
 called-held h (request r) p = step-history-held h r p
@@ -59,6 +64,12 @@ on-bytes h cs p =
 pub from-start : (missed base intermediate last : ℕ) (cs : List Call) → OnBytes (startOf (legsIn64ths missed base intermediate last)) cs
 from-start missed base intermediate last cs =
     on-bytes _ cs (start-held (legsIn64ths missed base intermediate last) (legs-in-64ths-held missed base intermediate last))
+
+pub never-broken : (w : WholeLegs) (cs : List Call) → NeverBroken (inMiles w) cs
+never-broken w cs =
+    let e = from-start (w .missed-leg) (w .base-leg) (w .intermediate-leg) (w .final-leg) cs .answers in
+    let t = taken-back (inMiles w) (legs-legal w) cs in
+    record { no-10 = subst⁻¹ (λ (ps : List (Call × Answer)). T (neverAnswered 10 ps)) e (t .no-10); no-25 = subst⁻¹ (λ (ps : List (Call × Answer)). T (neverAnswered 25 ps)) e (t .no-25) }
 
 -- two histories with the same bytes are the same
 pub same-state : (h g : History) → HistoryHeld h → HistoryHeld g → historyBytes h ≡ historyBytes g → h ≡ g

@@ -3,11 +3,14 @@ use mathlib.Core.Path.{_≡_}
 use mathlib.Core.Bool.{cond}
 use mathlib.Core.List.{List, [], _∷_}
 use Prim.Native.Nat.{ℕ}
-use lib.Dec.{eqb}
+use lib.Dec.{T, eqb}
 use lib.ListN.{length}
+use Rattle.field.specs.declared.Legs.{Legs}
 use Rattle.rules.specs.declared.Answer.{Answer}
 use Rattle.history.specs.declared.History.{History}
+use Rattle.history.specs.History.{startOf}
 use Rattle.taken_back.specs.Calls.{Call, called, playedCalls, afterCalls}
+use Rattle.taken_back.specs.TakenBack.{neverAnswered}
 use Rattle.layout.specs.Read.{stateSize, historyOf}
 use Rattle.layout.specs.Written.{historyBytes}
 
@@ -37,3 +40,8 @@ pub record OnBytes (h : History) (cs : List Call) : Type 0 where
   pub bytes : bytesAfter (historyBytes h) cs ≡ historyBytes (afterCalls h cs)
   pub size : length (bytesAfter (historyBytes h) cs) ≡ stateSize
   pub state : historyOf (bytesAfter (historyBytes h) cs) ≡ afterCalls h cs
+
+-- from the bytes of the start with these legs no call is answered 10 or 25
+pub record NeverBroken (legs : Legs) (cs : List Call) : Type 0 where
+  pub no-10 : T (neverAnswered 10 (playedBytes (historyBytes (startOf legs)) cs))
+  pub no-25 : T (neverAnswered 25 (playedBytes (historyBytes (startOf legs)) cs))
