@@ -4,6 +4,7 @@ pub mod putting;
 pub mod views;
 
 use crate::putting::put_answer;
+use crate::putting::store;
 use crate::putting::store_after;
 use decoding::history_of;
 use dialect::coming::field_of;
@@ -44,9 +45,11 @@ pub extern "C" fn baguymo_host_start(
         last: last,
         missed: missed,
     };
-    let number = if legs_allowed(legs) { 0 } else { 7 };
-    store_after(bytes, number, start(legs_in_miles(legs)));
-    number
+    if !legs_allowed(legs) {
+        return 7;
+    }
+    store(bytes, start(legs_in_miles(legs)));
+    0
 }
 
 // A request of the state: its number, and in `answer` its answer.

@@ -37,7 +37,7 @@ pub(crate) fn put_answer(out: &mut [usize], a: Answer)
 }
 
 // Writes the bytes of a history over the state.
-fn store(state: &mut [u8], h: History)
+pub(crate) fn store(state: &mut [u8], h: History)
     requires { ⌜ length (now state) ≡ 15605 ⌝ }
     ensures { λ _. ⌜ now (state .exit) ≡ historyBytes h ⌝ }
 {
