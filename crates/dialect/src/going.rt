@@ -94,7 +94,7 @@ fn in_dialect(f: Field) -> bool
     is_empty(f, INTERMEDIATE)
 }
 
-// The list of a field; 10 for a field that breaks a bound, then 29 for anyone in zones 5, 6 or 11.
+// The list of a field; 10 for a field that breaks a bound, then 29 where somebody is in a zone that the dialect lacks.
 pub fn list_of(x: Indexed) -> Listing
     ensures { λ r. ⌜ r ≡ listOf x ⌝ }
 {

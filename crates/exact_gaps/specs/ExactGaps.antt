@@ -1,5 +1,5 @@
--- "The gap is exact on a field reached from the empty one with legs in whole 64ths" (02, 2.8): in 4096ths of a mile it is the difference of two whole
--- numbers, an integer. Definitions only.
+-- Exact gaps (02, 2.8): where the legs are whole 64ths, and requests have led to the field from the empty one, a gap in 4096ths of a mile is an integer, the
+-- difference of two whole numbers. Definitions only.
 use mathlib.Core.Path.{_≡_}
 use mathlib.Core.Bool.{Bool, true, false, cond}
 use mathlib.Core.List.{List, [], _∷_}
@@ -19,7 +19,7 @@ use Rattle.gaps.specs.declared.Spacing.the-variants.{Close, Clear}
 use Rattle.gaps.specs.declared.Pair.{Pair}
 use Rattle.gaps.specs.Gaps.{pairsIn, listed, gapsOf}
 
--- the miles times 4096 are exactly this integer, of either sign
+-- the miles are exactly so many 4096ths, an integer of either sign
 abbrev pub ExactlySigned : Float → ℤ → Type 0
 ExactlySigned miles (pos n) = HasValue miles false n 4096
 ExactlySigned miles (negsuc n) = HasValue miles true (suc n) 4096
@@ -36,7 +36,7 @@ wayFrom w z flown = 64 * in64ths w z - flown + following w z
 abbrev pub reached : WholeLegs → List Request → Field
 reached w rs = fieldAfter (emptyField (inMiles w)) rs
 
--- the way of the one with this number on that field: of its leg the smaller of the whole and the speed times the tick amounts since it began is flown
+-- the way of the one with this number on that field: of its leg it has flown its speed times its ticks, or all of it where that is less
 unfoldable pub wayIn4096ths : WholeLegs → List Request → ℕ → ℕ
 wayIn4096ths w rs number =
     let at = placeOf (reached w rs) number in
@@ -49,6 +49,7 @@ abbrev pub gapIn : Spacing → Float
 gapIn (Close gap) = gap
 gapIn (Clear gap) = gap
 
+-- whether an answer is close
 abbrev pub isClose : Spacing → Bool
 isClose (Close gap) = true
 isClose (Clear gap) = false

@@ -22,8 +22,8 @@ use Rattle.history.specs.declared.SteppedHistory.{SteppedHistory}
 abbrev pub mostKept : ℕ
 mostKept = 8
 
--- a field with its index, such as one built from a classroom list (02, 2.12), of which no field before it is kept; all eight places hold the empty field
--- with its legs (02, 2.13)
+-- a field with its index, such as one that a classroom list gives (02, 2.12), with none kept before it; the eight places for kept ones all have the empty
+-- field with its legs (02, 2.13)
 unfoldable pub startWith : Indexed → History
 startWith x = record { now = x; kept = replicate mostKept (withIndex (emptyField (x .field .legs))); count = 0 }
 
@@ -61,8 +61,8 @@ numberHistory h r =
     (cond (withinBoundsHistory h) (numberOf (h .now .field) r) 10)
     (inputNumber r)
 
--- the step: an accepted request, a tick too, is answered and takes effect as on the field, and the field before it is kept; an entry that moves another
--- down (02, 2.5) keeps one field. A refused request answers its number and zeros, and changes nothing
+-- the step: an accepted request, a tick too, is answered and takes effect as on the field, and the field before it is kept, one also where an entry moves
+-- another down (02, 2.5). A refused request answers its number and zeros, and changes nothing
 unfoldable pub stepHistory : History → Request → SteppedHistory
 stepHistory h r =
     cond (eqb (numberHistory h r) 0)
@@ -79,7 +79,7 @@ numberBack h desk = firstRefused ((31, within 1 2 desk) ∷ (10, withinBoundsHis
 unfoldable pub givenBack : History → History
 givenBack h = record { now = getD (h .kept) (h .count - 1) (h .now); kept = h .kept; count = h .count - 1 }
 
--- the step back: it answers zeros, as a tick does; a refused one answers its number and zeros, and changes nothing
+-- the step back: the answer is zeros; a refused one answers its number and zeros, and changes nothing
 unfoldable pub stepBack : History → ℕ → SteppedHistory
 stepBack h desk =
     cond (eqb (numberBack h desk) 0)

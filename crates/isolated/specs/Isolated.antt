@@ -44,7 +44,7 @@ renamedOtherRequests d π rs = map (renamedOtherRequest d π) rs
 abbrev pub FixesRequest : ℕ → (ℕ → ℕ) → Request → Type 0
 FixesRequest d π r = r .desk ≡ d → π (r .number) ≡ r .number
 
--- each number that desk d names in the list, in refused requests too: "each number this desk ever names" (02, 2.10)
+-- each number that desk d names in the list, also where it is refused (02, 2.10)
 abbrev pub FixesRequests : ℕ → (ℕ → ℕ) → List Request → Type 0
 FixesRequests d π rs = Each (FixesRequest d π) rs
 

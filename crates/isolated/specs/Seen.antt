@@ -1,4 +1,4 @@
--- What a desk does see of the other (02, 2.10): zones taken and the shared limits, in short sessions. Definitions only.
+-- What a desk does see of the other (02, 2.10): that a zone is taken or a limit is reached, in short sessions. Definitions only.
 use mathlib.Core.Bool.{_&&_}
 use mathlib.Core.List.{List, [], _∷_}
 use Prim.Native.Nat.{ℕ}
@@ -11,6 +11,7 @@ use Rattle.rules.specs.Examples.{fromDesk, headIsOf}
 abbrev pub otherLets : ℕ → ℕ → ℕ → Request
 otherLets kind side number = fromDesk 2 (ask kind side number 64)
 
+-- sessions in which the last answer to desk 1 shows that desk 2 has aircraft on the field
 abbrev pub seen : List Case
 seen =
     -- the lateral zone is taken by the other's 8: 19 for a vertical entry on that side, 16 for a lateral one

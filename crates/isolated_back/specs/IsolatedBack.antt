@@ -18,7 +18,7 @@ use Rattle.taken_back.specs.Calls.{Call, request, back, playedCalls}
 
 -- ---- the other desk's numbers renamed; this desk is d
 
--- a field with its index: the other desk's aircraft and the sequence, and the index put in order again (02, 2.10)
+-- a field with its index: the other desk's aircraft and the sequence are renamed, and the index is the renamed field's own (02, 2.10)
 abbrev pub renamedIndexed : ℕ → (ℕ → ℕ) → Indexed → Indexed
 renamedIndexed d π x = withIndex (renamedOthers d π (x .field))
 
@@ -59,7 +59,7 @@ pub record KeepsOwnBack (d : ℕ) (π : ℕ → ℕ) (h : History) (cs : List Ca
   pub calls : Each (FixesCall d π) cs
   -- each number that its aircraft carry on the field stays, ..
   pub aircraft : FixesAircraft d π (h .now .field)
-  -- .. and on each kept field that counts: "the numbers of this desk's aircraft there stay" (02, 2.13)
+  -- .. and so does each that they carry on a kept field that counts (02, 2.13)
   pub kept : Each (λ (x : Indexed). FixesAircraft d π (x .field)) (counted h)
 
 -- ---- the claim

@@ -33,7 +33,7 @@ abbrev pub notInOrder : ℕ → (ℕ → ℕ) → Indexed → Indexed
 notInOrder d π x =
     record { field = renamedOthers d π (x .field); index = record { entries = map (λ (e : Entry). record { number = π (e .number); zone = e .zone; place = e .place }) (x .index .entries) } }
 
--- the numbers of this desk's aircraft on kept fields need not stay
+-- nothing is asked of the numbers that this desk's aircraft have on kept fields
 pub record OnlyOnField (d : ℕ) (π : ℕ → ℕ) (h : History) (cs : List Call) : Type 0 where
   pub renaming : Renaming π
   pub calls : Each (FixesCall d π) cs

@@ -24,6 +24,7 @@ pub data Name : Type 0 where
   descends initiates initiatesLateral merges holds : Side → Name
   exits goesFinal lands taxies misses : Name
 
+-- the transition of each name
 abbrev pub transition : Name → Transition
 transition (vertically s) = verticalEntry s
 transition (laterally s) = lateralEntry s
@@ -81,7 +82,7 @@ mayCome f new = not (eqb (new .number) 0) && eqb (placeOf f (new .number) .zone)
 abbrev pub flownOutIn : Field → Zone → Bool
 flownOutIn f z = legFlownOut (aircraftAt f (zoneNumber z) 1)
 
--- kinds 5, 6, 7 and 11 need the leg flown out, and (02, 2.3) kind 9
+-- what each transition has to wait for: who enters may come, and who merges, exits (02, 2.3), goes to final, lands or holds has flown its leg out
 abbrev pub ready : Field → Entrant → Name → Bool
 ready f new (vertically s) = mayCome f new
 ready f new (laterally s) = mayCome f new
@@ -103,5 +104,6 @@ pub record Follows (f : Field) (r : Request) (s : SCA) : Type 0 where
   pub accepted : stepOf f r .answer .number ≡ 0
   pub leads-to : stateOf (stepOf f r .field) ≡ s
 
+-- every transition that leads on from the state of a field is followed so, by any entrant, as soon as what the rules ask besides is given
 abbrev pub Enabled : Field → Type 0
 Enabled f = (name : Name) (s : SCA) → transition name (stateOf f) ≡ s ∷ [] → (new : Entrant) → T (ready f new name) → Follows f (requestFor f new name) s

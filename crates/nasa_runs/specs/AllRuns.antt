@@ -1,4 +1,4 @@
--- Every state that NASA's transitions reach is the state of a field that requests reach.
+-- The other direction of `RunsWithin` of `nasa`: every state that NASA's transitions reach is the state of a field that requests reach.
 use mathlib.Core.Path.{_≡_}
 use mathlib.Core.Bool.{Bool}
 use mathlib.Core.List.{List}
@@ -23,5 +23,6 @@ pub record Comes (legs : Legs) (s : SCA) : Type 0 where
   pub accepted : T (allAccepted (played (emptyField legs) requests))
   pub there : stateOf (fieldAfter (emptyField legs) requests) ≡ s
 
+-- requests come to every state that NASA's transitions reach; as in `RunsWithin`, of a run only the state at its end is compared
 abbrev pub AllRuns : Legs → Type 0
 AllRuns legs = (s : SCA) → Reached s → Comes legs s

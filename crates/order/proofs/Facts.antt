@@ -49,13 +49,13 @@ weight-small f zs o = leb→le (weight zs) heaviest (of-sequence fitting fitting
 
 -- bounds b, c and d of document 01, said of the sequence
 pub record Bounds (f : Side) (zs : List ℕ) : Type 0 where
-  -- "At most two in each side's area."
+  -- b
   pub areas : (s : Side) → total (count zs) (area (num s)) ≤ 2
-  -- "At most one in each of zones 1 to 6"
+  -- c: of each zone by itself
   pub single : T (every (λ z. leb (count zs z) 1) (zonesFrom 1 6))
-  -- "if a lateral zone is occupied, its side's holdings and missed zone are empty"
+  -- c: beside one in a lateral zone
   pub lateral-alone : (s : Side) → T (free zs (lateral (num s)) || (free zs (at3000 (num s)) && free zs (at2000 (num s)) && free zs (missed (num s))))
-  -- "At most two in the operation area per fix."
+  -- d
   pub fixes : (s : Side) → total (countFix f zs (num s)) operation ≤ 2
 
 -- the bounds of side s

@@ -72,7 +72,7 @@ early-misses-hold = computed .4
 pub two-desks-hold : T (every caseHolds twoDesks)
 two-desks-hold = computed .5
 
--- 25 is judged on the field after both moves of an entry
+-- 25 judges the field after the second move of an entry
 pub judged-after-both : JudgedAfterBoth onePlace entryOfEight
 judged-after-both = computed .6
 

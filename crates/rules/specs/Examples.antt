@@ -36,6 +36,7 @@ oneEach rest = ask 1 1 7 64 ∷ ask 1 2 8 64 ∷ rest
 abbrev pub bothToBase : List Request → List Request
 bothToBase rest = oneEach (toBase 7 (toBase 8 rest))
 
+-- what becomes of the three: a miss, an entry before it, a landing, and a merge that must wait
 abbrev pub examples : List Case
 examples =
     -- 7 misses: to the right, its old fix, with the next fix, 2, and last; now each of the three has one behind it in the area of its fix,
@@ -64,6 +65,7 @@ toIntermediate rest = ask 1 1 7 64 ∷ toBase 7 (ask 5 0 7 0 ∷ ask 12 0 0 64 �
 abbrev pub eightBehind : List Request → List Request
 eightBehind rest = bothToBase (toFinal 7 (ask 5 0 8 0 ∷ rest))
 
+-- exits, in the order of their refusals
 abbrev pub exits : List Case
 exits =
     -- at the start of the leg: 15, which ends the session as (02, 2.3) gives it
@@ -84,6 +86,7 @@ exits =
 
 -- ---- entries beside an occupied 3000
 
+-- the entry in one step and in two, and one that is refused
 abbrev pub entries : List Case
 entries =
     -- 9 to the right: 7 descends and keeps its place in the sequence
@@ -110,6 +113,7 @@ entries =
 abbrev pub missAfter : ℕ → List Request → List Request
 missAfter amount rest = ask 1 1 7 64 ∷ toBase 7 (toFinal 7 (ask 12 0 0 amount ∷ ask 10 0 7 0 ∷ rest))
 
+-- how long a hold must wait after a miss, by what was left of final
 abbrev pub earlyMisses : List Case
 earlyMisses =
     -- half a mile of final is left: with the missed leg a mile and a half is ahead, and after a mile a hold is too early
@@ -131,6 +135,7 @@ fromDesk desk r = record { kind = r .kind; side = r .side; number = r .number; a
 abbrev pub headIsOf : ℕ → ℕ → Field → Bool
 headIsOf desk zone f = eqb (aircraftAt f zone 1 .desk) desk
 
+-- what a desk is refused and shown where the other has aircraft
 abbrev pub twoDesks : List Case
 twoDesks =
     -- 31 before anything else, of no desk and of a third one
@@ -163,7 +168,7 @@ twoDesks =
     }
     ∷ []
 
--- ---- 25 is judged on the field after both moves
+-- ---- where an entry moves two, 25 judges the field after the second (02, 2.5)
 
 -- a queue of one
 abbrev pub onlyOne : Aircraft → Zone
