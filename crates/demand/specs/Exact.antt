@@ -12,6 +12,7 @@ use Rattle.field.specs.declared.Aircraft.{Aircraft}
 use Rattle.field.specs.declared.Legs.{Legs}
 use Rattle.field.specs.declared.Field.{Field}
 use Rattle.field.specs.Boxes.{missed, base, intermediate, right, left, isFlyingZone, inZone, legsIn64ths, emptyField}
+use Rattle.field.specs.Lists.{Each}
 use Rattle.rules.specs.declared.Answer.{Answer}
 use Rattle.rules.specs.Play.{fieldAfter, played, isAccepted}
 
@@ -96,11 +97,6 @@ abbrev pub flightAfter : WholeLegs → ℕ → Flight → List (Request × Answe
 flightAfter w number s [] = s
 flightAfter w number s (p ∷ ps) = flightAfter w number (flightWith w number s p) ps
 
--- what holds of each aircraft
-abbrev pub EachAircraft : (Aircraft → Type 0) → List Aircraft → Type 0
-EachAircraft P [] = Unit {0}
-EachAircraft P (a ∷ rest) = P a × EachAircraft P rest
-
 -- what is exact of an aircraft in zone z with this flight
 pub record Account (s : Flight) (z : ℕ) (a : Aircraft) : Type 0 where
   -- in every zone its own leg is that of its flight, in 4096ths (02, 2.7)
@@ -114,7 +110,7 @@ pub record Account (s : Flight) (z : ℕ) (a : Aircraft) : Type 0 where
 abbrev pub ExactOf : WholeLegs → List (Request × Answer) → Field → Type 0
 ExactOf w answers f =
     (zone : ℕ) → T (within 1 13 zone)
-    → EachAircraft (λ a. Account (flightAfter w (a .number) noFlight answers) zone a) (inZone f zone)
+    → Each (λ a. Account (flightAfter w (a .number) noFlight answers) zone a) (inZone f zone)
 
 -- .. played from the empty field
 abbrev pub Exact : WholeLegs → List Request → Type 0

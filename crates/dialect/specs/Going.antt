@@ -16,23 +16,23 @@ use Rattle.dialect.specs.declared.Listing.{Listing}
 -- ---- one of the list
 
 -- the entry of the one with this number, at this place of the list: its location is the zone where it is
-unfoldable pub entryOf : Field → ℕ → ℕ → Entry
-entryOf f number place = record { number = number; location = placeOf f number .zone; place = place; fix = fixOf f number }
+unfoldable pub listEntry : Field → ℕ → ℕ → Entry
+listEntry f number place = record { number = number; location = placeOf f number .zone; place = place; fix = fixOf f number }
 
 -- ---- the list
 
 -- numbers in order, the first at this place
-abbrev pub entriesFrom : Field → ℕ → List ℕ → List Entry
-entriesFrom f place [] = []
-entriesFrom f place (n ∷ ns) = entryOf f n place ∷ entriesFrom f (suc place) ns
+abbrev pub listEntries : Field → ℕ → List ℕ → List Entry
+listEntries f place [] = []
+listEntries f place (n ∷ ns) = listEntry f n place ∷ listEntries f (suc place) ns
 
 -- the entry of one on the runway, whose place is 0; none where nobody is there
 unfoldable pub onRunway : Field → List Entry
-onRunway f = cond (isEmpty f runway) [] (entryOf f (aircraftAt f runway 1 .number) 0 ∷ [])
+onRunway f = cond (isEmpty f runway) [] (listEntry f (aircraftAt f runway 1 .number) 0 ∷ [])
 
 -- the list of a field: everyone in the sequence, with places from 1, and then one on the runway
 unfoldable pub entriesOf : Field → List Entry
-entriesOf f = entriesFrom f 1 (orderOf (f .sequence)) ++ onRunway f
+entriesOf f = listEntries f 1 (orderOf (f .sequence)) ++ onRunway f
 
 -- nobody is in a zone that the dialect lacks: a lateral one or the intermediate one
 unfoldable pub inDialect : Field → Bool

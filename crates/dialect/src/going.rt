@@ -13,11 +13,11 @@ use questions::find::aircraft_at;
 use questions::find::fix_of;
 use questions::find::place_of;
 ghost use mathlib.Core.Path.{_≡_};
-ghost use Rattle.dialect.specs.Going.{entryOf, entriesOf, inDialect, noEntry, listed, refused, listOf};
+ghost use Rattle.dialect.specs.Going.{listEntry, entriesOf, inDialect, noEntry, listed, refused, listOf};
 
 // The one with a number, at a place of the list.
 fn entry_of(f: Field, number: u16, place: u16) -> Entry
-    ensures { λ r. ⌜ r ≡ entryOf f number place ⌝ }
+    ensures { λ r. ⌜ r ≡ listEntry f number place ⌝ }
 {
     let at = place_of(f, number);
     let fix = fix_of(f, number);

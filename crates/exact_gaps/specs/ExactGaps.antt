@@ -11,6 +11,7 @@ use lib.Ieee.Exact.{HasValue}
 use Rattle.request.specs.declared.Request.{Request}
 use Rattle.field.specs.declared.Field.{Field}
 use Rattle.field.specs.Boxes.{intermediate, finalApproach, orderOf, emptyField}
+use Rattle.field.specs.Lists.{Each}
 use Rattle.questions.specs.Find.{placeOf, aircraftAt}
 use Rattle.rules.specs.Play.{fieldAfter, played}
 use Rattle.demand.specs.Exact.{WholeLegs, inMiles, in64ths, noFlight, flightAfter}
@@ -61,12 +62,7 @@ pub record ExactPair (w : WholeLegs) (rs : List Request) (spacing : ℕ) (p : Pa
   -- and it is close exactly where that is under 64 times the spacing in 64ths
   pub close : isClose (p .spacing) ≡ ltb (wayIn4096ths w rs (p .follower)) (wayIn4096ths w rs (p .leader) + 64 * spacing)
 
--- what holds of each pair
-abbrev pub EachPair : (Pair → Type 0) → List Pair → Type 0
-EachPair P [] = Unit {0}
-EachPair P (p ∷ ps) = P p × EachPair P ps
-
 -- what holds of a legal spacing on that field: it is not refused, and each pair is exact
 pub record ExactGaps (w : WholeLegs) (rs : List Request) (spacing : ℕ) : Type 0 where
   pub accepted : gapsOf (reached w rs) spacing ≡ listed (pairsIn (reached w rs) spacing (orderOf (reached w rs .sequence)))
-  pub exact : EachPair (ExactPair w rs spacing) (pairsIn (reached w rs) spacing (orderOf (reached w rs .sequence)))
+  pub exact : Each (ExactPair w rs spacing) (pairsIn (reached w rs) spacing (orderOf (reached w rs .sequence)))

@@ -4,6 +4,7 @@ use mathlib.Core.List.{List, [], _∷_, _++_}
 use Prim.Native.Nat.{ℕ, _+_, _-_}
 use lib.Dec.{eqb, leb, ltb}
 use lib.ListN.{getD, take, drop, set, replicate}
+use Rattle.limits.specs.Limits.{desks}
 use Rattle.request.specs.Input.{within, firstRefused, inputNumber}
 use Rattle.request.specs.declared.Request.{Request}
 use Rattle.field.specs.declared.Legs.{Legs}
@@ -73,7 +74,7 @@ stepHistory h r =
 
 -- the number of a step back by a desk: 31 for a desk that is not 1 or 2, 10 where the bounds are broken, 27 where no field is kept, in this order
 unfoldable pub numberBack : History → ℕ → ℕ
-numberBack h desk = firstRefused ((31, within 1 2 desk) ∷ (10, withinBoundsHistory h) ∷ (27, ltb 0 (h .count)) ∷ [])
+numberBack h desk = firstRefused ((31, within 1 desks desk) ∷ (10, withinBoundsHistory h) ∷ (27, ltb 0 (h .count)) ∷ [])
 
 -- the last kept field given back, with its index: one field less counts, and every place keeps what it had
 unfoldable pub givenBack : History → History

@@ -11,9 +11,9 @@ use Rattle.field.specs.declared.Aircraft.{Aircraft}
 use Rattle.field.specs.declared.Zone.{Zone}
 use Rattle.field.specs.declared.Field.{Field}
 use Rattle.field.specs.Boxes.{inZone}
+use Rattle.field.specs.Lists.{Each}
 use Rattle.bounds.specs.Bounds.{withinBounds}
 use Rattle.rules.specs.Play.{played, ofDesk}
-use Rattle.owners.specs.Owners.{Each}
 use Rattle.renaming.specs.Renaming.{Renaming, renamedAircraft, renamedSequence, renamedRequest}
 
 -- ---- the other desk's numbers renamed; this desk is d

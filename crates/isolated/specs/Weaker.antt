@@ -7,6 +7,7 @@ use lib.Dec.{T, eqb}
 use lib.ListN.{length}
 use Rattle.request.specs.declared.Request.{Request}
 use Rattle.field.specs.declared.Field.{Field}
+use Rattle.field.specs.Lists.{Each}
 use Rattle.questions.specs.Find.{leaderOf}
 use Rattle.bounds.specs.Bounds.{withinBounds}
 use Rattle.finder.specs.declared.Indexed.{Indexed}
@@ -15,7 +16,6 @@ use Rattle.rules.specs.declared.Answer.{Answer}
 use Rattle.rules.specs.Play.{fieldAfter, played, ofDesk}
 use Rattle.renaming.specs.Renaming.{Renaming}
 use Rattle.indexed.specs.Indexed.{playedIndexed}
-use Rattle.owners.specs.Owners.{Each}
 use Rattle.isolated.specs.Isolated.{renamedOthers, renamedOtherRequest, renamedOtherRequests, FixesRequests, FixesAircraft, KeepsOwn}
 
 -- ---- something less is asked of the new numbers

@@ -6,11 +6,11 @@ use mathlib.Core.List.{List, [], _∷_, _++_, map}
 use Prim.Native.Nat.{ℕ}
 use lib.Dec.{T, eqb}
 use lib.ListN.{length, drop}
+use Rattle.field.specs.Lists.{Each}
 use Rattle.finder.specs.declared.Indexed.{Indexed}
 use Rattle.rules.specs.declared.Answer.{Answer}
 use Rattle.renaming.specs.Renaming.{Renaming}
 use Rattle.indexed.specs.Indexed.{withIndex}
-use Rattle.owners.specs.Owners.{Each}
 use Rattle.isolated.specs.Isolated.{renamedOthers, renamedOtherRequest, FixesRequest, FixesAircraft}
 use Rattle.history.specs.declared.History.{History}
 use Rattle.history.specs.History.{mostKept, counted, withinBoundsHistory}

@@ -4,10 +4,10 @@ use mathlib.Core.List.{List, _++_, map}
 use Prim.Native.Nat.{ℕ}
 use lib.Dec.{T}
 use lib.ListN.{drop}
+use Rattle.field.specs.Lists.{Each}
 use Rattle.finder.specs.declared.Entry.{Entry}
 use Rattle.finder.specs.declared.Indexed.{Indexed}
 use Rattle.renaming.specs.Renaming.{Renaming}
-use Rattle.owners.specs.Owners.{Each}
 use Rattle.isolated.specs.Isolated.{renamedOthers, FixesAircraft}
 use Rattle.history.specs.declared.History.{History}
 use Rattle.history.specs.History.{counted, withinBoundsHistory}

@@ -156,7 +156,8 @@ module _ (f : Side) (line : List Placed) (runway : List Aircraft) (legs : Legs) 
     unfolding potentialOf countedFor
     potential-is s =
         total-same (countedFor F s) (λ z. cond (isIn z (area s)) (count (zonesIn line) z) (countFix f (zonesIn line) s z)) operation tt
-        (λ z t. ap (λ (n : ℕ). cond (isIn z (area s)) n (howManyWithFix F s z)) (how-many f line runway legs z t) ∙ ap (λ (n : ℕ). cond (isIn z (area s)) (count (zonesIn line) z) n) (how-many-with-fix f line runway legs a s z t))
+        (λ z t. ap (λ (n : ℕ). cond (isIn z (area s)) n (howManyWithFix F s z)) (how-many f line runway legs z t)
+        ∙ ap (λ (n : ℕ). cond (isIn z (area s)) (count (zonesIn line) z) n) (how-many-with-fix f line runway legs a s z t))
 
 -- ---- the counts of the model over all zones add up to the list's length
 

@@ -14,7 +14,7 @@ use Rattle.questions.specs.Counts.{total}
 use Rattle.field.specs.Lists.{every}
 use Rattle.order.specs.Model.{Side, right, left, opp, num, count, countFix, free, isNil, Kind, descend, approaching, merge, final, hold, needs, target, mayComeIn, mayEnter, mayEnterLateral, firstFix, all, okay, weight, heaviest}
 use Rattle.field.proofs.Tests.{implies, implied}
-use Rattle.order.proofs.Claims.{Each, Claim, One, Two, ofSequences, of-sequence, ofOnes, of-one, ofTwos, of-two}
+use Rattle.order.proofs.Claims.{EachHolds, Claim, One, Two, ofSequences, of-sequence, ofOnes, of-one, ofTwos, of-two}
 
 -- ---- the sequence as a whole
 
@@ -85,7 +85,7 @@ fitting-side-holds left = fitting-left
 -- bounds b, c and d hold
 pub okay-bounds : (f : Side) (zs : List ℕ) → T (okay f zs) → Bounds f zs
 okay-bounds f zs o =
-    let of-side : (s : Side) → Each (fittingSide s .shown f zs) = λ s. of-sequence (fittingSide s) (fitting-side-holds s) f zs o tt in
+    let of-side : (s : Side) → EachHolds (fittingSide s .shown f zs) = λ s. of-sequence (fittingSide s) (fitting-side-holds s) f zs o tt in
     record {
       areas = λ s. leb→le (total (count zs) (area (num s))) 2 (of-side s 0);
       single = of-sequence fitting fitting-holds f zs o tt 3;

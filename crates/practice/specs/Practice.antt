@@ -36,14 +36,10 @@ entryBytes kind offset size = bytes16 kind ++ bytes32 offset ++ bytes32 size
 abbrev pub legBytes : FileLegs → List ℕ
 legBytes legs = bytes16 (legs .base) ++ bytes16 (legs .intermediate) ++ bytes16 (legs .last) ++ bytes16 (legs .missed)
 
--- body 2: the requests, six bytes for each
+-- body 2: the requests, six bytes for each; a file has no desk, and is read as one of desk 1 (02, 2.10 and 2.11)
 abbrev pub requestBytes : List Request → List ℕ
 requestBytes [] = []
 requestBytes (r ∷ rest) = r .kind ∷ r .side ∷ bytes16 (r .number) ++ bytes16 (r .amount) ++ requestBytes rest
-
--- a request as a practice file holds it, where it has no desk: it is asked by desk 1 (02, 2.10 and 2.11)
-abbrev pub fromFile : Request → Request
-fromFile r = record { kind = r .kind; side = r .side; number = r .number; amount = r .amount; desk = 1 }
 
 -- the whole file: the letters, how many entries the contents have, the two entries, and the two bodies
 unfoldable pub encoded : FileLegs → List Request → List ℕ

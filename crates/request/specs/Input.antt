@@ -25,6 +25,10 @@ requestOf bytes = record {
   desk = 1;
 }
 
+-- a request as a desk asks it
+abbrev pub fromDesk : ℕ → Request → Request
+fromDesk desk r = record { kind = r .kind; side = r .side; number = r .number; amount = r .amount; desk = desk }
+
 -- n is from low to high
 abbrev pub within : ℕ → ℕ → ℕ → Bool
 within low high n = leb low n && leb n high

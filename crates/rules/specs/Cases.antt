@@ -51,8 +51,8 @@ abbrev pub inOrder : List ℕ → Field → Bool
 inOrder ns f = sameNumbers (orderOf (f .sequence)) ns
 
 -- whether the one with a number is in a zone
-abbrev pub stands : ℕ → ℕ → Field → Bool
-stands number zone f = eqb (placeOf f number .zone) zone
+abbrev pub standsIn : ℕ → ℕ → Field → Bool
+standsIn number zone f = eqb (placeOf f number .zone) zone
 
 -- whether the head of a zone has flown so many miles
 abbrev pub hasFlown : ℕ → ℕ → Field → Bool
@@ -74,7 +74,7 @@ marked =
     -- a vertical entry on the empty field takes its own side as fix
     record { leg = 64; requests = ask 1 1 7 64 ∷ []; answer = says 7 1 1 0 0; after = anyField }
     -- another on that side is let in since 2.5 (02): the first descends, and is in `along`
-    ∷ record { leg = 64; requests = ask 1 1 7 64 ∷ ask 1 1 8 64 ∷ []; answer = says 8 1 2 7 7; after = λ f. inOrder (7 ∷ 8 ∷ []) f && stands 7 3 f }
+    ∷ record { leg = 64; requests = ask 1 1 7 64 ∷ ask 1 1 8 64 ∷ []; answer = says 8 1 2 7 7; after = λ f. inOrder (7 ∷ 8 ∷ []) f && standsIn 7 3 f }
     -- another on the left takes the next fix, and has the first as its leader
     ∷ record { leg = 64; requests = ask 1 1 7 64 ∷ ask 1 2 8 64 ∷ []; answer = says 8 2 2 7 0; after = anyField }
     -- another with the number of the first: 11
@@ -105,14 +105,14 @@ marked =
       leg = 64;
       requests = ask 1 1 7 64 ∷ ask 3 0 7 0 ∷ ask 1 1 8 64 ∷ ask 4 0 7 0 ∷ toFinal 7 (ask 10 0 7 0 ∷ ask 12 0 0 64 ∷ ask 12 0 0 64 ∷ ask 11 0 7 0 ∷ []);
       answer = says 7 1 1 8 8;
-      after = λ f. stands 7 1 f && stands 8 3 f;
+      after = λ f. standsIn 7 1 f && standsIn 8 3 f;
     }
     -- an approach from the right where two are on base left: 23
     ∷ record {
       leg = 64;
       requests = ask 1 2 7 64 ∷ ask 3 0 7 0 ∷ ask 1 2 8 64 ∷ ask 4 0 7 0 ∷ ask 1 1 9 64 ∷ toBase 8 (toBase 9 []);
       answer = numberAndZeros 23;
-      after = λ f. inOrder (7 ∷ 8 ∷ 9 ∷ []) f && stands 7 10 f && stands 8 10 f && stands 9 3 f;
+      after = λ f. inOrder (7 ∷ 8 ∷ 9 ∷ []) f && standsIn 7 10 f && standsIn 8 10 f && standsIn 9 3 f;
     }
     -- the highest speed and the longest tick give 8 miles on the longest leg
     ∷ record {

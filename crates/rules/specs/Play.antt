@@ -6,6 +6,7 @@ use lib.Dec.{eqb}
 use Rattle.request.specs.Input.{within, isEntry}
 use Rattle.request.specs.declared.Request.{Request}
 use Rattle.field.specs.declared.Field.{Field}
+use Rattle.field.specs.Lists.{every}
 use Rattle.rules.specs.declared.Answer.{Answer}
 use Rattle.rules.specs.Step.{stepOf}
 
@@ -36,6 +37,10 @@ countedOnce kinds p = cond (isAccepted kinds p) 1 0
 abbrev pub accepted : (ℕ → Bool) → List (Request × Answer) → ℕ
 accepted kinds [] = 0
 accepted kinds (p ∷ ps) = countedOnce kinds p + accepted kinds ps
+
+-- whether every answer accepts its request
+abbrev pub allAccepted : List (Request × Answer) → Bool
+allAccepted ps = every (λ p. eqb (p .1 .number) 0) ps
 
 -- how many were let in, by kinds 1 and 2
 abbrev pub letIn : List (Request × Answer) → ℕ

@@ -92,8 +92,8 @@ abbrev pub lateralFree : List Listed → Listed → List Listed → Bool
 lateralFree ahead a behind = not (within 5 6 (a .zone)) || eqb (length (those (hasFix (sideOf (a .zone))) ahead)) 0
 
 -- that is so of everyone in the sequence
-unfoldable pub lateralEntry : Field → Bool
-lateralEntry f = eachAmong lateralFree [] (along f)
+unfoldable pub lateralOrder : Field → Bool
+lateralOrder f = eachAmong lateralFree [] (along f)
 
 -- ---- 5. Queues agree with the sequence: a zone's queue is the sequence restricted to the zone, in the same order
 abbrev pub QueueAgrees : Field → ℕ → Type 0
@@ -104,7 +104,7 @@ pub record Reason (f : Field) : Type 0 where
   pub approach-order : T (approachOrder f)
   pub area-order : T (areaOrder f right && areaOrder f left)
   pub room-to-miss : T (roomToMiss f)
-  pub lateral-entry : T (lateralEntry f)
+  pub lateral-entry : T (lateralOrder f)
   pub queues-agree : (zone : ℕ) → T (within 1 12 zone) → QueueAgrees f zone
 
 -- ---- what the authority asked: whoever heads final, and so may miss, finds at most one aircraft in the area of its fix

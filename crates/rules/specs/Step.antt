@@ -102,7 +102,7 @@ alongFor kind f r z = cond (eqb kind 1) (shownAt3000 f (r .desk) (r .side)) (con
 abbrev pub acceptanceOn : Field → Request → ℕ → Answer
 acceptanceOn g r along = acceptance g (placeOf g (r .number)) (placeOf g (leaderOf (g .sequence) (r .number))) r along
 
--- the answer to an accepted request: zeros to a tick, and to every other kind that one
+-- the answer to an accepted request: zeros to a tick, and `acceptanceOn` the field after the step to every other kind
 unfoldable pub answerOf : Field → Request → Answer
 answerOf f r =
     cond (eqb (r .kind) 12) (numberAndZeros 0)

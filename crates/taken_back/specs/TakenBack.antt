@@ -12,7 +12,7 @@ use Rattle.field.specs.Lists.{every}
 use Rattle.finder.specs.declared.Indexed.{Indexed}
 use Rattle.rules.specs.declared.Answer.{Answer}
 use Rattle.rules.specs.Step.{numberAndZeros}
-use Rattle.rules.specs.Play.{fieldAfter, played}
+use Rattle.rules.specs.Play.{fieldAfter, played, allAccepted}
 use Rattle.indexed.specs.Indexed.{withIndex}
 use Rattle.demand.specs.Demand.{Demand3}
 use Rattle.history.specs.declared.History.{History}
@@ -30,7 +30,7 @@ fieldAt legs rs n = withIndex (fieldAfter (emptyField legs) (take n rs))
 -- a field with its kept ones as a history of requests leaves them
 pub record Follows (legs : Legs) (h : History) (rs : List Request) : Type 0 where
   -- every request of the history is accepted on the field after those before it
-  pub accepted : T (every (λ p. eqb (p .1 .number) 0) (played (emptyField legs) rs))
+  pub accepted : T (allAccepted (played (emptyField legs) rs))
   -- the field is the field after the history, index included
   pub now : h .now ≡ withIndex (fieldAfter (emptyField legs) rs)
   -- at most eight count, and no more than the history has requests; there are eight places
