@@ -29,11 +29,11 @@ use Rattle.order.proofs.Facts.{headKind, head-moves}
 use Rattle.rules.specs.Kinds.{placeBefore, zoneBefore, startsFrom, belongsTo, headChecks, mayApproach, mayMerge, baseFree}
 use Rattle.rules.specs.Step.{checksOf}
 use Rattle.demand.specs.Demand.{allFlownOut, movesOn, MovesOn}
-use Rattle.field.proofs.Tests.{passed, failed, each-zone, every-from}
+use Rattle.field.proofs.Tests.{passed, failed, each-operation, every-from}
 use Rattle.field.proofs.Lists.{alone}
 use Rattle.line.proofs.Lists.{every-right}
 use Rattle.line.proofs.Line.{Placed, zonesIn, numbersOf, inside, fieldOf}
-use Rattle.line.proofs.Counted.{lower, in-line, how-many, how-many-runway}
+use Rattle.line.proofs.Counted.{in-line, how-many, how-many-runway}
 use Rattle.questions.proofs.FindLaws.{at}
 use Rattle.line.proofs.Located.{located, located-runway, inside-at, first-there, head-there}
 use Rattle.line.proofs.Leaders.{nonzero}
@@ -158,7 +158,7 @@ module _ (f : Side) (e : Placed) (b : List Placed) (legs : Legs) (o : Orderly f 
   unfolding startsFrom isFlyingZone mayApproach mayMerge baseFree sideOf opposite
   first-moves =
       let hm = head-moves f z (zonesIn b) (o .okay-line) in
-      let holds = each-zone (λ (y : ℕ). z ≡ y → T (eqb y 12 || needs (headKind y) [] y (zonesIn b)) → MovesOn G) in
+      let holds = each-operation (λ (y : ℕ). z ≡ y → T (eqb y 12 || needs (headKind y) [] y (zonesIn b)) → MovesOn G) in
       let down : (y : ℕ) → z ≡ y → T (startsFrom 3 y) → T (within 1 12 (at2000 y)) → T (free (y ∷ zonesIn b) (at2000 y)) → MovesOn G =
       λ y q s t u.
       by-kind 3 (omega arith) (omega arith) tt (subst (λ (v : ℕ). T (startsFrom 3 v)) (sym q) s) (checks-at G (move 3 x) {k = 3} refl)
@@ -185,44 +185,21 @@ module _ (f : Side) (e : Placed) (b : List Placed) (legs : Legs) (o : Orderly f 
       (input.none-refused (besides G (move 11 x) 11) (flies 11 y q u, tt)) in
       holds (
         (λ q u. down 1 q tt tt u),
-        (
-          (λ q u. down 2 q tt tt u),
-          (
-            (λ q u. in-to-base 3 q tt (base-of 3 10 q tt u)),
-            (
-              (λ q u. in-to-base 4 q tt (base-of 4 9 q tt u)),
-              (
-                (λ q u. in-to-base 5 q tt refl),
-                (
-                  (λ q u. in-to-base 6 q tt refl),
-                  (
-                    (λ q u. holding 7 q tt tt),
-                    (
-                      (λ q u. holding 8 q tt tt),
-                      (
-                        (λ q u. merges 9 q tt tt),
-                        (
-                          (λ q u. merges 10 q tt tt),
-                          (
-                            (λ q u. by-kind 6 (omega arith) (omega arith) tt (subst (λ (v : ℕ). T (startsFrom 6 v)) (sym q) tt)
-                                (checks-at G (move 6 x) {k = 6} refl) (input.none-refused (besides G (move 6 x) 6) (flies 6 11 q tt, tt))),
-                            (
-                              (λ q u. by-kind 7 (omega arith) (omega arith) tt (subst (λ (v : ℕ). T (startsFrom 7 v)) (sym q) tt) (checks-at G (move 7 x) {k = 7} refl)
-                                  (input.none-refused (besides G (move 7 x) 7) (flies 7 12 q tt, (ap (λ (c : ℕ). eqb c 0) (how-many-runway f (e ∷ b) [] legs), tt)))),
-                              ((λ q u. absurd (let t = leb→le z 12 (and-r (leb 1 z) (leb z 12) z-in) in omega arith)), tt),
-                            ),
-                          ),
-                        ),
-                      ),
-                    ),
-                  ),
-                ),
-              ),
-            ),
-          ),
-        ),
+        (λ q u. down 2 q tt tt u),
+        (λ q u. in-to-base 3 q tt (base-of 3 10 q tt u)),
+        (λ q u. in-to-base 4 q tt (base-of 4 9 q tt u)),
+        (λ q u. in-to-base 5 q tt refl),
+        (λ q u. in-to-base 6 q tt refl),
+        (λ q u. holding 7 q tt tt),
+        (λ q u. holding 8 q tt tt),
+        (λ q u. merges 9 q tt tt),
+        (λ q u. merges 10 q tt tt),
+        (λ q u. by-kind 6 (omega arith) (omega arith) tt (subst (λ (v : ℕ). T (startsFrom 6 v)) (sym q) tt)
+            (checks-at G (move 6 x) {k = 6} refl) (input.none-refused (besides G (move 6 x) 6) (flies 6 11 q tt, tt))),
+        (λ q u. by-kind 7 (omega arith) (omega arith) tt (subst (λ (v : ℕ). T (startsFrom 7 v)) (sym q) tt) (checks-at G (move 7 x) {k = 7} refl)
+            (input.none-refused (besides G (move 7 x) 7) (flies 7 12 q tt, (ap (λ (c : ℕ). eqb c 0) (how-many-runway f (e ∷ b) [] legs), tt)))),
       )
-      z (lower z z-in) refl hm
+      z z-in refl hm
     where
       or-true : (c : Bool) → (c || true) ≡ true
       or-true true = refl
