@@ -59,7 +59,9 @@ changed f a e g b runway legs o k n h fit =
       alternates = alternates-changed f a e g b h (o .alternates);
       nonzeros = subst (λ (l : List ℕ). T (every nonzero (l ++ numbers runway))) ns (o .nonzeros);
       different = subst (λ (l : List ℕ). T (allDifferent (l ++ numbers runway))) ns (o .different);
-      fit-line = every-append (placedFits legs) a (g ∷ b) (every-left (placedFits legs) a (e ∷ b) (o .fit-line)) (and-i (placedFits legs g) (every (placedFits legs) b) fit (and-r (placedFits legs e) (every (placedFits legs) b) (every-right (placedFits legs) a (e ∷ b) (o .fit-line))));
+      fit-line =
+          every-append (placedFits legs) a (g ∷ b) (every-left (placedFits legs) a (e ∷ b) (o .fit-line))
+          (and-i (placedFits legs g) (every (placedFits legs) b) fit (and-r (placedFits legs e) (every (placedFits legs) b) (every-right (placedFits legs) a (e ∷ b) (o .fit-line))));
       fit-runway = o .fit-runway;
       one-landed = o .one-landed;
       legal = o .legal;
@@ -82,7 +84,8 @@ first-gone f e b runway legs o k =
     }
 
 -- ---- the runway taken and left
-pub landed-on : (f : Side) (line : List Placed) (x : Aircraft) (legs : Legs) → Orderly f line [] legs → T (nonzero (x .number)) → isIn (x .number) (numbersOf line) ≡ false → T (fitsZone legs 13 x) → Orderly f line (x ∷ []) legs
+pub landed-on : (f : Side) (line : List Placed) (x : Aircraft) (legs : Legs) → Orderly f line [] legs → T (nonzero (x .number))
+    → isIn (x .number) (numbersOf line) ≡ false → T (fitsZone legs 13 x) → Orderly f line (x ∷ []) legs
 landed-on f line x legs o z d fit =
     let ns = numbersOf line in
     let n = x .number in
@@ -114,16 +117,21 @@ runway-left f line runway legs o =
 
 -- ---- one more at the end of the line
 pub come : (s f : Side) (line : List Placed) (e : Placed) (runway : List Aircraft) (legs : Legs) → Orderly f line runway legs
-    → T (okay (firstFix s f (zonesIn line)) (zonesIn line ++ (e .zone ∷ []))) → e .aircraft .fix ≡ num (entryFix s f (zonesIn line)) → T (nonzero (e .aircraft .number)) → isIn (e .aircraft .number) (numbersOf line ++ numbers runway) ≡ false
+    → T (okay (firstFix s f (zonesIn line)) (zonesIn line ++ (e .zone ∷ []))) → e .aircraft .fix ≡ num (entryFix s f (zonesIn line)) → T (nonzero (e .aircraft .number))
+    → isIn (e .aircraft .number) (numbersOf line ++ numbers runway) ≡ false
     → T (placedFits legs e) → Orderly (firstFix s f (zonesIn line)) (line ++ (e ∷ [])) runway legs
 come s f line e runway legs o k h z d fit =
     let n = e .aircraft .number in
     let ns = numbersOf line in
-    let now : numbersOf (line ++ (e ∷ [])) ++ numbers runway ≡ ns ++ n ∷ numbers runway = ap (λ (l : List ℕ). l ++ numbers runway) (map-append (λ (p : Placed). p .aircraft .number) line (e ∷ [])) ∙ append-assoc ns (n ∷ []) (numbers runway) in
+    let now : numbersOf (line ++ (e ∷ [])) ++ numbers runway ≡ ns ++ n ∷ numbers runway =
+    ap (λ (l : List ℕ). l ++ numbers runway) (map-append (λ (p : Placed). p .aircraft .number) line (e ∷ [])) ∙ append-assoc ns (n ∷ []) (numbers runway) in
     record {
       okay-line = subst (λ (l : List ℕ). T (okay (firstFix s f (zonesIn line)) l)) (sym (map-append (λ (p : Placed). p .zone) line (e ∷ []))) k;
       alternates = alternates-after s f line e (o .alternates) h;
-      nonzeros = subst (λ (l : List ℕ). T (every nonzero l)) (sym now) (every-append nonzero ns (n ∷ numbers runway) (every-left nonzero ns (numbers runway) (o .nonzeros)) (and-i (nonzero n) (every nonzero (numbers runway)) z (every-right nonzero ns (numbers runway) (o .nonzeros))));
+      nonzeros =
+          subst (λ (l : List ℕ). T (every nonzero l)) (sym now)
+          (every-append nonzero ns (n ∷ numbers runway) (every-left nonzero ns (numbers runway) (o .nonzeros))
+          (and-i (nonzero n) (every nonzero (numbers runway)) z (every-right nonzero ns (numbers runway) (o .nonzeros))));
       different = subst (λ (l : List ℕ). T (allDifferent l)) (sym now) (different-with ns n (numbers runway) d (o .different));
       fit-line = every-append (placedFits legs) line (e ∷ []) (o .fit-line) (and-i (placedFits legs e) true fit tt);
       fit-runway = o .fit-runway;
@@ -137,7 +145,8 @@ alternates-ticked : (amount : ℕ) (f : Side) (line : List Placed) → Alternate
 alternates-ticked amount f [] al = tt
 alternates-ticked amount f (e ∷ line) al = (fix-kept amount (e .zone) (e .aircraft) ∙ al .0, alternates-ticked amount (opp f) line (al .1))
 
-pub ticked-orderly : (f : Side) (line : List Placed) (runway : List Aircraft) (legs : Legs) (amount : ℕ) → Between 1 longestTick amount → Orderly f line runway legs → Orderly f (map (tickPlaced amount) line) runway legs
+pub ticked-orderly : (f : Side) (line : List Placed) (runway : List Aircraft) (legs : Legs) (amount : ℕ) → Between 1 longestTick amount → Orderly f line runway legs
+    → Orderly f (map (tickPlaced amount) line) runway legs
 ticked-orderly f line runway legs amount r o =
     record {
       okay-line = subst (λ (l : List ℕ). T (okay f l)) (sym (zones-same amount line)) (o .okay-line);

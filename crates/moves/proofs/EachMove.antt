@@ -107,10 +107,12 @@ module _ (f : Side) (a : List Placed) (e : Placed) (b : List Placed) (runway : L
       let w : a ++ e ∷ b ≡ a₁ ++ g ∷ (a₂ ++ e ∷ b) = ap (λ (l : List Placed). l ++ e ∷ b) (s .whole) ∙ append-assoc a₁ (g ∷ a₂) (e ∷ b) in
       let eff : effectOf F r ≡ moved (moved F y (at2000 (sideOf z))) z y =
       effect-at F r h
-      ∙ ap (λ (v : ℕ). cond (isEmpty F (at3000 (sideOf v))) (cond (isEmpty F (at2000 (sideOf v))) (moved F v (at2000 (sideOf v))) (moved F v (at3000 (sideOf v)))) (moved (moved F (at3000 (sideOf v)) (at2000 (sideOf v))) v (at3000 (sideOf v)))) (zone-before f a e b runway legs o r named heads place-is starts)
+      ∙ ap (λ (v : ℕ). cond (isEmpty F (at3000 (sideOf v))) (cond (isEmpty F (at2000 (sideOf v))) (moved F v (at2000 (sideOf v))) (moved F v (at3000 (sideOf v))))
+      (moved (moved F (at3000 (sideOf v)) (at2000 (sideOf v))) v (at3000 (sideOf v)))) (zone-before f a e b runway legs o r named heads place-is starts)
       ∙ if-false (cond (isEmpty F (at2000 (sideOf z))) (moved F z (at2000 (sideOf z))) (moved F z y)) (moved (moved F y (at2000 (sideOf z))) z y) occupied in
       subst (λ (l : List Placed). After f l runway legs r) (sym w)
-      (after-both f a₁ g a₂ e b runway legs (subst (λ (l : List Placed). Orderly f l runway legs) w o) r named (from-11 .is-missed) (s .at-zone) (subst (λ (l : List Placed). T (free (zonesIn l) z)) (s .whole) heads) h
+      (after-both f a₁ g a₂ e b runway legs (subst (λ (l : List Placed). Orderly f l runway legs) w o) r named
+      (from-11 .is-missed) (s .at-zone) (subst (λ (l : List Placed). T (free (zonesIn l) z)) (s .whole) heads) h
       (subst (λ (l : List Placed). effectOf (fieldOf f l runway legs) r ≡ moved (moved (fieldOf f l runway legs) y (at2000 (sideOf z))) z y) w eff))
 
   pub after-11-both : After f (a ++ e ∷ b) runway legs r
@@ -143,7 +145,9 @@ module _ (f : Side) (line : List Placed) (runway : List Aircraft) (legs : Legs) 
   final-leads : (h : Heading f line runway legs r) → Orderly f (h .ahead ++ h .here ∷ h .behind) runway legs → h .here .zone ≡ 12 → h .ahead ≡ []
   final-leads h q z =
       no-line (h .ahead)
-      (final-first f (zonesIn (h .ahead)) (zonesIn (h .behind)) (subst (λ (v : ℕ). T (okay f (zonesIn (h .ahead) ++ v ∷ zonesIn (h .behind)))) z (okay-split f (h .ahead) (h .here) (h .behind) (q .okay-line))) (subst (λ (v : ℕ). T (free (zonesIn (h .ahead)) v)) z (h .heads)))
+      (final-first f (zonesIn (h .ahead)) (zonesIn (h .behind))
+      (subst (λ (v : ℕ). T (okay f (zonesIn (h .ahead) ++ v ∷ zonesIn (h .behind)))) z (okay-split f (h .ahead) (h .here) (h .behind) (q .okay-line)))
+      (subst (λ (v : ℕ). T (free (zonesIn (h .ahead)) v)) z (h .heads)))
 
   zone-13 : (h : Heading f line runway legs r) → Orderly f (h .ahead ++ h .here ∷ h .behind) runway legs → T (within 1 13 (h .here .zone))
   zone-13 h q = lower (h .here .zone) (zone-in f (h .ahead) (h .here) (h .behind) runway legs q)
@@ -157,7 +161,8 @@ module _ (f : Side) (line : List Placed) (runway : List Aircraft) (legs : Legs) 
       let a = final-leads h q z in
       let w : h .ahead ++ h .here ∷ h .behind ≡ h .here ∷ h .behind = ap (λ (l : List Placed). l ++ h .here ∷ h .behind) a in
       let p = input.passed (besides (fieldOf f (h .ahead ++ h .here ∷ h .behind) runway legs) r 7) (tt, (tt, tt)) d in
-      let n : runway ≡ [] = none runway (sym (how-many-runway f (h .ahead ++ h .here ∷ h .behind) runway legs) ∙ eqb-true (howMany (fieldOf f (h .ahead ++ h .here ∷ h .behind) runway legs) 13) 0 (p .1 .0)) in
+      let n : runway ≡ [] =
+      none runway (sym (how-many-runway f (h .ahead ++ h .here ∷ h .behind) runway legs) ∙ eqb-true (howMany (fieldOf f (h .ahead ++ h .here ∷ h .behind) runway legs) 13) 0 (p .1 .0)) in
       subst (λ (l : List Placed). After f l runway legs r) (sym w)
       (subst (λ (l : List Aircraft). After f (h .here ∷ h .behind) l legs r) (sym n)
       (after-7 f (h .here) (h .behind) legs (subst (λ (l : List Aircraft). Orderly f (h .here ∷ h .behind) l legs) n (subst (λ (l : List Placed). Orderly f l runway legs) w q)) r (h .named) k z)))
@@ -186,7 +191,8 @@ module _ (f : Side) (line : List Placed) (runway : List Aircraft) (legs : Legs) 
       let p = input.passed (besides F r 9) (tt, (tt, tt)) d in
       let a : h .ahead ≡ [] = nil-line (h .ahead) (sym (first-there f (h .ahead) (h .here) (h .behind) runway legs (q .different)) ∙ ap (isFirst (F .sequence)) (sym (h .named)) ∙ p .1 .0) in
       let w : h .ahead ++ h .here ∷ h .behind ≡ h .here ∷ h .behind = ap (λ (l : List Placed). l ++ h .here ∷ h .behind) a in
-      subst (λ (l : List Placed). After f l runway legs r) (sym w) (after-9 f (h .here) (h .behind) runway legs (subst (λ (l : List Placed). Orderly f l runway legs) w q) r (h .named) k z (h .owned-by)))
+      subst (λ (l : List Placed). After f l runway legs r) (sym w)
+      (after-9 f (h .here) (h .behind) runway legs (subst (λ (l : List Placed). Orderly f l runway legs) w q) r (h .named) k z (h .owned-by)))
 
   -- kind 10
   pub ten : r .kind ≡ 10 → firstRefused (headChecks 10 (placeBefore G r) (owned G r) ++ []) ≡ 0 → After f line runway legs r

@@ -42,7 +42,7 @@ use Rattle.field.proofs.Arrival.{into-arrived}
 use Rattle.moves.proofs.Moves.{into, same-numbers}
 use Rattle.moves.proofs.EnterAbove.{enters-empty, enters-occupied, lowered, lowered-is, lowered-orderly, after-above}
 use Rattle.moves.proofs.AtEnds.{after-entry, after-12}
-use Rattle.moves.proofs.Accepted.{three, four, five, six, seven, eight, nine, ten, eleven}
+use Rattle.moves.proofs.EachMove.{three, four, five, six, seven, eight, nine, ten, eleven}
 
 -- ---- a side of a request
 side-known : (n : ℕ) → 1 ≤ n → n ≤ 2 → (s : Side) × (n ≡ num s)
@@ -63,7 +63,9 @@ module _ (f : Side) (line : List Placed) (runway : List Aircraft) (legs : Legs) 
       elim (decided (eqb (x .number) (r .number))) [
         | inl b ↦
             let n : r .number ≡ x .number = sym (eqb-true (x .number) (r .number) b) in
-            let p : placeOf F (r .number) ≡ at 13 1 = ap (λ (l : List Aircraft). placeOf (fieldOf f line l legs) (r .number)) e ∙ ap (placeOf (fieldOf f line (x ∷ []) legs)) n ∙ located-runway f line x legs (ap (λ (m : ℕ). isIn m (numbersOf line)) (sym n) ∙ d) in
+            let p : placeOf F (r .number) ≡ at 13 1 =
+            ap (λ (l : List Aircraft). placeOf (fieldOf f line l legs) (r .number)) e ∙ ap (placeOf (fieldOf f line (x ∷ []) legs)) n
+            ∙ located-runway f line x legs (ap (λ (m : ℕ). isIn m (numbersOf line)) (sym n) ∙ d) in
             absurd (false≢true (ap (λ (q : Place). eqb (q .zone) 0) (sym p) ∙ t))
         | inr b ↦ ap (λ (c : Bool). c || false) b
       ]
@@ -75,7 +77,10 @@ module _ (f : Side) (line : List Placed) (runway : List Aircraft) (legs : Legs) 
         | inl i ↦
             let q = subst (λ (l : List Placed). Orderly f l runway legs) (i .whole) o in
             let u = zone-in f (i .ahead) (i .here) (i .behind) runway legs q in
-            let p = ap (λ (l : List Placed). placeOf (fieldOf f l runway legs) (r .number) .zone) (i .whole) ∙ ap (λ (n : ℕ). placeOf (fieldOf f (i .ahead ++ i .here ∷ i .behind) runway legs) n .zone) (i .named) ∙ ap (λ (x : Place). x .zone) (located f (i .ahead) (i .here) (i .behind) runway legs (q .different) u) in
+            let p =
+            ap (λ (l : List Placed). placeOf (fieldOf f l runway legs) (r .number) .zone) (i .whole)
+            ∙ ap (λ (n : ℕ). placeOf (fieldOf f (i .ahead ++ i .here ∷ i .behind) runway legs) n .zone) (i .named)
+            ∙ ap (λ (x : Place). x .zone) (located f (i .ahead) (i .here) (i .behind) runway legs (q .different) u) in
             let z = eqb-true (zoneBefore F r) 0 t in
             absurd (let l = leb→le 1 (i .here .zone) (and-l (leb 1 (i .here .zone)) (leb (i .here .zone) 12) u) in omega arith)
         | inr d ↦ absent-both (r .number) (numbersOf line) (numbers runway) d (not-on runway refl (o .one-landed) t d)
@@ -103,21 +108,26 @@ module _ (f : Side) (line : List Placed) (runway : List Aircraft) (legs : Legs) 
       may-come =
           let p = needs-met in
           let t16 : ltb (potential f zs (num s)) 2 ≡ true = ap (λ (n : ℕ). ltb n 2) (sym (potential-is f line runway legs (o .alternates) (num s)) ∙ ap (potentialOf F) (sym side)) ∙ p .1 .0 in
-          let t17 : eqb (total (countFix f zs (num s)) approach) 0 ≡ true = sym (Bool·not-not (eqb (total (countFix f zs (num s)) approach) 0)) ∙ ap not (sym (approach-holds f line runway legs (o .alternates) (num s)) ∙ ap (approachHolds F) (sym side)) ∙ p .1 .1 .0 in
+          let t17 : eqb (total (countFix f zs (num s)) approach) 0 ≡ true =
+          sym (Bool·not-not (eqb (total (countFix f zs (num s)) approach) 0))
+          ∙ ap not (sym (approach-holds f line runway legs (o .alternates) (num s)) ∙ ap (approachHolds F) (sym side)) ∙ p .1 .1 .0 in
           let a = ltb (potential f zs (num s)) 2 in
           let b = eqb (total (countFix f zs (num s)) approach) 0 in
           let m = free zs (missed (num s)) in
-          and-i (a && b && m) (free zs (lateral (num s))) (and-i (a && b) m (and-i a b (pass t16) (pass t17)) (empty-zone missed (v .missed-in) (p .1 .1 .1 .0))) (empty-zone lateral (v .lateral-in) (p .1 .1 .1 .1 .0))
+          and-i (a && b && m) (free zs (lateral (num s))) (and-i (a && b) m (and-i a b (pass t16) (pass t17)) (empty-zone missed (v .missed-in) (p .1 .1 .1 .0)))
+          (empty-zone lateral (v .lateral-in) (p .1 .1 .1 .1 .0))
 
       empty-there : (l : List Placed) → T (free (zonesIn l) (at3000 (num s))) → isEmpty (fieldOf f l runway legs) (at3000 (r .side)) ≡ true
       empty-there l t = ap (λ (n : ℕ). isEmpty (fieldOf f l runway legs) (at3000 n)) side ∙ ap (λ (n : ℕ). eqb n 0) (how-many f l runway legs (at3000 (num s)) (v .high-in)) ∙ passed t
 
       -- into an empty 3000, of a line with the same numbers
-      into-empty : (l : List Placed) → Orderly f l runway legs → numbersOf line ≡ numbersOf l → T (mayEnter f (zonesIn l) (num s)) → isEmpty (fieldOf f l runway legs) (at3000 (r .side)) ≡ true → After f l runway legs r
+      into-empty : (l : List Placed) → Orderly f l runway legs → numbersOf line ≡ numbersOf l → T (mayEnter f (zonesIn l) (num s))
+          → isEmpty (fieldOf f l runway legs) (at3000 (r .side)) ≡ true → After f l runway legs r
       into-empty l q ns may e =
           after-entry s f l runway legs q r (at3000 (num s)) (v .high-in) (v .high-waits) side (subst (λ (j : ℕ). T (isEntry j)) (sym k) tt)
           (enters-empty (fieldOf f l runway legs) r k e ∙ ap (λ (n : ℕ). entered (fieldOf f l runway legs) r (at3000 n)) side)
-          (enter f s (zonesIn l) (q .okay-line) may) (known .number) (subst (λ (m : List ℕ). isIn (r .number) (m ++ numbers runway) ≡ false) ns (new-number (needs-met .0))) (record { least = known .speed-low; most = known .speed-high }) (known .desk) (λ u. let n : 12 ≡ 1 = sym u ∙ k in omega arith) (subst (λ (j : ℕ). T (not (eqb j 8 || eqb j 9))) (sym k) tt)
+          (enter f s (zonesIn l) (q .okay-line) may) (known .number) (subst (λ (m : List ℕ). isIn (r .number) (m ++ numbers runway) ≡ false) ns (new-number (needs-met .0)))
+          (record { least = known .speed-low; most = known .speed-high }) (known .desk) (λ u. let n : 12 ≡ 1 = sym u ∙ k in omega arith) (subst (λ (j : ℕ). T (not (eqb j 8 || eqb j 9))) (sym k) tt)
 
       -- beside one at 3000, with nobody at 2000
       beside : isEmpty F (at3000 (r .side)) ≡ false → Split (at3000 (num s)) line → After f line runway legs r
@@ -129,18 +139,25 @@ module _ (f : Side) (line : List Placed) (runway : List Aircraft) (legs : Legs) 
           let zones : zs ≡ zonesIn a ++ g .zone ∷ zonesIn b = ap zonesIn (d .whole) ∙ zones-split a g b in
           let low = subst (λ (l : List ℕ). T (free l (at2000 (num s)))) zones (empty-zone at2000 (v .low-in) (second-holds e (needs-met .1 .1 .1 .1 .1 .0))) in
           let heads = subst (λ (z : ℕ). T (free (zonesIn a) z)) (sym (d .at-zone)) (d .none-ahead) in
-          let may = subst (λ (z : ℕ). T (within 1 2 z && free (zonesIn a ++ g .zone ∷ zonesIn b) (at2000 z))) (sym (d .at-zone)) (and-i (within 1 2 (num s)) (free (zonesIn a ++ g .zone ∷ zonesIn b) (at2000 (num s))) (v .high) low) in
+          let may =
+          subst (λ (z : ℕ). T (within 1 2 z && free (zonesIn a ++ g .zone ∷ zonesIn b) (at2000 z))) (sym (d .at-zone))
+          (and-i (within 1 2 (num s)) (free (zonesIn a ++ g .zone ∷ zonesIn b) (at2000 (num s))) (v .high) low) in
           let come = subst (λ (z : ℕ). T (mayComeIn f (zonesIn a ++ g .zone ∷ zonesIn b) z)) (sym (d .at-zone)) (subst (λ (l : List ℕ). T (mayComeIn f l (num s))) zones may-come) in
           let l = lowered f a g b runway legs q heads may in
-          let enters = subst (λ (z : ℕ). T (mayEnter f (zonesIn l) z)) (d .at-zone) (subst (λ (ys : List ℕ). T (mayEnter f ys (g .zone))) (sym (zones-split a (into legs (at2000 (g .zone)) g) b)) (enter-above f (zonesIn a) (g .zone) (zonesIn b) (okay-split f a g b (q .okay-line)) may come)) in
+          let enters =
+          subst (λ (z : ℕ). T (mayEnter f (zonesIn l) z)) (d .at-zone)
+          (subst (λ (ys : List ℕ). T (mayEnter f ys (g .zone))) (sym (zones-split a (into legs (at2000 (g .zone)) g) b))
+          (enter-above f (zonesIn a) (g .zone) (zonesIn b) (okay-split f a g b (q .okay-line)) may come)) in
           let free-above = empty-there l (and-r (mayComeIn f (zonesIn l) (num s)) (free (zonesIn l) (at3000 (num s))) enters) in
           let F₀ = fieldOf f (a ++ g ∷ b) runway legs in
           subst (λ (m : List Placed). After f m runway legs r) (sym (d .whole))
-          (after-above f a g b runway legs q heads may r k (other-than d) (ap isFlyingZone (d .at-zone) ∙ failed {b = isFlyingZone (at3000 (num s))} (v .high-waits)) (ap (λ (z : ℕ). isFlyingZone (at2000 z)) (d .at-zone) ∙ failed {b = isFlyingZone (at2000 (num s))} (v .low-waits))
+          (after-above f a g b runway legs q heads may r k (other-than d) (ap isFlyingZone (d .at-zone) ∙ failed {b = isFlyingZone (at3000 (num s))} (v .high-waits))
+          (ap (λ (z : ℕ). isFlyingZone (at2000 z)) (d .at-zone) ∙ failed {b = isFlyingZone (at2000 (num s))} (v .low-waits))
           (enters-occupied F₀ r k (subst (λ (m : List Placed). isEmpty (fieldOf f m runway legs) (at3000 (r .side)) ≡ false) (d .whole) e)
           ∙ ap (λ (h : Field). entered h r (at3000 (r .side))) (ap (descended F₀) (side ∙ sym (d .at-zone)) ∙ lowered-is f a g b runway legs q heads may)
           ∙ sym (enters-empty (fieldOf f l runway legs) r k free-above))
-          (into-empty l (lowered-orderly f a g b runway legs q heads may) (ap numbersOf (d .whole) ∙ same-numbers a g (into legs (at2000 (g .zone)) g) b (sym (into-arrived legs (at2000 (g .zone)) (g .aircraft) .number))) enters free-above))
+          (into-empty l (lowered-orderly f a g b runway legs q heads may)
+          (ap numbersOf (d .whole) ∙ same-numbers a g (into legs (at2000 (g .zone)) g) b (sym (into-arrived legs (at2000 (g .zone)) (g .aircraft) .number))) enters free-above))
         where
           -- the one at 3000 has another number than the one that enters
           other-than : (d : Split (at3000 (num s)) line) → d .here .aircraft .number ≡ r .number → ⊥
@@ -163,13 +180,15 @@ module _ (f : Side) (line : List Placed) (runway : List Aircraft) (legs : Legs) 
           | inr e ↦ elim (first-in (at3000 (num s)) line) [ inl t ↦ absurd (true≢false (sym (empty-there k known c v line t) ∙ e)) | inr d ↦ beside k known c v e d ]
         ]
 
-    pub entry-2 : r .kind ≡ 2 → EntryKnown r → firstRefused (absentChecks (placeBefore F r) ++ lateralNeeds F (r .side)) ≡ 0 → T (within 1 12 (lateral (num s))) → T (not (isFlyingZone (lateral (num s)))) → After f line runway legs r
+    pub entry-2 : r .kind ≡ 2 → EntryKnown r → firstRefused (absentChecks (placeBefore F r) ++ lateralNeeds F (r .side)) ≡ 0 → T (within 1 12 (lateral (num s)))
+        → T (not (isFlyingZone (lateral (num s)))) → After f line runway legs r
     entry-2 k known c tl tf =
         let p = input.passed (absentChecks (placeBefore F r) ++ lateralNeeds F (r .side)) (tt, (tt, tt)) c in
         let t16 : eqb (potential f zs (num s)) 0 ≡ true = ap (λ (n : ℕ). eqb n 0) (sym (potential-is f line runway legs (o .alternates) (num s)) ∙ ap (potentialOf F) (sym side)) ∙ p .1 .0 in
         after-entry s f line runway legs o r (lateral (num s)) tl tf side (subst (λ (j : ℕ). T (isEntry j)) (sym k) tt)
         (effect-at F r k ∙ ap (λ (n : ℕ). entered F r (lateral n)) side)
-        (enter-lateral f s zs (o .okay-line) (pass t16)) (known .number) (new-number (p .0)) (record { least = known .speed-low; most = known .speed-high }) (known .desk) (λ u. let n : 12 ≡ 2 = sym u ∙ k in omega arith) (subst (λ (j : ℕ). T (not (eqb j 8 || eqb j 9))) (sym k) tt)
+        (enter-lateral f s zs (o .okay-line) (pass t16)) (known .number) (new-number (p .0)) (record { least = known .speed-low; most = known .speed-high })
+        (known .desk) (λ u. let n : 12 ≡ 2 = sym u ∙ k in omega arith) (subst (λ (j : ℕ). T (not (eqb j 8 || eqb j 9))) (sym k) tt)
 
   one-side : (s : Side) → r .side ≡ num s → r .kind ≡ 1 → EntryKnown r → firstRefused (absentChecks (placeBefore F r) ++ verticalNeeds F (r .side)) ≡ 0 → After f line runway legs r
   unfolding isFlyingZone

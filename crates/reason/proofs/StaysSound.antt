@@ -45,8 +45,10 @@ module _ (f : Side) (line : List Placed) (runway : List Aircraft) (legs : Legs) 
   zones-places =
       every-zone (λ z. eqb (length (zoneOf F z .aircraft)) 4) everywhere tt
       (zone-split {P = λ z. T (eqb (length (zoneOf F z .aircraft)) 4)}
-      (subst (λ (q : Zone). T (eqb (length (q .aircraft)) 4)) (sym (zone-of-runway f line runway legs)) (pass (eq-eqb (length (zoneFor runway .aircraft)) 4 (four-places runway nobody (let a = o .one-landed in omega arith)))))
-      (λ z t. subst (λ (q : Zone). T (eqb (length (q .aircraft)) 4)) (sym (zone-of-line f line runway legs z t)) (pass (eq-eqb (length (zoneFor (inside z line) .aircraft)) 4 (four-places (inside z line) nobody (le-trans (inside-le z line) four))))))
+      (subst (λ (q : Zone). T (eqb (length (q .aircraft)) 4)) (sym (zone-of-runway f line runway legs))
+      (pass (eq-eqb (length (zoneFor runway .aircraft)) 4 (four-places runway nobody (let a = o .one-landed in omega arith)))))
+      (λ z t. subst (λ (q : Zone). T (eqb (length (q .aircraft)) 4)) (sym (zone-of-line f line runway legs z t))
+      (pass (eq-eqb (length (zoneFor (inside z line) .aircraft)) 4 (four-places (inside z line) nobody (le-trans (inside-le z line) four))))))
 
   numbers-places : length (sequenceFor (numbersOf line) .numbers) ≡ 4
   numbers-places = four-places (numbersOf line) 0 (let a = length-numbers line in let b = four in omega arith)
