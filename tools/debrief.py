@@ -13,6 +13,7 @@ import signal
 import subprocess
 import sys
 
+sys.dont_write_bytecode = True  # nothing is written beside the tools
 import sessions
 
 PROGRAMS = pathlib.Path(__file__).resolve().parent.parent / "target/bin"
@@ -48,9 +49,12 @@ def practice_file(data):
     """The bytes of a practice file, from those or from its readable form."""
     if not data:
         raise Refused("the input is empty")
-    text = data.decode("ascii", "replace")
-    if not all(line.startswith("#") or re.fullmatch(r"[0-9 \t]*", line) for line in text.splitlines()):
+    if data.startswith(b"SCAP") or not re.fullmatch(rb"[\t\n\r -~]*", data):
         return data
+    text = data.decode("ascii")
+    for index, line in enumerate(text.splitlines(), 1):
+        if not (line.startswith("#") or re.fullmatch(r"[0-9 \t]*", line)):
+            raise Refused(f"the readable form: line {index} is not numbers: {line[:60]}")
     try:
         return sessions.text_to_bytes(text)
     except (SystemExit, ValueError) as error:
