@@ -19,7 +19,7 @@ ghost use Rattle.field.specs.Boxes.{emptyField};
 ghost use Rattle.text.specs.Buffer.{Put};
 ghost use Rattle.positions.specs.Positions.{linesFrom, positionsOf};
 
-// The caller's buffer. A line has 169 bytes at the most where five are present, as many as the bounds allow, so that 4,096 lines fit.
+// The caller's buffer. A line has 168 bytes at the most where five are present, as many as the bounds allow, so that 4,096 lines fit.
 pub type PositionsBuffer = [u8; 1048576];
 
 // A line for each request of a body, played from the empty field, from the buffer's first byte on.
