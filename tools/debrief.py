@@ -239,7 +239,8 @@ def closing(steps, counts):
     """The counts, and a row for each aircraft."""
     visits, clock = followed(steps)
     refused = sum(1 for _, a, _ in steps if a.number)
-    yield ""
+    if steps:
+        yield ""
     yield f"{counted(len(steps), 'request')}, {refused} refused, {minutes(clock)}"
     yield "entries {}, taxis {}, exits {}, misses {}, present {}".format(*counts)
     if visits:
