@@ -1,7 +1,7 @@
 -- `positions::put_body` meets its contract. The loop's invariant is `Fields`: the lines from request i on, from the field reached, are left to put. Assumes nothing.
 use mathlib.Core.Path.{_≡_, sym, _∙_, subst}
 use mathlib.Core.List.{List}
-use Prim.Native.Nat.{ℕ, _-_, _<_}
+use Prim.Native.Nat.{_-_, _<_}
 use native.Mathlib.Omega.{arith}
 use lib.ListN.{length}
 use denote.Ref.{now}

@@ -1,6 +1,6 @@
 -- `positions::lines::put_field` meets its contract: the index, the next fix, the sequence, everyone by zone, and a newline. Assumes nothing.
 use borrow.Author.Needs.{needs}
-use Rattle.text.proofs.Texts.{put-more, put-same}
+use Rattle.text.proofs.Texts.{put-more}
 use Rattle.positions.specs.Positions.{fieldLine}
 use Rattle.positions.proofs.lines.put_field.Statement.{statement}
 use Rattle.positions.proofs.lines.put_field.Tie as tie

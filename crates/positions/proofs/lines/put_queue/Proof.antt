@@ -1,5 +1,5 @@
 -- `positions::lines::put_queue` meets its contract. The loop's invariant: those from place i on are left to put. Assumes nothing.
-use Prim.Native.Nat.{ℕ, _-_}
+use Prim.Native.Nat.{_-_}
 use native.Mathlib.Omega.{arith}
 use borrow.Author.Needs.{needs}
 use Rattle.field.specs.Boxes.{queueLength}

@@ -1,5 +1,5 @@
 -- `positions::lines::put_zones` meets its contract. The loop's invariant: those in the zones from this one on are left to put. Assumes nothing.
-use Prim.Native.Nat.{ℕ, _-_}
+use Prim.Native.Nat.{_-_}
 use native.Mathlib.Omega.{arith}
 use denote.Ref.{now}
 use borrow.Author.Needs.{needs}
