@@ -18,7 +18,7 @@ use Rattle.leg.specs.declared.Progress.the-variants.{Waiting, Flying}
 use Rattle.field.proofs.Tests.{if-false}
 use Rattle.layout.specs.Read.{several, waiting, progressOf}
 use Rattle.layout.specs.Written.{bytesOfEach, progressBits}
-use Rattle.owners.specs.Owners.{Each}
+use Rattle.field.specs.Lists.{Each}
 use Rattle.layout.specs.Held.{MilesHeld, ProgressWith}
 
 -- ---- bytes at a place

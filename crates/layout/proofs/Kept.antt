@@ -34,7 +34,7 @@ use Rattle.rules.specs.Kinds.{zoneBefore, zoneAhead, headGone, tailPut, moved, 
 use Rattle.rules.specs.Step.{effectFor, effectOf, numberOf, stepOf}
 use Rattle.rules.proofs.Checks.{by-kind}
 use Rattle.rules.proofs.StepLaws.{field-accepted, field-refused}
-use Rattle.owners.specs.Owners.{Each}
+use Rattle.field.specs.Lists.{Each}
 use Rattle.owners.proofs.Lists.{each-drop, each-take, each-append, each-set, each-set-one, each-at, each-map}
 use Rattle.history.proofs.Moved.{moved-length}
 use Rattle.layout.specs.Held.{MilesHeld, ProgressWith, AircraftWith, ZoneWith, LegsWith, FieldWith}

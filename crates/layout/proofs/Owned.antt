@@ -24,7 +24,7 @@ use Rattle.field.specs.declared.Field.{Field}
 use Rattle.finder.specs.declared.Indexed.{Indexed}
 use Rattle.finder.proofs.Known.{index-known}
 use Rattle.history.specs.declared.History.{History}
-use Rattle.owners.specs.Owners.{Each}
+use Rattle.field.specs.Lists.{Each}
 use Rattle.layout.specs.Held.{MilesHeld, ProgressWith, AircraftWith, ZoneWith, LegsWith, FieldWith, IndexedWith, HistoryHeld}
 
 -- what each element of an array is known to have

@@ -15,7 +15,7 @@ use Rattle.finder.specs.declared.Indexed.{Indexed}
 use Rattle.history.specs.declared.History.{History}
 use Rattle.layout.specs.Read.{stateSize}
 use Rattle.layout.specs.Written.{bytesOfEach, aircraftBytes, zoneBytes, sequenceBytes, legsBytes, fieldBytes, entryBytes, indexedBytes, historyBytes}
-use Rattle.owners.specs.Owners.{Each}
+use Rattle.field.specs.Lists.{Each}
 use Rattle.layout.specs.Held.{AircraftWith, ZoneWith, FieldWith, IndexedWith, HistoryWith}
 use Rattle.layout.proofs.Bytes.{each-size}
 

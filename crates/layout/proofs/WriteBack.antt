@@ -19,7 +19,7 @@ use Rattle.leg.specs.declared.Progress.the-variants.{Waiting, Flying}
 use Rattle.field.proofs.Tests.{if-true, if-false}
 use Rattle.layout.specs.Read.{several, waiting, progressOf, aircraftAt, zoneAt, sequenceAt, legsAt, fieldAt, entryAt, indexedAt, historyOf, stateSize}
 use Rattle.layout.specs.Written.{bytesOfEach, progressBits, aircraftBytes, zoneBytes, sequenceBytes, legsBytes, fieldBytes, entryBytes, indexedBytes, historyBytes}
-use Rattle.owners.specs.Owners.{Each}
+use Rattle.field.specs.Lists.{Each}
 use Rattle.layout.specs.Held.{NoNan, ProgressWith, AircraftWith, ZoneWith, LegsWith, FieldWith, IndexedWith, HistoryNoNan}
 use Rattle.layout.proofs.Sizes.{Any, any-each, aircraft-size, zone-size, sequence-size, zones-size, field-size, indexed-size, kept-size, state-size}
 use Rattle.layout.proofs.Bytes.{Holds, each-size}

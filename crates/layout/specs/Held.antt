@@ -12,7 +12,7 @@ use Rattle.field.specs.declared.Zone.{Zone}
 use Rattle.field.specs.declared.Legs.{Legs}
 use Rattle.field.specs.declared.Field.{Field}
 use Rattle.finder.specs.declared.Indexed.{Indexed}
-use Rattle.owners.specs.Owners.{Each}
+use Rattle.field.specs.Lists.{Each}
 use Rattle.history.specs.History.{mostKept}
 use Rattle.history.specs.declared.History.{History}
 
