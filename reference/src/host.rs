@@ -37,7 +37,7 @@ pub fn ask(bytes: &mut Bytes, request: &Request) -> (u16, Six) {
 
 fn asked(bytes: &mut Bytes, request: &Request) -> Result<Answer, Refusal> {
     request.check()?;
-    let (mut state, mut history) = judged(bytes).ok_or(Refusal::FieldBreaksBound)?;
+    let (mut state, mut history) = read(bytes).ok_or(Refusal::FieldBreaksBound)?;
     let answer = history.step(request)?;
     state.accepted(&history.field);
     *bytes = state.to_bytes();
@@ -56,7 +56,7 @@ fn taken_back(bytes: &mut Bytes, desk: u8) -> Result<(), BackRefusal> {
     if !DESKS.contains(&desk) {
         return Err(BackRefusal::Desk);
     }
-    let (mut state, mut history) = judged(bytes).ok_or(BackRefusal::FieldBreaksBound)?;
+    let (mut state, mut history) = read(bytes).ok_or(BackRefusal::FieldBreaksBound)?;
     history.step_back(desk)?;
     state.taken_back();
     *bytes = state.to_bytes();
@@ -144,11 +144,16 @@ pub fn field(legs_64ths: [u16; 4], speed: u16, list: &[u8], bytes: &mut Bytes) -
     }
 }
 
-/// What the bytes hold, if it is within the bounds.
-fn judged(bytes: &Bytes) -> Option<(State, History)> {
+/// What the bytes hold, if a history can; its step and its step back judge it.
+fn read(bytes: &Bytes) -> Option<(State, History)> {
     let state = State::read(bytes);
     let history = state.history()?;
     Some((state, history))
+}
+
+/// The same, if it is within the bounds.
+fn judged(bytes: &Bytes) -> Option<(State, History)> {
+    read(bytes).filter(|(_, history)| history.within_bounds())
 }
 
 /// Plays what the button proposes on a field within the bounds, which is the state's; none where nobody is on it.

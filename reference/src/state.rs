@@ -293,7 +293,8 @@ impl State {
         bytes.try_into().expect("as many bytes as the layout has")
     }
 
-    /// The field with the kept ones that count, within the bounds; the empty field stands in the places past the count.
+    /// The field with the kept ones that count; the empty field stands in the places past the count. None where more than eight count, or
+    /// where one breaks a bound that no field with its index can. The other bounds are not asked.
     pub fn history(&self) -> Option<History> {
         let (counted, _) = split(&self.kept, self.count)?;
         let mut history = History::new(self.field.indexed()?);
@@ -301,7 +302,7 @@ impl State {
             *place = kept.indexed()?;
         }
         history.count = counted.len();
-        history.within_bounds().then_some(history)
+        Some(history)
     }
 
     /// An accepted request leads to a field, and the one before it is kept; of eight the oldest is dropped.

@@ -34,7 +34,9 @@ fn put(state: &mut Bytes, at: usize, bytes: &[u8]) {
 }
 
 fn history(state: &Bytes) -> History {
-    State::read(state).history().expect("within the bounds")
+    let history = State::read(state).history().expect("a history");
+    assert!(history.within_bounds());
+    history
 }
 
 /// A field of the start by the offsets of the header alone.
