@@ -138,7 +138,20 @@ pub fn any_bytes(dice: &mut Dice) -> Bytes {
     std::array::from_fn(|_| if any { dice.byte() } else { dice.pick(&few) })
 }
 
-/// One number of a state changed: what it is, where it stands, and its new bytes.
+/// A state with nobody on it or some, and any bytes in the places past its count.
+pub fn past_the_count(dice: &mut Dice, fields: &[Field]) -> Bytes {
+    let mut history = match dice.once_in(2) {
+        true => History::empty(Legs::from_64ths([64; 4])),
+        false => History::new(drawn(dice, fields)),
+    };
+    history.count = dice.between(0, KEPT - 1);
+    let mut state = State::new(&history).to_bytes();
+    let past = FIELD * (1 + history.count);
+    state[past..COUNT_AT].copy_from_slice(&any_bytes(dice)[past..COUNT_AT]);
+    state
+}
+
+/// One number of a state changed.
 pub fn damage(dice: &mut Dice, state: &mut Bytes) {
     let field = dice.pick(&[0, 0, 0, 1, 2, 3, 4, 5, 6, 7, 8]) * FIELD;
     let zone = field + dice.below(13) * QUEUE;

@@ -4,7 +4,8 @@
 use crate::dice::Dice;
 use crate::difference::fewer;
 use crate::host_calls::{
-    any_bytes, call, damage, field_of, flip, some_within_bounds, start, stuck, within_bounds, COUNT_AT,
+    any_bytes, call, damage, field_of, flip, past_the_count, some_within_bounds, start, stuck, within_bounds,
+    COUNT_AT,
 };
 use crate::host_library::{by_reference, Call, Lender, Reply};
 use crate::host_table::HostTable;
@@ -132,6 +133,17 @@ pub fn all(hosted: &mut Hosted, dice: &mut Dice, lists: usize) -> Result<(), Str
             let habits = Habits::drawn(dice);
             (0..A_FIELD).try_for_each(|_| {
                 let call = call(dice, &habits, &field_of(&hosted.beside));
+                hosted.call(&call).map(|_| ())
+            })
+        })
+    })?;
+    part(hosted, "any bytes past the count", |hosted| {
+        (0..lists).try_for_each(|_| {
+            hosted.lend(&past_the_count(dice, &fields));
+            let habits = Habits::drawn(dice);
+            (0..A_FIELD).try_for_each(|_| {
+                let drawn = call(dice, &habits, &field_of(&hosted.beside));
+                let call = dice.pick(&[&drawn, &drawn, &Call::Press, &Call::Back(1)]).clone();
                 hosted.call(&call).map(|_| ())
             })
         })
