@@ -11,6 +11,7 @@ use crate::host_library::{by_reference, Call, Lender, Reply};
 use crate::host_table::HostTable;
 use crate::sessions::Habits;
 use reference::state::{Bytes, FIELD, STATE};
+use reference::Field;
 
 /// Calls of one list.
 const LIST: usize = 60;
@@ -128,25 +129,10 @@ pub fn all(hosted: &mut Hosted, dice: &mut Dice, lists: usize) -> Result<(), Str
     part(hosted, "the button where nobody can move", |hosted| hosted.calls(&[stuck(), Call::HoldDown]))?;
     let fields = some_within_bounds();
     part(hosted, "fields within the bounds, reached or not", |hosted| {
-        (0..4 * lists).try_for_each(|_| {
-            hosted.lend(&within_bounds(dice, &fields));
-            let habits = Habits::drawn(dice);
-            (0..A_FIELD).try_for_each(|_| {
-                let call = call(dice, &habits, &field_of(&hosted.beside));
-                hosted.call(&call).map(|_| ())
-            })
-        })
+        (0..4 * lists).try_for_each(|_| some_calls(hosted, dice, within_bounds, &fields))
     })?;
     part(hosted, "any bytes past the count", |hosted| {
-        (0..lists).try_for_each(|_| {
-            hosted.lend(&past_the_count(dice, &fields));
-            let habits = Habits::drawn(dice);
-            (0..A_FIELD).try_for_each(|_| {
-                let drawn = call(dice, &habits, &field_of(&hosted.beside));
-                let call = dice.pick(&[&drawn, &drawn, &Call::Press, &Call::Back(1)]).clone();
-                hosted.call(&call).map(|_| ())
-            })
-        })
+        (0..lists).try_for_each(|_| some_calls(hosted, dice, past_the_count, &fields))
     })?;
     part(hosted, "any bytes as a state", |hosted| {
         (0..lists).try_for_each(|_| {
@@ -158,38 +144,57 @@ pub fn all(hosted: &mut Hosted, dice: &mut Dice, lists: usize) -> Result<(), Str
     part(hosted, "states with one number changed", |hosted| {
         (0..2 * lists).try_for_each(|_| changed(hosted, dice, &fields))
     })?;
-    let state = reached(hosted, dice, COUNTED)?;
     part(
         hosted,
-        "a state with each bit flipped of the field, of a kept one, of one past the count and of the count",
-        |hosted| {
-            let habits = Habits::drawn(dice);
-            let field = field_of(&state);
-            let fields = [0, 1 + dice.below(COUNTED.into()), 1 + usize::from(COUNTED)];
-            let bits = fields.into_iter().flat_map(|at| 8 * FIELD * at..8 * FIELD * (at + 1));
-            bits.chain(8 * COUNT_AT..8 * STATE).try_for_each(|bit| {
-                let mut flipped = state;
-                flip(&mut flipped, bit);
-                let call = loop {
-                    match call(dice, &habits, &field) {
-                        Call::HoldDown | Call::Start(_) | Call::Field(..) => {}
-                        call => break call,
-                    }
-                };
-                hosted.damaged(&flipped, &call)
-            })
-        },
+        "one bit flipped of a state's field, a kept one, one past the count, or the count",
+        |hosted| flipped(hosted, dice),
     )
 }
 
-/// States that are reached or not, each damaged eight times by itself.
-fn changed(hosted: &mut Hosted, dice: &mut Dice, fields: &[reference::Field]) -> Result<(), String> {
+/// A few calls on a state; more of them are presses and steps back than elsewhere.
+fn some_calls(
+    hosted: &mut Hosted,
+    dice: &mut Dice,
+    state: impl Fn(&mut Dice, &[Field]) -> Bytes,
+    fields: &[Field],
+) -> Result<(), String> {
+    hosted.lend(&state(dice, fields));
+    let habits = Habits::drawn(dice);
+    (0..A_FIELD).try_for_each(|_| {
+        let drawn = call(dice, &habits, &field_of(&hosted.beside));
+        let call = dice.pick(&[&drawn, &drawn, &drawn, &drawn, &Call::Press, &Call::Back(1)]).clone();
+        hosted.call(&call).map(|_| ())
+    })
+}
+
+/// A state, damaged eight times by itself.
+fn changed(hosted: &mut Hosted, dice: &mut Dice, fields: &[Field]) -> Result<(), String> {
     let state = within_bounds(dice, fields);
     let (habits, field) = (Habits::drawn(dice), field_of(&state));
     (0..8).try_for_each(|_| {
         let mut other = state;
         damage(dice, &mut other);
         let call = call(dice, &habits, &field);
+        hosted.damaged(&other, &call)
+    })
+}
+
+/// Each bit of a state's field, of a kept one that counts, of the first past the count, and of the count; with calls that ask for the state.
+fn flipped(hosted: &mut Hosted, dice: &mut Dice) -> Result<(), String> {
+    let state = reached(hosted, dice, COUNTED)?;
+    let (habits, field) = (Habits::drawn(dice), field_of(&state));
+    let counted = usize::from(COUNTED);
+    let fields = [0, dice.between(1, counted), counted + 1];
+    let bits = fields.into_iter().flat_map(|at| 8 * FIELD * at..8 * FIELD * (at + 1));
+    bits.chain(8 * COUNT_AT..8 * STATE).try_for_each(|bit| {
+        let mut other = state;
+        flip(&mut other, bit);
+        let call = loop {
+            match call(dice, &habits, &field) {
+                Call::HoldDown | Call::Start(_) | Call::Field(..) => {}
+                call => break call,
+            }
+        };
         hosted.damaged(&other, &call)
     })
 }

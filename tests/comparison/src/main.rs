@@ -5,8 +5,8 @@
 //! fields of such lists, and answer the calls of a host program: comparison
 //! [SEED [COUNT]], COUNT random sessions, as many fields, a tenth as many random
 //! binders, a tenth as many for the button, a quarter for the spacing, for the
-//! list, and to be written, a twentieth as many lists of calls. The last line
-//! says how many of them were compared, and the verdict.
+//! list, and to be written, a tenth as many lists of calls. The last line says
+//! how many of them were compared, and the verdict.
 
 use comparison::dice::Dice;
 use comparison::difference::{
@@ -39,7 +39,7 @@ const A_WRITTEN: usize = 4;
 /// Random sessions for each after which the list is asked for.
 const A_LISTED: usize = 4;
 /// Random sessions for each list of calls.
-const A_HOSTED: usize = 20;
+const A_HOSTED: usize = 10;
 /// Damaged files that play for each after which the button is held down.
 const A_DAMAGED: usize = 16;
 
