@@ -14,7 +14,8 @@
 //! path, [`index`] a field with an index beside it, [`writer`] writes a
 //! practice file, [`classroom`] converts a field to a list and back,
 //! [`history`] keeps the last fields and takes requests back, [`desks`] renames
-//! what is the other desk's.
+//! what is the other desk's, [`host`] has the calls of a host program, and
+//! [`mod@state`] the bytes that it lends.
 
 pub mod binder;
 pub mod button;
@@ -24,10 +25,12 @@ pub mod explore;
 pub mod field;
 pub mod file;
 pub mod history;
+pub mod host;
 pub mod index;
 pub mod refusal;
 pub mod request;
 pub mod spacing;
+pub mod state;
 pub mod writer;
 
 pub use binder::Week;
