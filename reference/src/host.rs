@@ -63,18 +63,18 @@ fn taken_back(bytes: &mut Bytes, desk: u8) -> Result<(), BackRefusal> {
     Ok(())
 }
 
-/// One press of the button: desk, kind, side, number and amount of what it played, and the answer; zeros where it played nothing.
+/// One press of the button: desk, kind, side, number and amount of what it played, and the answer; zeros where it played nothing, and then
+/// every byte stays.
 pub fn press(bytes: &mut Bytes) -> (u16, [usize; 5], Six) {
     let Some((mut state, history)) = judged(bytes) else {
         return (10, [0; 5], six(10, Answer::ZEROS));
     };
     let mut field = history.field;
-    let pressed = pressed(&mut state, &mut field);
+    let Some((request, answer)) = pressed(&mut state, &mut field) else {
+        return (0, [0; 5], [0; 6]);
+    };
     *bytes = state.to_bytes();
-    match pressed {
-        Some((request, answer)) => (0, five(request), six(0, answer)),
-        None => (0, [0; 5], [0; 6]),
-    }
+    (0, five(request), six(0, answer))
 }
 
 /// The button held down: how many requests it played, and 1 where somebody is still present.

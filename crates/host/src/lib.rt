@@ -90,9 +90,9 @@ pub extern "C" fn baguymo_host_back(state: &mut State, desk: u8) -> u16
     ensures { λ _. ⌜ now (state .exit) ≡ calledBytes (now (state .entry)) (back desk) ⌝ }
 {
     let bytes: &mut [u8] = state;
-    let s = step_back(history_of(bytes), desk);
-    let a = s.answer;
-    store_after(bytes, a.number, s.after);
+    let stepped = step_back(history_of(bytes), desk);
+    let a = stepped.answer;
+    store_after(bytes, a.number, stepped.after);
     a.number
 }
 
