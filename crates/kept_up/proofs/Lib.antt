@@ -1,3 +1,4 @@
 pub mod Entries
 pub mod Moved
 pub mod Told
+pub mod Leads
