@@ -5,12 +5,11 @@ use mathlib.Core.Bool.{Bool, true, false, cond, _&&_}
 use mathlib.Core.List.{List, [], _∷_, map}
 use Prim.Native.Nat.{ℕ, _-_, _≤_}
 use native.Mathlib.Omega.{arith}
-use borrow.Author.Tests.{eqb-true, eqb-false, ne-eqb, eq-eqb}
+use borrow.Author.Tests.{eqb-true, ne-eqb}
 use lib.Dec.{eqb, ltb}
 use Rattle.field.proofs.Parts.{and-cut}
-use Rattle.field.proofs.Tests.{if-true, if-false, either-way, decided, same}
+use Rattle.field.proofs.Tests.{if-true, if-false, either-way}
 use Rattle.questions.specs.declared.Place.{Place}
-use Rattle.questions.specs.Find.{nowhere}
 use Rattle.finder.specs.declared.Entry.{Entry}
 use Rattle.finder.specs.Finder.{unused, Unused, InOrder, foundAmong}
 use Rattle.finder.proofs.Determined.{HasZone, HaveZones}

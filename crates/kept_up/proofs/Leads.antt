@@ -1,5 +1,4 @@
 -- The zone that a kind and a zone tell is one of the thirteen. Assumes nothing.
-use mathlib.Core.Path.{_≡_}
 use Prim.Native.Nat.{ℕ, _+_}
 use native.Mathlib.Omega.{arith}
 use Prim.Native.Nat.{_%_}

@@ -1,12 +1,12 @@
 -- Look-up on a field on which the head of a zone has moved to the tail of another. Assumes nothing.
-use mathlib.Core.Path.{_≡_, refl, sym, ap, _∙_, subst}
+use mathlib.Core.Path.{_≡_, sym, ap, _∙_, subst}
 use mathlib.Core.Logic.{_≢_, _⊎_, inl, inr}
-use mathlib.Core.Bool.{Bool, true, false, cond, _&&_, true≢false}
+use mathlib.Core.Bool.{true, false}
 use mathlib.Core.List.{List, [], _∷_, _++_}
-use Prim.Native.Nat.{ℕ, zero, suc, _+_, _-_, _≤_, _<_}
+use Prim.Native.Nat.{ℕ, zero, suc, _+_, _≤_, _<_}
 use native.Mathlib.Omega.{arith}
 use borrow.Author.Tests.{eqb-true, eqb-false, ne-eqb, lt-ltb, ltb-true, ltb-false}
-use lib.Dec.{T, eqb, leb, ltb}
+use lib.Dec.{T, eqb, ltb}
 use lib.ListN.{length, getD, length-append, List·getD-append}
 use lib.Seq.{getD-append-seam}
 use Rattle.leg.specs.Ticks.{Between}
@@ -21,7 +21,7 @@ use Rattle.field.proofs.Parts.{and-then, and-cut}
 use Rattle.field.proofs.Tests.{decided, passed, if-true, if-false, same}
 use Rattle.questions.specs.declared.Place.{Place}
 use Rattle.questions.specs.Counts.{howMany}
-use Rattle.questions.specs.Find.{nowhere, aircraftAt, placeOf, numbersIn}
+use Rattle.questions.specs.Find.{aircraftAt, placeOf, numbersIn}
 use Rattle.questions.proofs.FindLaws.{at, Found, found-there, absent-nowhere, own-place}
 use Rattle.kept_up.proofs.Entries.{movedUp}
 

@@ -3,7 +3,7 @@ use mathlib.Core.Path.{_≡_, refl, sym, ap, _∙_, subst, subst⁻¹}
 use mathlib.Core.Logic.{_≢_, _⊎_, inl, inr}
 use mathlib.Core.Bool.{Bool, true, false, cond, not, _&&_, true≢false}
 use mathlib.Core.List.{List, [], _∷_, _++_, map}
-use Prim.Native.Nat.{ℕ, suc, _+_, _≤_, _<_}
+use Prim.Native.Nat.{ℕ, _+_, _≤_, _<_}
 use native.Mathlib.Omega.{arith}
 use native.Mathlib.Numerals.{add-one}
 use borrow.Author.Tests.{eqb-true, eqb-false, eq-eqb, ne-eqb}
@@ -29,7 +29,6 @@ use Rattle.bounds.specs.Bounds.{boundA, withinBounds}
 use Rattle.laws.proofs.EditLaws.{Shaped, shaped-with-zone, shaped-without-head, queue-taken, queue-put, queue-kept}
 use Rattle.laws.proofs.BoundLaws.{within-each, numbers-different}
 use Rattle.finder.specs.declared.Entry.{Entry}
-use Rattle.finder.specs.declared.Index.{Index}
 use Rattle.finder.specs.Finder.{indexOf, foundAmong, foundIn}
 use Rattle.finder.proofs.Ordered.{index-in-order}
 use Rattle.finder.proofs.Theorems.{found-as-looked}

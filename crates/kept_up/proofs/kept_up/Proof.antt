@@ -7,7 +7,6 @@ use borrow.Author.Needs.{needs}
 use lib.ListN.{length, take, drop, length-map}
 use Rattle.field.proofs.Arrays.{filled-at, filled-more, filled-all, getD-map}
 use Rattle.finder.specs.declared.Entry.{Entry}
-use Rattle.finder.specs.declared.Index.{Index}
 use Rattle.finder.specs.Finder.{unused}
 use Rattle.finder.proofs.Known.{index-known}
 use Rattle.kept_up.specs.KeptUp.{movedEntry, keptUp}

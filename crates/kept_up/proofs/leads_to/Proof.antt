@@ -1,5 +1,5 @@
 -- `kept_up::leads_to` meets its contract: an arm for each kind. Assumes nothing.
-use mathlib.Core.Path.{refl, sym, ap, _∙_}
+use mathlib.Core.Path.{sym, ap, _∙_}
 use Prim.Native.Nat.{ℕ, _+_}
 use borrow.Author.Needs.{needs}
 use borrow.Author.Tests.{ne-eqb}

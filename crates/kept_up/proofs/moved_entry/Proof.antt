@@ -1,5 +1,5 @@
 -- `kept_up::moved_entry` meets its contract: the definition takes the arms of the tests. Assumes nothing.
-use mathlib.Core.Path.{refl, sym, _∙_}
+use mathlib.Core.Path.{sym, _∙_}
 use borrow.Author.Needs.{needs}
 use borrow.Author.Tests.{eq-eqb, ne-eqb, lt-ltb, le-ltb}
 use Rattle.field.proofs.Parts.{and-then, and-cut}
