@@ -329,7 +329,8 @@ fn stored_output_of_history_cases() {
 /// So is that of the program `desks` for its stored input.
 #[test]
 fn stored_output_of_desks() {
-    let stored = |name| std::fs::read(format!("{}/../crates/desks/{name}", env!("CARGO_MANIFEST_DIR"))).expect(name);
+    let stored =
+        |name| std::fs::read(format!("{}/../crates/desks/{name}", env!("CARGO_MANIFEST_DIR"))).expect(name);
     assert_eq!(stored("stdout"), reference::calls(&stored("stdin")));
 }
 

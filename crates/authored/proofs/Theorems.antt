@@ -93,7 +93,7 @@ at-most-7 input =
 number-part : (n : ℕ) (xs : List ℕ) (at : ℕ) → at + 1 < n → number16 (take n xs) at ≡ number16 xs at
 number-part n xs at h = λ i. word (getD-take n xs at 0 (omega arith) i) (getD-take n xs (at + 1) 0 h i)
 
-legs-part : (n : ℕ) (xs : List ℕ) → 8 ≤ n → legsOf (take n xs) ≡ legsOf xs
+pub legs-part : (n : ℕ) (xs : List ℕ) → 8 ≤ n → legsOf (take n xs) ≡ legsOf xs
 legs-part n xs h = λ i.
     record {
       base = number-part n xs 0 (omega arith) i;

@@ -1,28 +1,31 @@
--- The calls of an input, one after the other: the lines that are put, and those that are left; and that no place past the buffer is told. Assumes nothing.
+-- The calls of an input, one after the other: the lines that are put, and those that are left. Assumes nothing.
 use mathlib.Core.Path.{_≡_, refl, sym, ap, subst, _∙_}
 use mathlib.Core.Bool.{Bool, cond}
 use mathlib.Core.List.{List, [], _∷_, _++_, append-assoc}
 use Prim.Native.Nat.{ℕ, suc, _+_, _*_, _-_, _/_, _%_, _≤_, _<_}
 use native.Mathlib.Numerals.{add-one}
 use native.Mathlib.Omega.{arith}
-use lib.Dec.{eqb, leb, ltb}
-use lib.ListN.{length, getD, set, length-set}
-use borrow.Author.Tests.{ltb-true, leb-true, eq-eqb, ne-eqb}
+use lib.Dec.{eqb, leb}
+use lib.ListN.{length, getD, length-append}
+use borrow.Author.Tests.{leb-true, eq-eqb, ne-eqb}
 use Rattle.limits.specs.Limits.{mostRequests}
 use Rattle.request.specs.declared.Request.{Request}
 use Rattle.request.proofs.Tests.{passed}
 use Rattle.practice.specs.File.{number16, legsOf, legsAllowed}
-use Rattle.field.proofs.Tests.{if-true, if-false, either-way}
-use Rattle.text.specs.Buffer.{put, Put}
-use Rattle.text.proofs.Texts.{Left, left-all, left-more, put-same}
+use Rattle.field.proofs.Tests.{if-true, if-false}
+use Rattle.text.specs.Buffer.{put, Put, room}
+use Rattle.text.proofs.Texts.{Left, left-all, left-more}
 use Rattle.playing.specs.Playing.{legsInMiles}
+use Rattle.playing.proofs.Answers.{Short}
 use Rattle.session.specs.Report.{answerLine}
+use Rattle.session.proofs.Entries.{answer-length}
 use Rattle.history.specs.declared.History.{History}
 use Rattle.history.specs.declared.SteppedHistory.{SteppedHistory}
 use Rattle.history.specs.History.{startOf}
 use Rattle.taken_back.specs.Calls.{Call, request, back, called, playedCalls, afterCalls}
 use Rattle.authored.specs.Authored.{refusedLine}
 use Rattle.calls_report.specs.CallsReport.{callAt, callsFrom, callBytes, callsIn, desksNumber, callLines, lastLine, reportFrom, desksOf}
+use Rattle.calls_report.proofs.Sizes.{call-short}
 
 -- ---- one call
 abbrev asked : List ℕ → ℕ → ℕ → ℕ → Request
@@ -60,6 +63,8 @@ report-more i h c cs = append-assoc (answerLine i (called h c .answer)) (callLin
 pub record Answered (input : List ℕ) (first : History) (before out : List ℕ) (h : History) (next i : ℕ) : Type 0 where
   pub few : i ≤ callBytes input / 8
   pub left : Left before 0 (reportFrom 0 first (callsIn input)) out next (reportFrom i h (callsFrom input (8 + 8 * i) (callBytes input / 8 - i)))
+  -- a line has 31 bytes at the most
+  pub size : length (reportFrom 0 first (callsIn input)) ≤ 31 * i + length (reportFrom i h (callsFrom input (8 + 8 * i) (callBytes input / 8 - i)))
 
 pub answered-none : (input : List ℕ) (h : History) (before : List ℕ) → Answered input h before before h 0 0
 unfolding callsIn
@@ -69,11 +74,18 @@ answered-none input h before =
     record {
       few = omega arith;
       left = subst (λ (k : ℕ). Left before 0 all before 0 (reportFrom 0 h (callsFrom input 8 k))) n (left-all before 0 all);
+      size = subst (λ (k : ℕ). length all ≤ 31 * 0 + length (reportFrom 0 h (callsFrom input 8 k))) n (omega arith);
     }
 
 pub answered-more : (input : List ℕ) {first h : History} {before m n : List ℕ} {next e i : ℕ} (s : SteppedHistory) → Answered input first before m h next i → i < callBytes input / 8
-    → s ≡ called h (callAt input (8 + 8 * i)) → Put m next (answerLine i (s .answer)) n e → Answered input first before n (s .after) e (i + 1)
-answered-more input {h = h} {i = i} s w l q p = record { few = omega arith; left = left-more (answerLine i (s .answer)) (reportFrom (i + 1) (s .after) (callsFrom input (8 + 8 * (i + 1)) (callBytes input / 8 - (i + 1)))) (w .left) here p }
+    → callBytes input / 8 ≤ mostRequests → s ≡ called h (callAt input (8 + 8 * i)) → s .answer .aircraft < 65536 → s .answer .leader < 65536 → s .answer .along < 65536
+    → Put m next (answerLine i (s .answer)) n e → Answered input first before n (s .after) e (i + 1)
+answered-more input {h = h} {i = i} s w l most q wa wl wm p =
+    let xs = answerLine i (s .answer) in
+    let ys = reportFrom (i + 1) (s .after) (callsFrom input (8 + 8 * (i + 1)) (callBytes input / 8 - (i + 1))) in
+    let one = answer-length i (s .answer) (omega arith) (subst (λ (t : SteppedHistory). Short (t .answer)) (sym q) (call-short h (callAt input (8 + 8 * i)))) wa wl wm in
+    let both = ap length here ∙ length-append xs ys in
+    record { few = omega arith; left = left-more xs ys (w .left) here p; size = omega (arith, w .size, one, both) }
   where
     rest : ℕ
     rest = callBytes input / 8 - (i + 1)
@@ -101,6 +113,13 @@ answered-all input {h = h} {m = m} {next = next} {i = i} w l p =
     let all = ap (put m next) (sym rest) ∙ w .left .whole in
     record { buffer = p .buffer ∙ ap (λ (q : List ℕ × ℕ). q .0) all; next = p .next ∙ ap (λ (q : List ℕ × ℕ). q .1) all }
 
+pub answered-fits : (input : List ℕ) {first h : History} {before m : List ℕ} {next i : ℕ} → Answered input first before m h next i → callBytes input / 8 ≤ i → callBytes input / 8 ≤ mostRequests
+    → length (lastLine h) ≤ 46 → length (reportFrom 0 first (callsIn input)) ≤ room
+answered-fits input {h = h} {i = i} w l most k =
+    let d : callBytes input / 8 - i ≡ 0 = omega arith in
+    let rest = ap length (ap (λ (j : ℕ). reportFrom i h (callsFrom input (8 + 8 * i) j)) d ∙ report-none i h) in
+    omega (arith, w .size, w .few, rest)
+
 -- ---- an input that is refused, and one that is accepted
 pub printed-refused : (input : List ℕ) → (desksNumber input ≡ 0 → ⊥) → refusedLine (desksNumber input) ≡ desksOf input
 unfolding desksOf
@@ -110,22 +129,13 @@ pub printed-report : (input : List ℕ) → desksNumber input ≡ 0 → reportFr
 unfolding desksOf
 printed-report input e = sym (if-true _ _ (eq-eqb (desksNumber input) 0 e))
 
-pub legs-there : (input : List ℕ) → desksNumber input ≡ 0 → 8 ≤ length input
+pub record Accepted (input : List ℕ) : Type 0 where
+  pub long : 8 ≤ length input
+  pub few : callBytes input / 8 ≤ mostRequests
+
+pub accepted-input : (input : List ℕ) → desksNumber input ≡ 0 → Accepted input
 unfolding desksNumber
-legs-there input e =
+accepted-input input e =
     let tests : List (ℕ × Bool) = (7, leb 8 (length input)) ∷ (7, legsAllowed (legsOf input)) ∷ (5, eqb (callBytes input % 8) 0) ∷ (5, leb (callBytes input / 8) mostRequests) ∷ [] in
-    leb-true 8 (length input) (passed tests (tt, (tt, (tt, (tt, tt)))) e .0)
-
--- ---- the place after what was put is within the buffer
-one-more : (at n : ℕ) → at ≤ n → cond (ltb at n) (suc at) at ≤ n
-one-more at n h = either-way (λ (k : ℕ). k ≤ n) (ltb at n) (suc at) at (λ e. let l = ltb-true at n e in omega arith) (λ e. h)
-
-put-within : (b : List ℕ) (at : ℕ) (xs : List ℕ) → at ≤ length b → put b at xs .1 ≤ length b
-put-within b at [] h = h
-put-within b at (x ∷ xs) h =
-    let l = length-set b at x in
-    let more = put-within (set b at x) (cond (ltb at (length b)) (suc at) at) xs (let n = one-more at (length b) h in omega arith) in
-    omega arith
-
-pub ends-within : {b a xs : List ℕ} {e : ℕ} → Put b 0 xs a e → e ≤ length a
-ends-within {b} {xs = xs} p = let h = put-within b 0 xs (omega arith) in omega (arith, put-same p, p .next)
+    let p = passed tests (tt, (tt, (tt, (tt, tt)))) e in
+    record { long = leb-true 8 (length input) (p .0); few = leb-true (callBytes input / 8) mostRequests (p .1 .1 .1 .0) }

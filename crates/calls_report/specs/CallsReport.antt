@@ -1,14 +1,13 @@
 -- What the program `desks` prints: the answers to calls by two desks, each a request (02, 2.10) or a step back (02, 2.13), from the bytes that hold
 -- them. Definitions only.
 use Prim.Native.Nat.{ℕ, zero, suc, _+_, _-_, _/_, _%_}
-use mathlib.Core.Bool.{Bool, cond, _&&_}
+use mathlib.Core.Bool.{cond}
 use mathlib.Core.List.{List, [], _∷_, _++_}
 use lib.Dec.{eqb, leb}
 use lib.ListN.{length, getD}
 use Rattle.limits.specs.Limits.{mostRequests}
 use Rattle.request.specs.Input.{firstRefused}
 use Rattle.practice.specs.File.{number16, legsOf, legsAllowed}
-use Rattle.field.specs.declared.Legs.{Legs}
 use Rattle.questions.specs.Counts.{presentOn}
 use Rattle.rules.specs.declared.Answer.{Answer}
 use Rattle.text.specs.Text.{space, line}

@@ -17,13 +17,15 @@ use request::Request;
 use text::Buffer;
 use words::number16;
 ghost use mathlib.Core.Path.{_≡_};
-ghost use Prim.Native.Nat.{_+_, _≤_};
-ghost use lib.ListN.{length};
+ghost use mathlib.Core.List.{_++_};
+ghost use Prim.Native.Nat.{_+_, _/_, _≤_};
+ghost use lib.ListN.{length, drop};
+ghost use Rattle.limits.specs.Limits.{mostRequests};
 ghost use Rattle.practice.specs.File.{legsOf};
-ghost use Rattle.text.specs.Buffer.{Put};
+ghost use Rattle.text.specs.Buffer.{Put, room};
 ghost use Rattle.history.specs.History.{startOf};
 ghost use Rattle.taken_back.specs.Calls.{called};
-ghost use Rattle.calls_report.specs.CallsReport.{callAt, callsIn, desksNumber, reportFrom, desksOf};
+ghost use Rattle.calls_report.specs.CallsReport.{callAt, callBytes, callsIn, desksNumber, reportFrom, desksOf};
 
 // The legs of the first eight bytes.
 fn legs_in(input: &[u8]) -> FileLegs
@@ -79,8 +81,9 @@ fn call_at(h: History, input: &[u8], at: usize) -> SteppedHistory
 
 // The report of the input's calls from the empty field with these legs, from the buffer's first byte on.
 fn put_calls(out: &mut [u8], input: &[u8], legs: Legs) -> usize
-    requires { ⌜ 8 ≤ length (now input) ⌝ }
+    requires { ⌜ (8 ≤ length (now input)) × (callBytes (now input) / 8 ≤ mostRequests) ⌝ }
     ensures { λ r. ⌜ Put (now (out .entry)) 0 (reportFrom 0 (startOf legs) (callsIn (now (input .entry)))) (now (out .exit)) r ⌝ }
+    ensures { λ r. ⌜ length (reportFrom 0 (startOf legs) (callsIn (now (input .entry)))) ≤ room ⌝ }
 {
     let calls = (input.len() - 8) / 8;
     let mut h = start(legs);
@@ -95,10 +98,11 @@ fn put_calls(out: &mut [u8], input: &[u8], legs: Legs) -> usize
     put_last(out, next, h)
 }
 
-// Puts the report of the input's calls, or the line that refuses them, into the buffer, from its first byte on, and yields the place after it.
+// Writes the report of the input's calls, or the line that refuses them, into the buffer, and yields its length.
 pub fn desks(input: &[u8], out: &mut Buffer) -> usize
-    ensures { λ r. ⌜ Put (now (out .entry)) 0 (desksOf (now (input .entry))) (now (out .exit)) r ⌝ }
-    ensures { λ r. ⌜ r ≤ length (now (out .exit)) ⌝ }
+    ensures { λ r. ⌜ r ≡ length (desksOf (now (input .entry))) ⌝ }
+    ensures { λ r. ⌜ now (out .exit) ≡ desksOf (now (input .entry)) ++ drop r (now (out .entry)) ⌝ }
+    ensures { λ r. ⌜ r ≤ room ⌝ }
 {
     let bytes: &mut [u8] = out;
     let number = input_number(input);
@@ -111,8 +115,9 @@ pub fn desks(input: &[u8], out: &mut Buffer) -> usize
 // `desks` for C and Rust (include/calls_report.h).
 #[no_mangle]
 pub extern "C" fn baguymo_desks(input: &[u8], out: &mut Buffer) -> usize
-    ensures { λ r. ⌜ Put (now (out .entry)) 0 (desksOf (now (input .entry))) (now (out .exit)) r ⌝ }
-    ensures { λ r. ⌜ r ≤ length (now (out .exit)) ⌝ }
+    ensures { λ r. ⌜ r ≡ length (desksOf (now (input .entry))) ⌝ }
+    ensures { λ r. ⌜ now (out .exit) ≡ desksOf (now (input .entry)) ++ drop r (now (out .entry)) ⌝ }
+    ensures { λ r. ⌜ r ≤ room ⌝ }
 {
     desks(input, out)
 }

@@ -4,6 +4,8 @@ use questions::counts::present_on;
 use rules::Answer;
 use text::put_line;
 use text::put_text;
+ghost use Prim.Native.Nat.{_≤_};
+ghost use lib.ListN.{length};
 ghost use Rattle.session.specs.Report.{answerLine};
 ghost use Rattle.text.specs.Buffer.{Put};
 ghost use Rattle.calls_report.specs.CallsReport.{lastLine};
@@ -27,6 +29,7 @@ pub(crate) fn put_answer(out: &mut [u8], at: usize, index: usize, a: Answer) -> 
 // The last line: how many are present, and how many fields are kept.
 pub(crate) fn put_last(out: &mut [u8], at: usize, h: History) -> usize
     ensures { λ r. ⌜ Put (now (out .entry)) at (lastLine h) (now (out .exit)) r ⌝ }
+    ensures { λ r. ⌜ length (lastLine h) ≤ 46 ⌝ }
 {
     let x = h.now;
     let present = present_on(x.field);

@@ -1,17 +1,12 @@
 -- `calls_report::input_number` meets its contract: what each test gave stands in the branches. Assumes nothing.
 use mathlib.Core.Path.{_≡_, ap, _∙_}
-use mathlib.Core.Bool.{Bool, true}
-use mathlib.Core.List.{List}
-use Prim.Native.Nat.{ℕ}
-use lib.Dec.{leb}
-use lib.ListN.{length}
 use denote.Ref.{now}
 use borrow.Author.Needs.{needs}
 use borrow.Author.Tests.{le-leb, lt-leb, eq-eqb, ne-eqb}
 use Rattle.limits.specs.Limits.{mostRequests}
 use Rattle.practice.specs.File.{legsOf, legsAllowed}
 use Rattle.practice.proofs.Tests.{fails, passes}
-use Rattle.calls_report.specs.CallsReport.{callBytes, desksNumber}
+use Rattle.calls_report.specs.CallsReport.{desksNumber}
 use Rattle.calls_report.proofs.input_number.Statement.{statement}
 use Rattle.calls_report.proofs.input_number.Tie as tie
 

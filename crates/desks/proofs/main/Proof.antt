@@ -1,7 +1,8 @@
 -- `desks::main` is safe and ends: as many bytes are written as there are to print. Assumes nothing.
-use mathlib.Core.Path.{sym}
+use mathlib.Core.Path.{sym, ap}
 use Prim.Native.Nat.{_≤_}
-use lib.ListN.{length}
+use native.Mathlib.Omega.{arith}
+use lib.ListN.{length, length-append}
 use lib.Seq.{length-take-le}
 use borrow.Author.Needs.{needs}
 use Rattle.desks.proofs.main.Statement.{statement}
@@ -9,7 +10,7 @@ use Rattle.desks.proofs.main.Tie as tie
 
 -- what is printed lies within the buffer
 within : (c : tie.After-desks) → c .desks .result ≤ length (c .desks .last .1 .0)
-within c = c .desks .ensures .1
+within c = omega (arith, c .desks .ensures .0, simp length-append at (ap length (c .desks .ensures .1 .0)))
 
 slice-aggregate-read-full : tie.Need-slice-aggregate-read-full
 slice-aggregate-read-full c = search needs
