@@ -25,6 +25,7 @@ staticlib . demonstration
 staticlib . spaced
 staticlib . writer
 staticlib . listing
+staticlib . host
 cargo build --quiet --release --offline --locked --manifest-path bench/Cargo.toml
 bench=bench/target/release/bench
 longest=crates/cases/data/longest.scap

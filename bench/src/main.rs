@@ -7,15 +7,18 @@
 //!   bench same LIBRARY LIBRARY FILE    whether both write the same report
 //!   bench typical                      prints the typical session in readable form
 //!
-//! A PROGRAM is library, library-judged, library-button, reference, reference-unjudged, reference-button or a LIBRARY: the path of a
-//! shared one, NAME.so.
+//! A PROGRAM is library, library-judged, library-button, library-host, reference, reference-unjudged, reference-button, reference-host or a
+//! LIBRARY: the path of a shared one, NAME.so. Of those of a host each request is a call on a state with eight kept fields.
 
 mod loaded;
 
 use comparison::dice::Dice;
+use comparison::host_library::{by_reference as asked_of_reference, call_on, Call, Reply};
 use comparison::library::{button_into, judged_report_into, report_into, ROOM};
 use comparison::sessions::typical;
 use loaded::loaded;
+use reference::history::KEPT;
+use reference::state::{Bytes, STATE};
 use reference::{PracticeFile, Request};
 use std::hint::black_box;
 use std::time::{Duration, Instant};
@@ -35,6 +38,8 @@ fn program(name: &str) -> Program {
         "library" => by_library(report_into),
         "library-judged" => by_library(judged_report_into),
         "library-button" => by_library(button_into),
+        "library-host" => by_host(call_on),
+        "reference-host" => by_host(asked_of_reference),
         "reference" => by_reference(reference::report),
         "reference-button" => by_reference(reference::button),
         "reference-unjudged" => by_reference(reference::report_unjudged),
@@ -52,6 +57,28 @@ fn by_library<const N: usize>(play: impl Fn(&[u8], &mut [u8; N]) -> usize + 'sta
 /// The reference makes its report anew.
 fn by_reference(report: fn(&[u8]) -> Vec<u8>) -> Program {
     Box::new(move |file| black_box(report(black_box(file))).len())
+}
+
+/// Each request of a file is asked of a state with the file's legs and with eight kept fields: before the first, eight ticks are asked of
+/// the empty field. That state is made once, and copied for each play. Yields how many were accepted.
+fn by_host(call: fn(&mut Bytes, &Call) -> Reply) -> Program {
+    let mut ready: Option<(Box<Bytes>, Vec<Call>)> = None;
+    let mut state = Box::new([0; STATE]);
+    Box::new(move |file| {
+        let (start, calls) = ready.get_or_insert_with(|| with_eight_kept(file));
+        *state = **start;
+        calls.iter().filter(|each| black_box(call(black_box(&mut state), each)).number == 0).count()
+    })
+}
+
+fn with_eight_kept(file: &[u8]) -> (Box<Bytes>, Vec<Call>) {
+    let PracticeFile { legs_64ths, requests } = PracticeFile::read(file).expect("a practice file");
+    let mut state = Box::new([0; STATE]);
+    let ticks = [Request::new(12, 0, 0, 64); KEPT].map(Call::Ask);
+    for call in [Call::Start(legs_64ths)].iter().chain(&ticks) {
+        assert_eq!(asked_of_reference(&mut state, call).number, 0);
+    }
+    (state, requests.into_iter().map(Call::Ask).collect())
 }
 
 /// The report of a file by a shared library.

@@ -7,27 +7,32 @@
 //! empties the field, and [`spacing()`] for the spacing after a practice file.
 //! [`author`] is the other way round: legs and requests in, the bytes of a
 //! practice file out. [`classroom_list`] gives the list of the classroom dialect
-//! after a practice file, [`classroom_field`] the field of such a list. Beneath them: [`file`] reads a practice file, [`binder`]
+//! after a practice file, [`classroom_field`] the field of such a list, and
+//! [`calls()`] the answers to calls by two desks. Beneath them: [`file`] reads a practice file, [`binder`]
 //! a binder, [`request`] holds requests and the input rules, [`field`] the
 //! zones, the sequence, the bounds and the twelve kinds of request,
 //! [`mod@button`] what a press proposes, [`mod@spacing`] the gaps along the
 //! path, [`index`] a field with an index beside it, [`writer`] writes a
 //! practice file, [`classroom`] converts a field to a list and back,
-//! [`history`] keeps the last fields and takes requests back, [`desks`] renames
-//! what is the other desk's.
+//! [`history`] keeps the last fields and takes requests back, [`mod@calls`] reads
+//! calls by two desks, [`desks`] renames what is the other desk's, [`host`] has
+//! the calls of a host program, and [`mod@state`] the bytes that it lends.
 
 pub mod binder;
 pub mod button;
+pub mod calls;
 pub mod classroom;
 pub mod desks;
 pub mod explore;
 pub mod field;
 pub mod file;
 pub mod history;
+pub mod host;
 pub mod index;
 pub mod refusal;
 pub mod request;
 pub mod spacing;
+pub mod state;
 pub mod writer;
 
 pub use binder::Week;
@@ -109,6 +114,24 @@ pub fn spacing(file: &[u8], spacing: u16) -> Vec<u8> {
 /// The whole output of `author` for four legs and requests: a practice file, or one line where they are refused.
 pub fn author(input: &[u8]) -> Vec<u8> {
     writer::from_bytes(input).unwrap_or_else(|refusal| format!("refused {}\n", refusal.number()).into_bytes())
+}
+
+/// The whole output of `desks` for four legs and calls by two desks: a line for each call, indexed from 0, and at the end how many are
+/// present and how many fields are kept; or one line where they are refused.
+pub fn calls(input: &[u8]) -> Vec<u8> {
+    let mut out = Vec::new();
+    match calls::from_bytes(input) {
+        Ok((legs, calls)) => {
+            let mut history = History::empty(legs);
+            for (index, &call) in calls.iter().enumerate() {
+                let (number, answer) = desks::reply_kept(&mut history, call);
+                line(&mut out, format_args!("{index} {number} {answer}"));
+            }
+            line(&mut out, format_args!("end {} {}", history.field.field.present(), history.count));
+        }
+        Err(refusal) => line(&mut out, format_args!("refused {}", refusal.number())),
+    }
+    out
 }
 
 /// The whole output of `classroom list` for the bytes of one practice file.

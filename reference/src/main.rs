@@ -4,7 +4,8 @@
 //! and a spacing, a practice file and the gaps after it; with the word
 //! `author`, legs and requests and their practice file; with the words
 //! `classroom list`, a practice file and the list of the classroom dialect after
-//! it, and with `classroom field` legs, a speed and such a list, and the field.
+//! it, and with `classroom field` legs, a speed and such a list, and the field;
+//! with the word `desks`, legs and calls by two desks and their answers.
 
 use std::io::{self, Read, Write};
 use std::{env, process};
@@ -19,6 +20,7 @@ fn main() -> io::Result<()> {
         ["week"] => (reference::binder::LONGEST, Box::new(reference::week)),
         ["button"] => (reference::file::LONGEST, Box::new(reference::button)),
         ["author"] => (reference::writer::LONGEST_INPUT, Box::new(reference::author)),
+        ["desks"] => (reference::calls::LONGEST_INPUT, Box::new(reference::calls)),
         ["classroom", "list"] => (reference::file::LONGEST, Box::new(reference::classroom_list)),
         ["classroom", "field"] => (reference::classroom::LONGEST_INPUT, Box::new(reference::classroom_field)),
         ["spacing", word] => {
@@ -27,7 +29,7 @@ fn main() -> io::Result<()> {
             (reference::file::LONGEST, Box::new(move |file| reference::spacing(file, spacing)))
         }
         _ => {
-            eprintln!("usage: reference [button | spacing SPACING | classroom list] < FILE, reference week < BINDER, reference author < LEGS-AND-REQUESTS, or reference classroom field < LEGS-SPEED-AND-LIST");
+            eprintln!("usage: reference [button | spacing SPACING | classroom list] < FILE, reference week < BINDER, reference author < LEGS-AND-REQUESTS, reference desks < LEGS-AND-CALLS, or reference classroom field < LEGS-SPEED-AND-LIST");
             process::exit(2);
         }
     };

@@ -325,3 +325,32 @@ fn stored_output_of_history_cases() {
     let stored = concat!(env!("CARGO_MANIFEST_DIR"), "/../crates/history_cases/stdout");
     assert_eq!(std::fs::read_to_string(stored).expect("stdout"), history_cases::output());
 }
+
+/// So is that of the program `desks` for its stored input.
+#[test]
+fn stored_output_of_desks() {
+    let stored =
+        |name| std::fs::read(format!("{}/../crates/desks/{name}", env!("CARGO_MANIFEST_DIR"))).expect(name);
+    assert_eq!(stored("stdout"), reference::calls(&stored("stdin")));
+}
+
+/// Inputs of calls that are refused, and the shortest and the longest that are not.
+#[test]
+fn inputs_of_calls() {
+    let with = |legs: [u16; 4], rest: usize| [legs.map(u16::to_le_bytes).concat(), vec![1; rest]].concat();
+    for leg in 0..4 {
+        for length in [0, 4097] {
+            let mut legs = [1; 4];
+            legs[leg] = length;
+            assert_eq!(reference::calls(&with(legs, 7)), b"refused 7\n");
+        }
+    }
+    assert_eq!(reference::calls(&with([1; 4], 0)[..7]), b"refused 7\n");
+    assert_eq!(reference::calls(&with([4096; 4], 0)), b"end 0 0\n");
+    for rest in [7, 9, 8 * 4097] {
+        assert_eq!(reference::calls(&with([1; 4], rest)), b"refused 5\n");
+    }
+    let most = reference::calls(&with([1; 4], 8 * 4096));
+    assert!(most.starts_with(b"0 27 0 0 0 0 0\n1 27 "));
+    assert!(most.ends_with(b"4095 27 0 0 0 0 0\nend 0 0\n"));
+}

@@ -51,12 +51,14 @@ refusal-put {before} {after} {n = n} {number = number} lent p b l h e =
 
 -- ---- a file written into it
 pub file-put : {after : List ℕ} {w : Writing} (input lent : List ℕ) → 8 ≤ length input → length lent ≡ fileRoom → w ≡ writingOf (legsGiven input) (requestsGiven input) (length lent)
-    → after ≡ bufferAfter (legsGiven input) (requestsGiven input) lent → w .number ≡ 0 → (w .length ≡ length (authoredOf input)) × ((after ≡ authoredOf input ++ drop (w .length) lent) × (w .length ≤ fileRoom))
+    → after ≡ bufferAfter (legsGiven input) (requestsGiven input) lent → w .number ≡ 0
+    → (w .length ≡ length (authoredOf input)) × ((after ≡ authoredOf input ++ drop (w .length) lent) × (w .length ≤ fileRoom))
 file-put {after} {w} input lent h l e a z =
     let legs = legsGiven input in
     let bytes = requestsGiven input in
     let zero : writingNumber legs bytes (length lent) ≡ 0 = sym (ap (λ (x : Writing). x .number) e) ∙ z in
-    let size : w .length ≡ length (fileOf legs bytes) = ap (λ (x : Writing). x .length) e ∙ ap (λ (t : Bool). cond t (length (fileOf legs bytes)) 0) (eq-eqb (writingNumber legs bytes (length lent)) 0 zero) in
+    let size : w .length ≡ length (fileOf legs bytes) =
+    ap (λ (x : Writing). x .length) e ∙ ap (λ (t : Bool). cond t (length (fileOf legs bytes)) 0) (eq-eqb (writingNumber legs bytes (length lent)) 0 zero) in
     let printed : authoredOf input ≡ fileOf legs bytes = file-printed input (number-long input h ∙ ap (writingNumber legs bytes) (sym l) ∙ zero) in
     let fits = allowed legs bytes (length lent) zero .fits in (
       size ∙ ap length (sym printed),
@@ -67,7 +69,8 @@ file-put {after} {w} input lent h l e a z =
     )
 
 -- ---- the number that a writing gave
-pub number-told : {w : Writing} (input lent : List ℕ) → 8 ≤ length input → length lent ≡ fileRoom → w ≡ writingOf (legsGiven input) (requestsGiven input) (length lent) → w .number ≡ authoredNumber input
+pub number-told : {w : Writing} (input lent : List ℕ) → 8 ≤ length input → length lent ≡ fileRoom → w ≡ writingOf (legsGiven input) (requestsGiven input) (length lent)
+    → w .number ≡ authoredNumber input
 number-told input lent h l e = ap (λ (x : Writing). x .number) e ∙ ap (writingNumber (legsGiven input) (requestsGiven input)) l ∙ sym (number-long input h)
 
 -- and the buffer after it, where it is refused

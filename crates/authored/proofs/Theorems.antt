@@ -10,12 +10,12 @@ use lib.Seq.{getD-take, drop-drop, length-take-le}
 use borrow.Author.Tests.{eq-eqb, ne-eqb, leb-true, leb-false, le-leb}
 use Rattle.limits.specs.Limits.{mostRequests}
 use Rattle.request.specs.declared.Request.{Request}
-use Rattle.request.specs.Input.{word, firstRefused, deskAllowed, kindAllowed, sideAllowed, numberAllowed, amountAllowed, inputNumber}
+use Rattle.request.specs.Input.{word, fromDesk, firstRefused, deskAllowed, kindAllowed, sideAllowed, numberAllowed, amountAllowed, inputNumber}
 use Rattle.request.proofs.Tests.{both-right, left-fails, right-fails}
 use Rattle.practice.specs.declared.FileLegs.{FileLegs}
 use Rattle.practice.specs.File.{number16, legsOf, legsAllowed, legsBody, requestsBody, fileNumber}
 use Rattle.practice.specs.Requests.{requestsOf}
-use Rattle.practice.specs.Practice.{holds, practiceOf, fromFile, encoded}
+use Rattle.practice.specs.Practice.{holds, practiceOf, encoded}
 use Rattle.practice.proofs.Requests.{count}
 use Rattle.practice.proofs.Accepted.{accepted, whole-of}
 use Rattle.practice.proofs.Meaning.{held}
@@ -65,13 +65,13 @@ first-small true true true false = omega arith
 first-small true true true true = omega arith
 
 -- what a file holds is asked by desk 1, so that 31 is not among them
-input-small : (r : Request) → inputNumber (fromFile r) ≤ 4
+input-small : (r : Request) → inputNumber (fromDesk 1 r) ≤ 4
 unfolding inputNumber deskAllowed
-input-small r = let q = fromFile r in first-small (kindAllowed q) (sideAllowed q) (numberAllowed q) (amountAllowed q)
+input-small r = let q = fromDesk 1 r in first-small (kindAllowed q) (sideAllowed q) (numberAllowed q) (amountAllowed q)
 
-offence-small : (rs : List Request) → firstOffence (map fromFile rs) ≤ 4
+offence-small : (rs : List Request) → firstOffence (map (fromDesk 1) rs) ≤ 4
 offence-small [] = omega arith
-offence-small (r ∷ rest) = either-small 4 (eqb (inputNumber (fromFile r)) 0) (firstOffence (map fromFile rest)) (inputNumber (fromFile r)) (λ e. offence-small rest) (λ e. input-small r)
+offence-small (r ∷ rest) = either-small 4 (eqb (inputNumber (fromDesk 1 r)) 0) (firstOffence (map (fromDesk 1) rest)) (inputNumber (fromDesk 1 r)) (λ e. offence-small rest) (λ e. input-small r)
 
 number-small : (a l : Bool) (o : ℕ) (f : Bool) → o ≤ 4 → (l ≡ true → f ≡ true) → firstNumber a l o f ≤ 7
 number-small false l o f h k = omega arith
@@ -84,7 +84,8 @@ at-most-7 input =
     let legs = legsGiven input in
     let bytes = requestsGiven input in
     either-small 7 (leb 8 (length input)) (writingNumber legs bytes fileRoom) 7
-    (λ e. number-small (legsAllowed legs) (listAllowed bytes) (firstOffence (requestsOf bytes)) (hasRoom legs bytes fileRoom) (subst (λ (rs : List Request). firstOffence rs ≤ 4) (from-bytes bytes) (offence-small (requestsOf bytes))) (fits-all legs bytes))
+    (λ e. number-small (legsAllowed legs) (listAllowed bytes) (firstOffence (requestsOf bytes)) (hasRoom legs bytes fileRoom)
+    (subst (λ (rs : List Request). firstOffence rs ≤ 4) (from-bytes bytes) (offence-small (requestsOf bytes))) (fits-all legs bytes))
     (λ e. omega arith)
 
 -- ---- an input that is longer than any that is written: one byte more than the longest is enough to read
@@ -92,7 +93,7 @@ at-most-7 input =
 number-part : (n : ℕ) (xs : List ℕ) (at : ℕ) → at + 1 < n → number16 (take n xs) at ≡ number16 xs at
 number-part n xs at h = λ i. word (getD-take n xs at 0 (omega arith) i) (getD-take n xs (at + 1) 0 h i)
 
-legs-part : (n : ℕ) (xs : List ℕ) → 8 ≤ n → legsOf (take n xs) ≡ legsOf xs
+pub legs-part : (n : ℕ) (xs : List ℕ) → 8 ≤ n → legsOf (take n xs) ≡ legsOf xs
 legs-part n xs h = λ i.
     record {
       base = number-part n xs 0 (omega arith) i;

@@ -9,14 +9,15 @@ use Rattle.practice.specs.File.{legsOf}
 use Rattle.text.specs.Text.{space, line}
 use Rattle.writer.specs.Writer.{fileOf, writingNumber}
 
--- how many bytes the caller's buffer has: every practice file fits (01, "5 .. over 24,610 bytes")
+-- how many bytes the caller's buffer has: as many as the longest practice file (01, "Turned away by the request or the file", 5)
 abbrev pub fileRoom : ℕ
 fileRoom = 24610
 
--- the input: the four legs, eight bytes as body 1 of a practice file has them, and then the requests
+-- the four legs that the input begins with, eight bytes as body 1 of a practice file has them (01, "The practice file")
 abbrev pub legsGiven : List ℕ → FileLegs
 legsGiven input = legsOf input
 
+-- the bytes behind them, which are those of the requests
 abbrev pub requestsGiven : List ℕ → List ℕ
 requestsGiven input = drop 8 input
 

@@ -28,7 +28,7 @@ fn legs_given(input: &[u8]) -> FileLegs
 }
 
 // A refusal, from the buffer's first byte on.
-fn put_refused(out: &mut [u8], number: u16) -> usize
+pub fn put_refused(out: &mut [u8], number: u16) -> usize
     ensures { λ r. ⌜ Put (now (out .entry)) 0 (refusedLine number) (now (out .exit)) r ⌝ }
 {
     let next = put_text(out, 0, b"refused ");

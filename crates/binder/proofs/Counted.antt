@@ -9,13 +9,14 @@ use lib.Dec.{T, leb, eqb, leb→le}
 use lib.ListN.{length, length-append}
 use lib.Ieee.Fits.{and-l, and-r}
 use borrow.Author.Tests.{eqb-true}
-use Rattle.request.specs.Input.{within, firstRefused, inputNumber}
+use Rattle.request.specs.Input.{fromDesk, within, firstRefused, inputNumber}
 use Rattle.request.specs.declared.Request.{Request}
 use Rattle.practice.specs.File.{opens, contentsAllowed, legsOf, legsBody, requestsBody, legsAllowed, fileNumber}
-use Rattle.practice.specs.Practice.{Practice, refused, holds, practiceOf, fromFile}
+use Rattle.practice.specs.Practice.{Practice, refused, holds, practiceOf}
 use Rattle.practice.specs.Requests.{requestsOf}
 use Rattle.field.specs.declared.Field.{Field}
 use Rattle.field.specs.Boxes.{emptyField}
+use Rattle.field.specs.Lists.{Each}
 use Rattle.field.proofs.Tests.{pass, passed, decided, either-way, every-from}
 use Rattle.questions.specs.Counts.{total}
 use Rattle.bounds.specs.Bounds.{withinBounds}
@@ -23,7 +24,7 @@ use Rattle.rules.specs.declared.Answer.{Answer}
 use Rattle.rules.specs.Step.{checksOf, effectOf, numberOf, stepOf}
 use Rattle.rules.specs.Play.{played}
 use Rattle.rules.proofs.Checks.{needNumbers, numberedBy, checks-numbered, input-numbered}
-use Rattle.owners.specs.Owners.{Each, AllAskedBy, NoDeskRefuses}
+use Rattle.owners.specs.Owners.{AllAskedBy, NoDeskRefuses}
 use Rattle.owners.proofs.OneDesk.{one-desk}
 use Rattle.practice.proofs.ReadBack.{from-bytes}
 use Rattle.rules.proofs.StepLaws.{number-is}
@@ -70,7 +71,8 @@ unfolding rows
 row-once kind =
     either-way (λ (w : ℕ). listed rows w ≡ 1) (within 1 12 kind) kind 0
     (λ e. let t = pass e in
-    eqb-true (listed rows kind) 1 (passed (every-from (λ w. eqb (listed rows w) 1) 1 12 tt kind (leb→le 1 kind (and-l (leb 1 kind) (leb kind 12) t)) (let h = leb→le kind 12 (and-r (leb 1 kind) (leb kind 12) t) in omega arith))))
+    eqb-true (listed rows kind) 1 (passed (every-from (λ w. eqb (listed rows w) 1) 1 12 tt kind
+    (leb→le 1 kind (and-l (leb 1 kind) (leb kind 12) t)) (let h = leb→le kind 12 (and-r (leb 1 kind) (leb kind 12) t) in omega arith))))
     (λ e. refl)
 
 abbrev isColumn : ℕ → Bool
@@ -146,7 +148,7 @@ table-sum [] h = sum-none
 table-sum (p ∷ ps) h = let more = sum-more p ps (h .0) in let rest = table-sum ps (h .1) in omega arith
 
 -- ---- files
-all-of-1 : (rs : List Request) → AllAskedBy 1 (map fromFile rs)
+all-of-1 : (rs : List Request) → AllAskedBy 1 (map (fromDesk 1) rs)
 all-of-1 [] = tt
 all-of-1 (r ∷ rs) = (refl, all-of-1 rs)
 

@@ -46,7 +46,7 @@ ghost use Rattle.questions.specs.Find.{fixOf};
 ghost use Rattle.field.specs.Lists.{every};
 ghost use Rattle.bounds.specs.Bounds.{boundA, boundB, lateralRule, boundC, boundD, finalFirst, isWaiting, isNobody, zoneKept, sequenceKept, boundE, boundF, legFits, fitsZone, legalLegs, boundG, withinBounds};
 
-// Bound a: at most four in the operation area, one on the runway.
+// Bound a: how many are in the operation area, and on the runway.
 pub fn bound_a(f: Field) -> bool
     ensures { λ r. ⌜ r ≡ boundA f ⌝ }
 {
@@ -56,7 +56,7 @@ pub fn bound_a(f: Field) -> bool
     how_many(f, RUNWAY) <= 1
 }
 
-// Bound b: at most two in each side's area.
+// Bound b: how many are in the area of each side.
 pub fn bound_b(f: Field) -> bool
     ensures { λ r. ⌜ r ≡ boundB f ⌝ }
 {
@@ -96,7 +96,7 @@ pub fn lateral_rule(f: Field, side: u8) -> bool
     how_many(f, MISSED + s) == 0
 }
 
-// Bound c: at most one in each of zones 1 to 6, and the rule of the lateral zones.
+// Bound c: how many are in zones 1 to 6, and the rule of the lateral zones.
 pub fn bound_c(f: Field) -> bool
     ensures { λ r. ⌜ r ≡ boundC f ⌝ }
 {
@@ -109,7 +109,7 @@ pub fn bound_c(f: Field) -> bool
     lateral_rule(f, 2)
 }
 
-// Bound d: at most two in the operation area per fix.
+// Bound d: how many in the operation area have each fix.
 pub fn bound_d(f: Field) -> bool
     ensures { λ r. ⌜ r ≡ boundD f ⌝ }
 {
@@ -119,7 +119,7 @@ pub fn bound_d(f: Field) -> bool
     per_fix(f, 2) <= 2
 }
 
-// Whether the head of final, if any, heads the sequence.
+// Whether whoever is at the head of final is first in the sequence.
 pub fn final_first(f: Field) -> bool
     ensures { λ r. ⌜ r ≡ finalFirst f ⌝ }
 {
@@ -244,7 +244,7 @@ fn fix_at(f: Field, i: usize) -> u8
     f.next
 }
 
-// Bound f: fixes alternate along the sequence, and the next fix is the opposite of the last one's.
+// Bound f: each fix in the sequence, and the next fix after them, is the opposite of the one before.
 pub fn bound_f(f: Field) -> bool
     ensures { λ r. ⌜ r ≡ boundF f ⌝ }
 {

@@ -39,7 +39,7 @@ abbrev pub backToBack : List ℕ → ℕ → ℕ → ℕ → Bool
 backToBack bytes at i zero = eqb at (length bytes)
 backToBack bytes at i (suc n) = eqb (offsetAt bytes i) at && backToBack bytes (at + lengthAt bytes i) (suc i) n
 
--- all files stand so, the first right after the table (02, 2.1)
+-- all files of the binder stand so, from the end of the table on (02, 2.1)
 unfoldable pub filesPlaced : List ℕ → Bool
 filesPlaced bytes = backToBack bytes (tableEnd bytes) 0 (entryCount bytes)
 

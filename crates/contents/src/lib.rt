@@ -54,7 +54,7 @@ fn table_allowed(binder: &[u8]) -> bool
     2 + 8 * count <= n
 }
 
-// Whether each file begins where the one before ends, the first right after the table, and the last ends the binder.
+// Whether the files fill the binder from the end of the table on, each from where the one before ends.
 fn files_placed(binder: &[u8]) -> bool
     requires { ⌜ tableAllowed (now binder) ≡ true ⌝ }
     ensures { λ r. ⌜ r ≡ filesPlaced (now (binder .entry)) ⌝ }

@@ -143,7 +143,8 @@ module _ (legs : Legs) (l : T (legalLegs legs)) (rs : List Request) where
             omega arith;
         balance-each =
             λ desk.
-            let p : presentFor (fieldAfter (emptyField legs) rs) desk ≡ owners (λ d. eqb d desk) line runway = ap (λ (g : Field). presentFor g desk) (from-empty .stands) ∙ present-for f line runway legs o desk in
+            let p : presentFor (fieldAfter (emptyField legs) rs) desk ≡ owners (λ d. eqb d desk) line runway =
+            ap (λ (g : Field). presentFor g desk) (from-empty .stands) ∙ present-for f line runway legs o desk in
             let b = from-empty .balance (λ d. eqb d desk) in
             let own = asked-by-desk desk (played (emptyField legs) rs) in
             let i = ap letIn own in

@@ -17,13 +17,13 @@ use Rattle.field.specs.declared.Aircraft.{Aircraft}
 use Rattle.field.specs.declared.Field.{Field}
 use Rattle.field.specs.declared.Legs.{Legs}
 use Rattle.field.specs.Boxes.{isFlyingZone, inZone, emptyField}
-use Rattle.field.specs.Lists.{every}
+use Rattle.field.specs.Lists.{every, Each}
 use Rattle.questions.specs.declared.Place.{Place}
 use Rattle.questions.specs.Find.{placeOf}
 use Rattle.order.specs.Model.{Side, right}
 use Rattle.rules.specs.Step.{numberOf, stepOf}
 use Rattle.rules.specs.Play.{fieldAfter, played}
-use Rattle.demand.specs.Exact.{WholeLegs, inMiles, Flight, noFlight, ticking, entry, onward, afterMiss, flightWith, flightAfter, EachAircraft, Account, Exact}
+use Rattle.demand.specs.Exact.{WholeLegs, inMiles, Flight, noFlight, ticking, entry, onward, afterMiss, flightWith, flightAfter, Account, Exact}
 use Rattle.field.proofs.Tests.{decided, if-true, if-false}
 use Rattle.field.proofs.Lists.{or-false-left, or-false-right, alone}
 use Rattle.laws.proofs.TickLaws.{number-kept}
@@ -32,8 +32,8 @@ use Rattle.line.proofs.Counted.{in-line, on-runway}
 use Rattle.line.proofs.Located.{zone-split, located, located-runway}
 use Rattle.line.proofs.Orderly.{Orderly}
 use Rattle.moves.proofs.Ticking.{tickPlaced}
-use Rattle.moves.proofs.Kept.{placedFits}
-use Rattle.moves.proofs.Carried.{Each, onRunway, Came, stayed, went, turned, followed, came-in}
+use Rattle.moves.proofs.StaysOrderly.{placedFits}
+use Rattle.moves.proofs.Carried.{onRunway, Came, stayed, went, turned, followed, came-in}
 use Rattle.moves.proofs.After.{zone-in}
 use Rattle.rules.proofs.StepLaws.{number-is, field-accepted, field-refused, input-of, zone-answered}
 use Rattle.moves.proofs.Outcomes.{Accepted, outcome}
@@ -121,7 +121,8 @@ module _ (w : WholeLegs) (f : Side) (line : List Placed) (runway : List Aircraft
   more-by n e = ap (λ (c : Bool). cond (c && isTick (r .kind)) (ticking (s n) (r .amount)) (cond (c && eqb (r .number) n) (by-name n) (s n))) e
 
   refused-known : (numberOf F r ≡ 0 → ⊥) → (l : List Placed) → Each (KnownBy w s) l → Each (KnownBy w more) l
-  refused-known h l = each-map (KnownBy w s) (KnownBy w more) l (λ e. known-same w s more e (sym (more-by (e .aircraft .number) (ne-eqb (stepOf F r .answer .number) 0 (λ q. h (sym (number-is F r) ∙ q))))))
+  refused-known h l =
+      each-map (KnownBy w s) (KnownBy w more) l (λ e. known-same w s more e (sym (more-by (e .aircraft .number) (ne-eqb (stepOf F r .answer .number) 0 (λ q. h (sym (number-is F r) ∙ q))))))
 
   module _ (a : Accepted f line runway (inMiles w) r) where
     b0 : eqb (stepOf F r .answer .number) 0 ≡ true
@@ -130,7 +131,8 @@ module _ (w : WholeLegs) (f : Side) (line : List Placed) (runway : List Aircraft
     ticked-known : r .kind ≡ 12 → (l : List Placed) → Each (KnownBy w (λ n. ticking (s n) (r .amount))) l → Each (KnownBy w more) l
     ticked-known h l =
         each-map (KnownBy w (λ n. ticking (s n) (r .amount))) (KnownBy w more) l
-        (λ e. let n = e .aircraft .number in known-same w (λ n. ticking (s n) (r .amount)) more e (sym (more-by n b0 ∙ if-true (ticking (s n) (r .amount)) (cond (eqb (r .number) n) (by-name n) (s n)) (eq-eqb (r .kind) 12 h))))
+        (λ e. let n = e .aircraft .number in known-same w (λ n. ticking (s n) (r .amount)) more e
+        (sym (more-by n b0 ∙ if-true (ticking (s n) (r .amount)) (cond (eqb (r .number) n) (by-name n) (s n)) (eq-eqb (r .kind) 12 h))))
 
     module _ (h : r .kind ≡ 12 → ⊥) where
       -- the flight of a number after a request that is no tick
@@ -169,19 +171,22 @@ module _ (w : WholeLegs) (f : Side) (line : List Placed) (runway : List Aircraft
           let by : by-name m ≡ afterMiss w (s m) zone = if-false (entry (r .amount) zone) _ (ap isEntry k) ∙ if-true (afterMiss w (s m) zone) (onward w (s m) zone) (eq-eqb (r .kind) 10 k) in
           subst (λ (x : Flight). Known w x (g .zone) (g .aircraft)) (ap (λ (m : ℕ). afterMiss w (s m) zone) (sym (on .turned-number)) ∙ sym by ∙ named m here) known
       came g (followed e p on d i j) q =
-          subst (λ (x : Flight). Known w x (g .zone) (g .aircraft)) (ap s (sym (on .same-number)) ∙ others (g .aircraft .number) (λ n. d (sym (on .same-number) ∙ n))) (known-along w (s (e .aircraft .number)) e g p on i j)
+          subst (λ (x : Flight). Known w x (g .zone) (g .aircraft))
+          (ap s (sym (on .same-number)) ∙ others (g .aircraft .number) (λ n. d (sym (on .same-number) ∙ n))) (known-along w (s (e .aircraft .number)) e g p on i j)
       came g (came-in v) q =
           subst (λ (x : Flight). Known w x (g .zone) (g .aircraft)) (sym (if-true (entry (r .amount) zone) _ (v .an-entry)) ∙ named (g .aircraft .number) (v .new-number))
           (known-entry w (r .amount) zone (g .zone) (g .aircraft) (v .new-speed) (v .none-waited) (v .no-leg) (v .not-flown) (answered g (v .new-number) q))
 
   -- everyone after an accepted request
-  accepted-known : Each (KnownBy w s) line → Each (KnownBy w s) (map onRunway runway) → (a : Accepted f line runway (inMiles w) r) → Each (KnownBy w more) (a .after .line-after) × Each (KnownBy w more) (map onRunway (a .after .runway-after))
+  accepted-known : Each (KnownBy w s) line → Each (KnownBy w s) (map onRunway runway) → (a : Accepted f line runway (inMiles w) r)
+      → Each (KnownBy w more) (a .after .line-after) × Each (KnownBy w more) (map onRunway (a .after .runway-after))
   accepted-known p q a = elim (decided (eqb (r .kind) 12)) [ inl e ↦ by-tick (eqb-true (r .kind) 12 e) | inr e ↦ by-other (eqb-false (r .kind) 12 e) ]
     where
       by-tick : r .kind ≡ 12 → Each (KnownBy w more) (a .after .line-after) × Each (KnownBy w more) (map onRunway (a .after .runway-after))
       by-tick h =
           let t = tick-known r (input-of F r (a .number-0)) h in (
-            subst (Each (KnownBy w more)) (sym (a .after .ticked-on h)) (ticked-known a h (map (tickPlaced (r .amount)) line) (line-ticked w (r .amount) (record { least = t .amount-low; most = t .amount-high }) s line (o .fit-line) p)),
+            subst (Each (KnownBy w more)) (sym (a .after .ticked-on h))
+                (ticked-known a h (map (tickPlaced (r .amount)) line) (line-ticked w (r .amount) (record { least = t .amount-low; most = t .amount-high }) s line (o .fit-line) p)),
             subst (λ (l : List Aircraft). Each (KnownBy w more) (map onRunway l)) (sym (a .after .runway-on h)) (ticked-known a h (map onRunway runway) (runway-ticked w (r .amount) s runway q)),
           )
 
@@ -190,11 +195,14 @@ module _ (w : WholeLegs) (f : Side) (line : List Placed) (runway : List Aircraft
           let t = a .after in
           let both = t .carried h .carry (KnownBy w s) p q in
           let found = Found (t .first-after) (t .line-after) (t .runway-after) (inMiles w) (t .orderly) in (
-            each-both (Came (inMiles w) r (KnownBy w s)) found (KnownBy w more) (t .line-after) (came a h) (both .0) (found-line (t .first-after) (t .line-after) (t .runway-after) (inMiles w) (t .orderly)),
-            each-both (Came (inMiles w) r (KnownBy w s)) found (KnownBy w more) (map onRunway (t .runway-after)) (came a h) (both .1) (found-runway (t .first-after) (t .line-after) (t .runway-after) (inMiles w) (t .orderly)),
+            each-both (Came (inMiles w) r (KnownBy w s)) found (KnownBy w more) (t .line-after) (came a h)
+                (both .0) (found-line (t .first-after) (t .line-after) (t .runway-after) (inMiles w) (t .orderly)),
+            each-both (Came (inMiles w) r (KnownBy w s)) found (KnownBy w more) (map onRunway (t .runway-after)) (came a h)
+                (both .1) (found-runway (t .first-after) (t .line-after) (t .runway-after) (inMiles w) (t .orderly)),
           )
 
-exact-runs : (w : WholeLegs) (rs : List Request) (f : Side) (line : List Placed) (runway : List Aircraft) → Orderly f line runway (inMiles w) → (s : ℕ → Flight) → Each (KnownBy w s) line → Each (KnownBy w s) (map onRunway runway)
+exact-runs : (w : WholeLegs) (rs : List Request) (f : Side) (line : List Placed) (runway : List Aircraft) → Orderly f line runway (inMiles w) → (s : ℕ → Flight)
+    → Each (KnownBy w s) line → Each (KnownBy w s) (map onRunway runway)
     → Kept w (fieldOf f line runway (inMiles w)) s rs
 exact-runs w [] f line runway o s p q = record { first-then = f; line-then = line; runway-then = runway; stands = refl; known-line = p; known-runway = q }
 exact-runs w (r ∷ rs) f line runway o s p q =
@@ -211,7 +219,8 @@ exact-runs w (r ∷ rs) f line runway o s p q =
       | inr t ↦
           let z : numberOf g r ≡ 0 → ⊥ = λ q. let n = t .not-0 in omega arith in
           let e : stepOf g r .field ≡ g = field-refused g r z in
-          one-more (subst (λ (h : Field). Kept w h more rs) (sym e) (exact-runs w rs f line runway o more (refused-known w f line runway o r s z line p) (refused-known w f line runway o r s z (map onRunway runway) q)))
+          one-more (subst (λ (h : Field). Kept w h more rs) (sym e)
+          (exact-runs w rs f line runway o more (refused-known w f line runway o r s z line p) (refused-known w f line runway o r s z (map onRunway runway) q)))
     ]
 
 -- ---- by zone
@@ -219,17 +228,17 @@ module _ (w : WholeLegs) (s : ℕ → Flight) where
   abbrev AccountIn : ℕ → Aircraft → Type 0
   AccountIn z a = Account (s (a .number)) z a
 
-  inside-each : (z : ℕ) (line : List Placed) → Each (KnownBy w s) line → EachAircraft (AccountIn z) (inside z line)
+  inside-each : (z : ℕ) (line : List Placed) → Each (KnownBy w s) line → Each (AccountIn z) (inside z line)
   inside-each z [] p = tt
   inside-each z (e ∷ line) p = go (decided (eqb (e .zone) z)) (inside-each z line (p .1))
     where
-      go : (eqb (e .zone) z ≡ true) ⊎ (eqb (e .zone) z ≡ false) → EachAircraft (AccountIn z) (inside z line) → EachAircraft (AccountIn z) (inside z (e ∷ line))
+      go : (eqb (e .zone) z ≡ true) ⊎ (eqb (e .zone) z ≡ false) → Each (AccountIn z) (inside z line) → Each (AccountIn z) (inside z (e ∷ line))
       go (inl b) rest =
-          subst (EachAircraft (AccountIn z)) (sym (if-true (e .aircraft ∷ inside z line) (inside z line) b))
+          subst (Each (AccountIn z)) (sym (if-true (e .aircraft ∷ inside z line) (inside z line) b))
           (subst (λ (y : ℕ). AccountIn y (e .aircraft)) (eqb-true (e .zone) z b) (p .0 .account), rest)
-      go (inr b) rest = subst (EachAircraft (AccountIn z)) (sym (if-false (e .aircraft ∷ inside z line) (inside z line) b)) rest
+      go (inr b) rest = subst (Each (AccountIn z)) (sym (if-false (e .aircraft ∷ inside z line) (inside z line) b)) rest
 
-  runway-each : (runway : List Aircraft) → Each (KnownBy w s) (map onRunway runway) → EachAircraft (AccountIn 13) runway
+  runway-each : (runway : List Aircraft) → Each (KnownBy w s) (map onRunway runway) → Each (AccountIn 13) runway
   runway-each [] p = tt
   runway-each (x ∷ runway) p = (p .0 .account, runway-each runway (p .1))
 
@@ -239,7 +248,9 @@ exactness w rs =
     let none : ℕ → Flight = λ n. noFlight in
     let k : Kept w g none rs = subst (λ (h : Field). Kept w h none rs) (sym (empty-is (inMiles w))) (exact-runs w rs right [] [] (empty-orderly (inMiles w) (legs-legal w)) none tt tt) in
     let s : ℕ → Flight = λ n. flightAfter w n noFlight (played g rs) in
-    let In : ℕ → Type 0 = λ z. EachAircraft (AccountIn w s z) (inZone (fieldAfter g rs) z) in
+    let In : ℕ → Type 0 = λ z. Each (AccountIn w s z) (inZone (fieldAfter g rs) z) in
     zone-split {P = In}
-    (subst (EachAircraft (AccountIn w s 13)) (sym (ap (λ (h : Field). inZone h 13) (k .stands) ∙ on-runway (k .first-then) (k .line-then) (k .runway-then) (inMiles w))) (runway-each w s (k .runway-then) (k .known-runway)))
-    (λ z t. subst (EachAircraft (AccountIn w s z)) (sym (ap (λ (h : Field). inZone h z) (k .stands) ∙ in-line (k .first-then) (k .line-then) (k .runway-then) (inMiles w) z t)) (inside-each w s z (k .line-then) (k .known-line)))
+    (subst (Each (AccountIn w s 13)) (sym (ap (λ (h : Field). inZone h 13) (k .stands) ∙ on-runway (k .first-then) (k .line-then) (k .runway-then) (inMiles w)))
+    (runway-each w s (k .runway-then) (k .known-runway)))
+    (λ z t. subst (Each (AccountIn w s z)) (sym (ap (λ (h : Field). inZone h z) (k .stands) ∙ in-line (k .first-then) (k .line-then) (k .runway-then) (inMiles w) z t))
+    (inside-each w s z (k .line-then) (k .known-line)))

@@ -28,7 +28,9 @@ use Rattle.moves.proofs.Carried.{Onward, Turned}
 
 -- ---- legs
 leg-fits : (w : WholeLegs) (z : ℕ) → T (within 1 13 z) → Between 1 longestLeg (in64ths w z)
-leg-fits w = each-zone (λ (z : ℕ). Between 1 longestLeg (in64ths w z)) (w .final-fits, (w .final-fits, (w .final-fits, (w .final-fits, (w .final-fits, (w .final-fits, (w .missed-fits, (w .missed-fits, (w .base-fits, (w .base-fits, (w .intermediate-fits, (w .final-fits, (w .final-fits, tt)))))))))))))
+leg-fits w =
+    each-zone (λ (z : ℕ). Between 1 longestLeg (in64ths w z))
+    (w .final-fits, (w .final-fits, (w .final-fits, (w .final-fits, (w .final-fits, (w .final-fits, (w .missed-fits, (w .missed-fits, (w .base-fits, (w .base-fits, (w .intermediate-fits, (w .final-fits, (w .final-fits, tt)))))))))))))
 
 pub legs-legal : (w : WholeLegs) → T (legalLegs (inMiles w))
 unfolding legalLegs
@@ -37,7 +39,8 @@ legs-legal w =
     let b = legalLeg (sixtyFourths (w .base-leg)) in
     let i = legalLeg (sixtyFourths (w .intermediate-leg)) in
     let f = legalLeg (sixtyFourths (w .final-leg)) in
-    and-i (m && b && i) f (and-i (m && b) i (and-i m b (sixty-fourths-legal (w .missed-leg) (w .missed-fits)) (sixty-fourths-legal (w .base-leg) (w .base-fits))) (sixty-fourths-legal (w .intermediate-leg) (w .intermediate-fits))) (sixty-fourths-legal (w .final-leg) (w .final-fits))
+    and-i (m && b && i) f (and-i (m && b) i (and-i m b (sixty-fourths-legal (w .missed-leg) (w .missed-fits)) (sixty-fourths-legal (w .base-leg) (w .base-fits)))
+    (sixty-fourths-legal (w .intermediate-leg) (w .intermediate-fits))) (sixty-fourths-legal (w .final-leg) (w .final-fits))
 
 -- final is flown in
 flown-final : (z : ℕ) → z ≡ finalApproach → T (isFlyingZone z)
@@ -131,7 +134,8 @@ known-waiting w amount s z a e p =
         leg = p .account .leg;
         miles = λ u. absurd (false≢true (sym e ∙ passed {b = isFlyingZone z} u));
         waited =
-            subst (λ (n : ℕ). Exactly (a .waited) (min mostIn4096ths (s .before + n))) (past-waiting z (s .leg) (a .speed * s .ticks) e ∙ sym (past-waiting z (s .leg) (a .speed * (s .ticks + amount)) e)) (p .account .waited);
+            subst (λ (n : ℕ). Exactly (a .waited) (min mostIn4096ths (s .before + n)))
+            (past-waiting z (s .leg) (a .speed * s .ticks) e ∙ sym (past-waiting z (s .leg) (a .speed * (s .ticks + amount)) e)) (p .account .waited);
       };
       same-speed = p .same-speed;
       own-leg = p .own-leg;
@@ -193,24 +197,28 @@ module _ (w : WholeLegs) (s : Flight) (e g : Placed) (p : Known w s (e .zone) (e
       ap (λ (b : Bool). s .before + cond b (e .aircraft .speed * s .ticks - s .leg) 0) (sym (p .same-flown))
       ∙ ap (λ (v : ℕ). s .before + pastIn (s .zone) (s .leg) (v * s .ticks)) (p .same-speed)
 
-  known-into : (t : Flight) → t .speed ≡ s .speed → t .zone ≡ g .zone → t .ticks ≡ 0 → t .before ≡ pastSoFar s → Exactly (g .aircraft .leg) (t .leg) → LegKnown w (g .zone) (t .leg) → Known w t (g .zone) (g .aircraft)
+  known-into : (t : Flight) → t .speed ≡ s .speed → t .zone ≡ g .zone → t .ticks ≡ 0 → t .before ≡ pastSoFar s → Exactly (g .aircraft .leg) (t .leg)
+      → LegKnown w (g .zone) (t .leg) → Known w t (g .zone) (g .aircraft)
   known-into t same zone ticks before exact own =
       let v = g .aircraft .speed in
-      let sum : s .before + pastIn (e .zone) (s .leg) (e .aircraft .speed * s .ticks) ≡ t .before + pastIn (g .zone) (t .leg) (v * 0) = so-far ∙ sym before ∙ none-yet (g .zone) (t .leg) v (t .before) in
+      let sum : s .before + pastIn (e .zone) (s .leg) (e .aircraft .speed * s .ticks) ≡ t .before + pastIn (g .zone) (t .leg) (v * 0) =
+      so-far ∙ sym before ∙ none-yet (g .zone) (t .leg) v (t .before) in
       record {
         account = record {
           leg = exact;
           miles = λ u. subst (λ (n : ℕ). FlownExactly (g .aircraft .progress) (min (t .leg) (v * n))) (sym ticks) (begun (t .leg) (g .zone) (g .aircraft) begins u);
           waited =
               subst (λ (n : ℕ). Exactly (g .aircraft .waited) (min mostIn4096ths (t .before + pastIn (g .zone) (t .leg) (v * n)))) (sym ticks)
-              (subst (λ (x : Float). Exactly x (min mostIn4096ths (t .before + pastIn (g .zone) (t .leg) (v * 0)))) (sym waited) (subst (λ (n : ℕ). Exactly (e .aircraft .waited) (min mostIn4096ths n)) sum (p .account .waited)));
+              (subst (λ (x : Float). Exactly x (min mostIn4096ths (t .before + pastIn (g .zone) (t .leg) (v * 0))))
+              (sym waited) (subst (λ (n : ℕ). Exactly (e .aircraft .waited) (min mostIn4096ths n)) sum (p .account .waited)));
         };
         same-speed = speed ∙ p .same-speed ∙ sym same;
         own-leg = own;
         same-flown = ap isFlyingZone zone;
       }
 
-pub known-onward : (w : WholeLegs) (s : Flight) (zone : ℕ) (e g : Placed) → Known w s (e .zone) (e .aircraft) → Onward (inMiles w) e g → zone ≡ g .zone → Known w (onward w s zone) (g .zone) (g .aircraft)
+pub known-onward : (w : WholeLegs) (s : Flight) (zone : ℕ) (e g : Placed) → Known w s (e .zone) (e .aircraft) → Onward (inMiles w) e g → zone ≡ g .zone
+    → Known w (onward w s zone) (g .zone) (g .aircraft)
 known-onward w s zone e g p on h =
     known-into w s e g p (on .same-speed) (on .same-waited) (on .begins) (onward w s zone) refl h refl refl
     (subst (λ (y : ℕ). Exactly (g .aircraft .leg) (in4096ths w y)) (sym h) (subst (λ (x : Float). Exactly x (in4096ths w (g .zone))) (sym (on .leg-is)) (zone-leg-exact w (g .zone))))
@@ -220,7 +228,8 @@ known-onward w s zone e g p on h =
 left-of : (j k x : ℕ) → j + (k - min k x) ≡ j + (k - x)
 left-of j k x = omega arith
 
-pub known-turned : (w : WholeLegs) (s : Flight) (zone : ℕ) (e g : Placed) → Known w s (e .zone) (e .aircraft) → Turned (inMiles w) e g → zone ≡ g .zone → Known w (afterMiss w s zone) (g .zone) (g .aircraft)
+pub known-turned : (w : WholeLegs) (s : Flight) (zone : ℕ) (e g : Placed) → Known w s (e .zone) (e .aircraft) → Turned (inMiles w) e g → zone ≡ g .zone
+    → Known w (afterMiss w s zone) (g .zone) (g .aircraft)
 unfolding isFlyingZone
 known-turned w s zone e g p on h =
     let j = 64 * w .missed-leg in
@@ -234,7 +243,8 @@ known-turned w s zone e g p on h =
     let all : k ≡ 64 * w .final-leg = p .own-leg .all-of-final (on .from-final) in
     let flown : FlownExactly (e .aircraft .progress) m = p .account .miles (subst (λ (z : ℕ). T (isFlyingZone z)) (sym (on .from-final)) tt) in
     let ahead : Exactly (missedLeg (sixtyFourths (w .missed-leg)) (e .aircraft .progress) (e .aircraft .leg)) (j + (k - m)) =
-    missed-leg-exact (sixtyFourths (w .missed-leg)) (e .aircraft .leg) (e .aircraft .progress) j k m (sixty-fourths-in-4096ths (w .missed-leg) (w .missed-fits) .exact) (p .account .leg) flown (omega arith) (omega arith) in
+    missed-leg-exact (sixtyFourths (w .missed-leg)) (e .aircraft .leg) (e .aircraft .progress) j k m
+    (sixty-fourths-in-4096ths (w .missed-leg) (w .missed-fits) .exact) (p .account .leg) flown (omega arith) (omega arith) in
     let same : j + (k - m) ≡ j + n = left-of j k (v * s .ticks) ∙ ap (λ (x : ℕ). j + (k - x * s .ticks)) (p .same-speed) in
     known-into w s e g p (on .turned-speed) (on .turned-waited) (on .begins-anew) (afterMiss w s zone) refl h refl refl
     (subst (Exactly (g .aircraft .leg)) same (subst (λ (x : Float). Exactly x (j + (k - m))) (sym (on .leg-ahead)) ahead))
@@ -245,16 +255,20 @@ known-turned w s zone e g p on h =
     })
 
 -- one that has gone along from a zone that is not flown in to another
-pub known-along : (w : WholeLegs) (s : Flight) (e g : Placed) → Known w s (e .zone) (e .aircraft) → Onward (inMiles w) e g → isFlyingZone (e .zone) ≡ false → isFlyingZone (g .zone) ≡ false → Known w s (g .zone) (g .aircraft)
+pub known-along : (w : WholeLegs) (s : Flight) (e g : Placed) → Known w s (e .zone) (e .aircraft) → Onward (inMiles w) e g → isFlyingZone (e .zone) ≡ false
+    → isFlyingZone (g .zone) ≡ false → Known w s (g .zone) (g .aircraft)
 unfolding ofInt
 known-along w s e g p on i j =
-    let same : pastIn (e .zone) (s .leg) (e .aircraft .speed * s .ticks) ≡ pastIn (g .zone) (s .leg) (g .aircraft .speed * s .ticks) = past-waiting (e .zone) (s .leg) (e .aircraft .speed * s .ticks) i ∙ sym (past-waiting (g .zone) (s .leg) (g .aircraft .speed * s .ticks) j) in
+    let same : pastIn (e .zone) (s .leg) (e .aircraft .speed * s .ticks) ≡ pastIn (g .zone) (s .leg) (g .aircraft .speed * s .ticks) =
+    past-waiting (e .zone) (s .leg) (e .aircraft .speed * s .ticks) i ∙ sym (past-waiting (g .zone) (s .leg) (g .aircraft .speed * s .ticks) j) in
     let none : s .leg ≡ 0 = p .own-leg .none i in
     record {
       account = record {
         leg = subst (λ (x : Float). Exactly x (s .leg)) (sym (on .leg-is ∙ leg-not-flown (inMiles w) (g .zone) j)) (subst (Exactly (whole 0)) (sym none) (refl, refl));
         miles = λ u. absurd (false≢true (sym j ∙ passed {b = isFlyingZone (g .zone)} u));
-        waited = subst (λ (x : Float). Exactly x (min mostIn4096ths (s .before + pastIn (g .zone) (s .leg) (g .aircraft .speed * s .ticks)))) (sym (on .same-waited)) (subst (λ (n : ℕ). Exactly (e .aircraft .waited) (min mostIn4096ths (s .before + n))) same (p .account .waited));
+        waited =
+            subst (λ (x : Float). Exactly x (min mostIn4096ths (s .before + pastIn (g .zone) (s .leg) (g .aircraft .speed * s .ticks))))
+            (sym (on .same-waited)) (subst (λ (n : ℕ). Exactly (e .aircraft .waited) (min mostIn4096ths (s .before + n))) same (p .account .waited));
       };
       same-speed = on .same-speed ∙ p .same-speed;
       own-leg = record { range = λ u. absurd (false≢true (sym j ∙ passed {b = isFlyingZone (g .zone)} u)); none = λ z. none; all-of-final = λ z. absurd (final-flown z) };
@@ -272,9 +286,12 @@ known-entry w speed zone z a v x l j h =
       account = record {
         leg = subst (λ (y : Float). Exactly y 0) (sym l) (refl, refl);
         miles = λ u. absurd (false≢true (sym j ∙ passed {b = isFlyingZone z} u));
-        waited = subst (λ (y : Float). Exactly y (min mostIn4096ths (0 + pastIn z 0 (a .speed * 0)))) (sym x) (subst (λ (n : ℕ). Exactly (whole 0) (min mostIn4096ths n)) (none-yet z 0 (a .speed) 0) (refl, refl));
+        waited =
+            subst (λ (y : Float). Exactly y (min mostIn4096ths (0 + pastIn z 0 (a .speed * 0)))) (sym x)
+            (subst (λ (n : ℕ). Exactly (whole 0) (min mostIn4096ths n)) (none-yet z 0 (a .speed) 0) (refl, refl));
       };
       same-speed = v;
-      own-leg = record { range = λ u. absurd (false≢true (sym j ∙ passed {b = isFlyingZone z} u)); none = λ e. refl; all-of-final = λ e. absurd (false≢true (sym j ∙ passed {b = isFlyingZone z} (flown-final z e))) };
+      own-leg =
+          record { range = λ u. absurd (false≢true (sym j ∙ passed {b = isFlyingZone z} u)); none = λ e. refl; all-of-final = λ e. absurd (false≢true (sym j ∙ passed {b = isFlyingZone z} (flown-final z e))) };
       same-flown = ap isFlyingZone h;
     }

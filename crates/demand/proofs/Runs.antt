@@ -117,7 +117,8 @@ module _ (legs : Legs) (g : Field) (r : Request) (rs : List Request) where
       }
 
   -- after an acceptance that changes the counts as said
-  accepted-then : (p p′ : (ℕ → Bool) → ℕ) (w w′ : ℕ) → numberOf g r ≡ 0 → ((who : ℕ → Bool) → p′ who + one (leaves (r .kind) && who (r .desk)) ≡ p who + one (isEntry (r .kind) && who (r .desk))) → (addsMoves (r .kind) ≡ false → w′ + one (within 3 11 (r .kind)) ≤ w)
+  accepted-then : (p p′ : (ℕ → Bool) → ℕ) (w w′ : ℕ) → numberOf g r ≡ 0
+      → ((who : ℕ → Bool) → p′ who + one (leaves (r .kind) && who (r .desk)) ≡ p who + one (isEntry (r .kind) && who (r .desk))) → (addsMoves (r .kind) ≡ false → w′ + one (within 3 11 (r .kind)) ≤ w)
       → Run legs (stepOf g r .field) p′ w′ rs → Run legs g p w (r ∷ rs)
   accepted-then p p′ w w′ z bal light run =
       let b : eqb (stepOf g r .answer .number) 0 ≡ true = eq-eqb (stepOf g r .answer .number) 0 (number-is g r ∙ z) in

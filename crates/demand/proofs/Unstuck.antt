@@ -29,11 +29,11 @@ use Rattle.order.proofs.Facts.{headKind, head-moves}
 use Rattle.rules.specs.Kinds.{placeBefore, zoneBefore, startsFrom, belongsTo, headChecks, mayApproach, mayMerge, baseFree}
 use Rattle.rules.specs.Step.{checksOf}
 use Rattle.demand.specs.Demand.{allFlownOut, movesOn, MovesOn}
-use Rattle.field.proofs.Tests.{passed, failed, each-zone, every-from}
+use Rattle.field.proofs.Tests.{passed, failed, each-operation, every-from}
 use Rattle.field.proofs.Lists.{alone}
 use Rattle.line.proofs.Lists.{every-right}
 use Rattle.line.proofs.Line.{Placed, zonesIn, numbersOf, inside, fieldOf}
-use Rattle.line.proofs.Counted.{lower, in-line, how-many, how-many-runway}
+use Rattle.line.proofs.Counted.{in-line, how-many, how-many-runway}
 use Rattle.questions.proofs.FindLaws.{at}
 use Rattle.line.proofs.Located.{located, located-runway, inside-at, first-there, head-there}
 use Rattle.line.proofs.Leaders.{nonzero}
@@ -73,7 +73,8 @@ module _ (f : Side) (line : List Placed) (runway : List Aircraft) (legs : Legs) 
       }
 
   -- 12, 26, 13 and 14 pass for the one at the head of a zone that the kind starts from
-  head-checks : (z : ℕ) → placeOf F (a .number) ≡ at z 1 → aircraftAt F z 1 ≡ a → T (not (eqb z 0)) → T (startsFrom k z) → (rest : List (ℕ × Bool)) → firstRefused rest ≡ 0 → firstRefused (headChecks k (placeBefore F r) (owned F r) ++ rest) ≡ 0
+  head-checks : (z : ℕ) → placeOf F (a .number) ≡ at z 1 → aircraftAt F z 1 ≡ a → T (not (eqb z 0)) → T (startsFrom k z) → (rest : List (ℕ × Bool))
+      → firstRefused rest ≡ 0 → firstRefused (headChecks k (placeBefore F r) (owned F r) ++ rest) ≡ 0
   unfolding belongsTo
   head-checks z p w t u rest e =
       ap (λ (q : Place). firstRefused ((12, not (eqb (q .zone) 0)) ∷ (26, eqb (aircraftAt F (q .zone) (q .place) .desk) (a .desk)) ∷ (13, startsFrom k (q .zone)) ∷ (14, eqb (q .place) 1) ∷ rest)) p
@@ -88,7 +89,8 @@ unfolding startsFrom
 taxi f line x legs o =
     let F = fieldOf f line (x ∷ []) legs in
     let al = alone (numbersOf line) (x .number) [] (o .different) in
-    accept f line (x ∷ []) legs o 8 x (omega arith) (omega arith) tt (and-l (nonzero (x .number)) true (every-right nonzero (numbersOf line) (x .number ∷ []) (o .nonzeros))) (desk-of legs 13 x (and-l (fitsZone legs 13 x) true (o .fit-runway)))
+    accept f line (x ∷ []) legs o 8 x (omega arith) (omega arith) tt (and-l (nonzero (x .number)) true (every-right nonzero (numbersOf line) (x .number ∷ []) (o .nonzeros)))
+    (desk-of legs 13 x (and-l (fitsZone legs 13 x) true (o .fit-runway)))
     (ap firstRefused (checks-at F (move 8 x) {k = 8} refl) ∙ head-checks f line (x ∷ []) legs o 8 x 13 (located-runway f line x legs (al .ahead)) (runway-head f line x legs) tt tt [] refl)
 
 -- ---- the first of the sequence, with nobody on the runway
@@ -143,7 +145,8 @@ module _ (f : Side) (e : Placed) (b : List Placed) (legs : Legs) (o : Orderly f 
   free-empty w t u = ap (λ (c : ℕ). eqb c 0) (how-many f (e ∷ b) [] legs w t) ∙ passed u
 
   -- a kind whose other checks pass
-  by-kind : (k : ℕ) → 3 ≤ k → k ≤ 11 → T (movesOn k) → T (startsFrom k z) → checksOf G (move k x) ≡ headChecks k (placeBefore G (move k x)) (owned G (move k x)) ++ besides G (move k x) k → firstRefused (besides G (move k x) k) ≡ 0 → MovesOn G
+  by-kind : (k : ℕ) → 3 ≤ k → k ≤ 11 → T (movesOn k) → T (startsFrom k z)
+      → checksOf G (move k x) ≡ headChecks k (placeBefore G (move k x)) (owned G (move k x)) ++ besides G (move k x) k → firstRefused (besides G (move k x) k) ≡ 0 → MovesOn G
   by-kind k l h t s c d =
       accept f (e ∷ b) [] legs o k x l h t named (desk-of legs z x (fit-here f [] e b [] legs o))
       (ap firstRefused c ∙ head-checks f (e ∷ b) [] legs o k x z place (head-there f [] e b [] legs (o .different) z-in refl) (not-zero z z-in) s (besides G (move k x) k) d)
@@ -155,11 +158,12 @@ module _ (f : Side) (e : Placed) (b : List Placed) (legs : Legs) (o : Orderly f 
   unfolding startsFrom isFlyingZone mayApproach mayMerge baseFree sideOf opposite
   first-moves =
       let hm = head-moves f z (zonesIn b) (o .okay-line) in
-      let holds = each-zone (λ (y : ℕ). z ≡ y → T (eqb y 12 || needs (headKind y) [] y (zonesIn b)) → MovesOn G) in
+      let holds = each-operation (λ (y : ℕ). z ≡ y → T (eqb y 12 || needs (headKind y) [] y (zonesIn b)) → MovesOn G) in
       let down : (y : ℕ) → z ≡ y → T (startsFrom 3 y) → T (within 1 12 (at2000 y)) → T (free (y ∷ zonesIn b) (at2000 y)) → MovesOn G =
       λ y q s t u.
       by-kind 3 (omega arith) (omega arith) tt (subst (λ (v : ℕ). T (startsFrom 3 v)) (sym q) s) (checks-at G (move 3 x) {k = 3} refl)
-      (ap (λ (v : ℕ). cond (isEmpty G (at2000 v)) 0 21) (before-is 3 ∙ q) ∙ ap (λ (c : Bool). cond c 0 21) (free-empty (at2000 y) t (subst (λ (v : ℕ). T (free (v ∷ zonesIn b) (at2000 y))) (sym q) u))) in
+      (ap (λ (v : ℕ). cond (isEmpty G (at2000 v)) 0 21) (before-is 3 ∙ q)
+      ∙ ap (λ (c : Bool). cond c 0 21) (free-empty (at2000 y) t (subst (λ (v : ℕ). T (free (v ∷ zonesIn b) (at2000 y))) (sym q) u))) in
       let led : (low high : ℕ) → (isFirst (G .sequence) m || within low high (leaderZone G m)) ≡ true = λ low high. ap (λ (c : Bool). c || within low high (leaderZone G m)) first in
       let in-to-base : (y : ℕ) → z ≡ y → T (startsFrom 4 y) → (within 5 6 y || baseFree G (sideOf y)) ≡ true → MovesOn G =
       λ y q s u.
@@ -181,48 +185,28 @@ module _ (f : Side) (e : Placed) (b : List Placed) (legs : Legs) (o : Orderly f 
       (input.none-refused (besides G (move 11 x) 11) (flies 11 y q u, tt)) in
       holds (
         (λ q u. down 1 q tt tt u),
-        (
-          (λ q u. down 2 q tt tt u),
-          (
-            (λ q u. in-to-base 3 q tt (base-of 3 10 q tt u)),
-            (
-              (λ q u. in-to-base 4 q tt (base-of 4 9 q tt u)),
-              (
-                (λ q u. in-to-base 5 q tt refl),
-                (
-                  (λ q u. in-to-base 6 q tt refl),
-                  (
-                    (λ q u. holding 7 q tt tt),
-                    (
-                      (λ q u. holding 8 q tt tt),
-                      (
-                        (λ q u. merges 9 q tt tt),
-                        (
-                          (λ q u. merges 10 q tt tt),
-                          (
-                            (λ q u. by-kind 6 (omega arith) (omega arith) tt (subst (λ (v : ℕ). T (startsFrom 6 v)) (sym q) tt) (checks-at G (move 6 x) {k = 6} refl) (input.none-refused (besides G (move 6 x) 6) (flies 6 11 q tt, tt))),
-                            (
-                              (λ q u. by-kind 7 (omega arith) (omega arith) tt (subst (λ (v : ℕ). T (startsFrom 7 v)) (sym q) tt) (checks-at G (move 7 x) {k = 7} refl) (input.none-refused (besides G (move 7 x) 7) (flies 7 12 q tt, (ap (λ (c : ℕ). eqb c 0) (how-many-runway f (e ∷ b) [] legs), tt)))),
-                              ((λ q u. absurd (let t = leb→le z 12 (and-r (leb 1 z) (leb z 12) z-in) in omega arith)), tt),
-                            ),
-                          ),
-                        ),
-                      ),
-                    ),
-                  ),
-                ),
-              ),
-            ),
-          ),
-        ),
+        (λ q u. down 2 q tt tt u),
+        (λ q u. in-to-base 3 q tt (base-of 3 10 q tt u)),
+        (λ q u. in-to-base 4 q tt (base-of 4 9 q tt u)),
+        (λ q u. in-to-base 5 q tt refl),
+        (λ q u. in-to-base 6 q tt refl),
+        (λ q u. holding 7 q tt tt),
+        (λ q u. holding 8 q tt tt),
+        (λ q u. merges 9 q tt tt),
+        (λ q u. merges 10 q tt tt),
+        (λ q u. by-kind 6 (omega arith) (omega arith) tt (subst (λ (v : ℕ). T (startsFrom 6 v)) (sym q) tt)
+            (checks-at G (move 6 x) {k = 6} refl) (input.none-refused (besides G (move 6 x) 6) (flies 6 11 q tt, tt))),
+        (λ q u. by-kind 7 (omega arith) (omega arith) tt (subst (λ (v : ℕ). T (startsFrom 7 v)) (sym q) tt) (checks-at G (move 7 x) {k = 7} refl)
+            (input.none-refused (besides G (move 7 x) 7) (flies 7 12 q tt, (ap (λ (c : ℕ). eqb c 0) (how-many-runway f (e ∷ b) [] legs), tt)))),
       )
-      z (lower z z-in) refl hm
+      z z-in refl hm
     where
       or-true : (c : Bool) → (c || true) ≡ true
       or-true true = refl
       or-true false = refl
 
-pub unstuck : (f : Side) (line : List Placed) (runway : List Aircraft) (legs : Legs) → Orderly f line runway legs → 0 < length line + length runway → T (allFlownOut (fieldOf f line runway legs)) → MovesOn (fieldOf f line runway legs)
+pub unstuck : (f : Side) (line : List Placed) (runway : List Aircraft) (legs : Legs) → Orderly f line runway legs → 0 < length line + length runway
+    → T (allFlownOut (fieldOf f line runway legs)) → MovesOn (fieldOf f line runway legs)
 unstuck f [] [] legs o p t = absurd (omega arith)
 unstuck f (e ∷ b) [] legs o p t = first-moves f e b legs o t
 unstuck f line (x ∷ []) legs o p t = taxi f line x legs o

@@ -1,6 +1,5 @@
--- Exactness, of demand 2 (document 01, "The requests"): "From an empty field whose legs are whole 64ths, the miles times 4096 are exactly
--- the smaller of 64 times the leg in 64ths and the speed times the tick amounts added up since the leg began." The miles waited of document
--- 02, 2.2, are exact too, and so is the leg of an aircraft's own: "Miles stay exact, with the leg counted in 4096ths." (02, 2.7)
+-- Exactness, of demand 2 (01, "The requests"): with legs in whole 64ths of a mile, the miles of everyone who flies are a whole number of 4096ths, which its
+-- speed, its leg and the ticks since that began tell. So are the miles waited (02, 2.2) and an aircraft's own leg (02, 2.7).
 use mathlib.Core.Bool.{cond, _&&_, _||_}
 use mathlib.Core.List.{List, [], _∷_}
 use Prim.Native.Nat.{ℕ, _+_, _-_, _*_, min}
@@ -13,6 +12,7 @@ use Rattle.field.specs.declared.Aircraft.{Aircraft}
 use Rattle.field.specs.declared.Legs.{Legs}
 use Rattle.field.specs.declared.Field.{Field}
 use Rattle.field.specs.Boxes.{missed, base, intermediate, right, left, isFlyingZone, inZone, legsIn64ths, emptyField}
+use Rattle.field.specs.Lists.{Each}
 use Rattle.rules.specs.declared.Answer.{Answer}
 use Rattle.rules.specs.Play.{fieldAfter, played, isAccepted}
 
@@ -67,7 +67,7 @@ noFlight = record { speed = 0; zone = 0; leg = 0; ticks = 0; before = 0 }
 abbrev pub ticking : Flight → ℕ → Flight
 ticking s amount = record { speed = s .speed; zone = s .zone; leg = s .leg; ticks = s .ticks + amount; before = s .before }
 
--- an entry: the miles waited are added up "from entry to leaving" (02, 2.2)
+-- an entry: nothing is flown yet, and nothing past the end of a leg (02, 2.2)
 abbrev pub entry : ℕ → ℕ → Flight
 entry speed zone = record { speed = speed; zone = zone; leg = 0; ticks = 0; before = 0 }
 
@@ -97,26 +97,20 @@ abbrev pub flightAfter : WholeLegs → ℕ → Flight → List (Request × Answe
 flightAfter w number s [] = s
 flightAfter w number s (p ∷ ps) = flightAfter w number (flightWith w number s p) ps
 
--- what holds of each aircraft
-abbrev pub EachAircraft : (Aircraft → Type 0) → List Aircraft → Type 0
-EachAircraft P [] = Unit {0}
-EachAircraft P (a ∷ rest) = P a × EachAircraft P rest
-
 -- what is exact of an aircraft in zone z with this flight
 pub record Account (s : Flight) (z : ℕ) (a : Aircraft) : Type 0 where
-  -- in whichever zone, its own leg times 4096 is that of its flight (02, 2.7)
+  -- in every zone its own leg is that of its flight, in 4096ths (02, 2.7)
   pub leg : Exactly (a .leg) (s .leg)
-  -- in zones 7 to 12 the miles times 4096 are the smaller of that and the speed times the tick amounts since the leg began
+  -- where it flies, its miles in 4096ths are its speed times its ticks, or that leg where it is shorter
   pub miles : T (isFlyingZone z) → FlownExactly (a .progress) (min (s .leg) (a .speed * s .ticks))
-  -- in whichever zone, the miles waited times 4096 are the smaller of 4096 times 4096 and what the aircraft flew past the ends of its legs,
-  -- this one included (02, 2.2)
+  -- in every zone its miles waited, in 4096ths, are what it flew past the ends of its legs, this one included, and no more than 4096 miles (02, 2.2)
   pub waited : Exactly (a .waited) (min mostIn4096ths (s .before + pastIn z (s .leg) (a .speed * s .ticks)))
 
 -- that is so of everyone on the field f after a list of requests with these answers, ..
 abbrev pub ExactOf : WholeLegs → List (Request × Answer) → Field → Type 0
 ExactOf w answers f =
     (zone : ℕ) → T (within 1 13 zone)
-    → EachAircraft (λ a. Account (flightAfter w (a .number) noFlight answers) zone a) (inZone f zone)
+    → Each (λ a. Account (flightAfter w (a .number) noFlight answers) zone a) (inZone f zone)
 
 -- .. played from the empty field
 abbrev pub Exact : WholeLegs → List Request → Type 0

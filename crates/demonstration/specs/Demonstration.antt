@@ -24,7 +24,7 @@ endLine ending played = endWord ending ++ line (played ∷ [])
 unfoldable pub buttonReport : Field → List ℕ
 buttonReport f = heldLines f ++ endLine (heldOf f .ending) (heldOf f .played)
 
--- of what a file means: the button is held down on the field after its last request, and a refused file gives only `file` and its number
+-- of what a file means: the button is held down on the field after its last request; a refused file has the report that `play` gives of it
 abbrev pub practiceButton : Practice → List ℕ
 practiceButton (refused number) = refusedReport number
 practiceButton (holds legs requests) = buttonReport (fieldFrom (legsInMiles legs) requests)

@@ -122,7 +122,9 @@ module _ (f : Field) (h : T (hasPlaces f)) (t : T (withinBounds f)) (side : ℕ)
       (record {
         input = move-allowed r (omega arith) (omega arith) (record { side = refl; number = numbered f t side b occupied; amount = refl }) (desked f t side b occupied);
         before = passed t;
-        checks = ap firstRefused (checks-at f r {k = 3} refl) ∙ ap (λ (p : Place). firstRefused (headChecks 3 p (belongsTo f p (r .desk)) ++ descendNeeds f (p .zone))) (found-above f t side b occupied) ∙ unrefused;
+        checks =
+            ap firstRefused (checks-at f r {k = 3} refl) ∙ ap (λ (p : Place). firstRefused
+            (headChecks 3 p (belongsTo f p (r .desk)) ++ descendNeeds f (p .zone))) (found-above f t side b occupied) ∙ unrefused;
         after =
             ap withinBounds (moves-down ∙ moved-down f (shaped f h t) side b (aircraftAt f side 1) (alone-above f t side b occupied) (none-below f t side b free))
             ∙ passed (within-down f (shaped f h t) t side b (aircraftAt f side 1) (alone-above f t side b occupied) (none-below f t side b free));

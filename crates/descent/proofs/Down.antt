@@ -111,11 +111,13 @@ module _ (f : Field) (k : Shaped f) (side : ℕ) (b : Between 1 2 side) (x : Air
   pub sum-down : (count : ℕ → List Aircraft → ℕ) (zs : List ℕ) → T (allDifferent zs) → isIn w zs ≡ isIn side zs → count side [] ≡ 0 → count w [] ≡ 0 → count w (lower ∷ []) ≡ count side (x ∷ [])
       → total (λ y. count y (inZone down y)) zs ≡ total (λ y. count y (inZone f y)) zs
   sum-down count zs d both none none′ same =
-      balanced (isIn side zs) (total (λ y. count y (inZone down y)) zs) (total (λ y. count y (inZone f₁ y)) zs) (total (λ y. count y (inZone f y)) zs) (count w (inZone f₁ w)) (count w (queueOf q₂)) (count side (inZone f side)) (count side (queueOf (withoutHead (zoneOf f side))))
+      balanced (isIn side zs) (total (λ y. count y (inZone down y)) zs) (total (λ y. count y (inZone f₁ y)) zs) (total (λ y. count y (inZone f y)) zs)
+      (count w (inZone f₁ w)) (count w (queueOf q₂)) (count side (inZone f side)) (count side (queueOf (withoutHead (zoneOf f side))))
       (ap (count w) none-yet ∙ none′)
       (ap (count side) (sym (queue-replaced f side (withoutHead (zoneOf f side)) from-zone (k .zones)) ∙ taken) ∙ none)
       (ap (count w) (sym (queue-replaced f₁ w q₂ to-zone (shaped₁ .zones)) ∙ one-below) ∙ same ∙ ap (count side) (sym here))
-      (subst (λ (c : Bool). total (λ y. count y (inZone down y)) zs + cond c (count w (inZone f₁ w)) 0 ≡ total (λ y. count y (inZone f₁ y)) zs + cond c (count w (queueOf q₂)) 0) both (sum-with f₁ w q₂ to-zone (shaped₁ .zones) count zs d))
+      (subst (λ (c : Bool). total (λ y. count y (inZone down y)) zs + cond c (count w (inZone f₁ w)) 0 ≡ total (λ y. count y (inZone f₁ y)) zs + cond c (count w (queueOf q₂)) 0) both
+      (sum-with f₁ w q₂ to-zone (shaped₁ .zones) count zs d))
       (sum-with f side (withoutHead (zoneOf f side)) from-zone (k .zones) count zs d)
 
   -- of the lists of zones that the bounds and the needs count over
@@ -165,4 +167,5 @@ module _ (f : Field) (k : Shaped f) (side : ℕ) (b : Between 1 2 side) (x : Air
   unfolding potentialOf countedFor howMany howManyWithFix
   potential-down =
       sum-down (λ y l. cond (isIn y (area side)) (length l) (haveFix side l)) operation tt in-operation (nobody-counts (isIn side (area side))) (nobody-counts (isIn w (area side)))
-      (if-true 1 (haveFix side (lower ∷ [])) (by-side (λ (s : ℕ). isIn (at2000 s) (area s) ≡ true) refl refl) ∙ sym (if-true 1 (haveFix side (x ∷ [])) (by-side (λ (s : ℕ). isIn s (area s) ≡ true) refl refl)))
+      (if-true 1 (haveFix side (lower ∷ [])) (by-side (λ (s : ℕ). isIn (at2000 s) (area s) ≡ true) refl refl)
+      ∙ sym (if-true 1 (haveFix side (x ∷ [])) (by-side (λ (s : ℕ). isIn s (area s) ≡ true) refl refl)))

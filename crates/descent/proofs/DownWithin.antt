@@ -33,7 +33,7 @@ use Rattle.laws.proofs.Fits.{arrived-fits}
 use Rattle.laws.proofs.TickLaws.{every-then}
 use Rattle.laws.proofs.SameQueues.{kept-head, kept-tail}
 use Rattle.line.proofs.Members.{absent-count, count-absent, numbers-total}
-use Rattle.moves.proofs.Kept.{different-of, nonzero-of}
+use Rattle.moves.proofs.StaysOrderly.{different-of, nonzero-of}
 use Rattle.descent.proofs.Down.{head-is, down, lower, none-above, one-below, elsewhere, each-zone-down, sum-down, in-operation, in-everywhere, operation-down, area-down, per-fix-down}
 
 -- ---- lists with each number as often
@@ -58,7 +58,8 @@ every-some p (x ∷ xs) ys h t =
     or-true false = refl
 
 -- the fix of one that stands at a place, where numbers differ
-fix-at : (f : Field) → T (allDifferent (numbersIn f everywhere)) → (z place n : ℕ) → Between 1 13 z → 1 ≤ place → place ≤ howMany f z → aircraftAt f z place .number ≡ n → fixOf f n ≡ aircraftAt f z place .fix
+fix-at : (f : Field) → T (allDifferent (numbersIn f everywhere)) → (z place n : ℕ) → Between 1 13 z → 1 ≤ place → place ≤ howMany f z → aircraftAt f z place .number ≡ n
+    → fixOf f n ≡ aircraftAt f z place .fix
 unfolding fixOf
 fix-at f d z place n r l h e = ap (λ (p : Place). aircraftAt f (p .zone) (p .place) .fix) (ap (placeOf f) (sym e) ∙ own-place f z place d r l h)
 
@@ -99,7 +100,9 @@ module _ (f : Field) (k : Shaped f) (t : T (withinBounds f)) (side : ℕ) (b : B
   -- ---- a, b and d
   a-down : T (boundA g)
   unfolding boundA
-  a-down = subst T (sym (ap (λ (n : ℕ). leb n 4 && leb (howMany g runway) 1) (operation-down f k side b x here below) ∙ ap (λ (n : ℕ). leb (inOperation f) 4 && leb n 1) (many-other runway (past runway (omega arith))))) (within-each f t .bound-a)
+  a-down =
+      subst T (sym (ap (λ (n : ℕ). leb n 4 && leb (howMany g runway) 1) (operation-down f k side b x here below)
+      ∙ ap (λ (n : ℕ). leb (inOperation f) 4 && leb n 1) (many-other runway (past runway (omega arith))))) (within-each f t .bound-a)
 
   b-down : T (boundB g)
   unfolding boundB
@@ -111,7 +114,8 @@ module _ (f : Field) (k : Shaped f) (t : T (withinBounds f)) (side : ℕ) (b : B
   d-down : T (boundD g)
   unfolding boundD
   d-down =
-      subst T (sym (ap (λ (n : ℕ). leb n 2 && leb (perFix g left) 2) (per-fix-down f k side b x here below right) ∙ ap (λ (n : ℕ). leb (perFix f right) 2 && leb n 2) (per-fix-down f k side b x here below left)))
+      subst T (sym (ap (λ (n : ℕ). leb n 2 && leb (perFix g left) 2) (per-fix-down f k side b x here below right)
+      ∙ ap (λ (n : ℕ). leb (perFix f right) 2 && leb n 2) (per-fix-down f k side b x here below left)))
       (within-each f t .bound-d)
 
   -- ---- c
@@ -144,7 +148,8 @@ module _ (f : Field) (k : Shaped f) (t : T (withinBounds f)) (side : ℕ) (b : B
         | inl e ↦
             let q = eqb-true s side e in
             or-left (isEmpty g (lateral s)) (isEmpty g (at3000 s) && isEmpty g (at2000 s) && isEmpty g (missed s))
-            (pass (ap (λ (c : ℕ). eqb c 0) (many-other (lateral s) (past (lateral s) (let l = h .least in omega arith))) ∙ ap (λ (y : ℕ). isEmpty f (lateral y)) q ∙ own-lateral (subst (λ (y : ℕ). T (lateralRule f y)) q u)))
+            (pass (ap (λ (c : ℕ). eqb c 0) (many-other (lateral s) (past (lateral s) (let l = h .least in omega arith)))
+            ∙ ap (λ (y : ℕ). isEmpty f (lateral y)) q ∙ own-lateral (subst (λ (y : ℕ). T (lateralRule f y)) q u)))
         | inr e ↦
             let ne = eqb-false s side e in
             let l = h .least in
@@ -253,7 +258,8 @@ module _ (f : Field) (k : Shaped f) (t : T (withinBounds f)) (side : ℕ) (b : B
       let one : place ≡ 1 = let m = ap length here in omega arith in
       let named : x .number ≡ n = ap (λ (a : Aircraft). a .number) (sym (ap (aircraftAt f side) one ∙ head-is f side x here)) ∙ e in
       let found = head-is g w (lower f k side b x here below) (one-below f k side b x here below) in
-      fix-at g different w 1 n (record { least = omega arith; most = let m = b .most in omega arith }) (omega arith) (let m = ap length (one-below f k side b x here below) in omega arith) (ap (λ (a : Aircraft). a .number) found ∙ into-arrived (f .legs) w x .number ∙ named)
+      fix-at g different w 1 n (record { least = omega arith; most = let m = b .most in omega arith }) (omega arith)
+      (let m = ap length (one-below f k side b x here below) in omega arith) (ap (λ (a : Aircraft). a .number) found ∙ into-arrived (f .legs) w x .number ∙ named)
       ∙ ap (λ (a : Aircraft). a .fix) found ∙ into-arrived (f .legs) w x .fix ∙ ap (λ (a : Aircraft). a .fix) (sym (ap (aircraftAt f side) one ∙ head-is f side x here)))
       (λ place r l h e. absurd (let m = ap length below in omega arith))
       (λ z o place r l h e.
@@ -288,7 +294,8 @@ module _ (f : Field) (k : Shaped f) (t : T (withinBounds f)) (side : ℕ) (b : B
       (λ u. subst (λ (l : List Aircraft). T (every (fitsZone (f .legs) side) l)) (sym (none-above f k side b x here below)) tt)
       (λ u.
       let fit = and-l (fitsZone (f .legs) side x) true (subst (λ (l : List Aircraft). T (every (fitsZone (f .legs) side) l)) here v) in
-      subst (λ (l : List Aircraft). T (every (fitsZone (f .legs) w) l)) (sym (one-below f k side b x here below)) (and-i (fitsZone (f .legs) w low) true (arrived-fits (f .legs) legal side w x fit) tt))
+      subst (λ (l : List Aircraft). T (every (fitsZone (f .legs) w) l)) (sym (one-below f k side b x here below))
+      (and-i (fitsZone (f .legs) w low) true (arrived-fits (f .legs) legal side w x fit) tt))
       (λ z o u. subst (λ (l : List Aircraft). T (every (fitsZone (f .legs) z) l)) (sym (queue-other z o)) u)
 
   g-down : T (boundG g)

@@ -75,7 +75,8 @@ vertical-20 f side l h e =
       | inr u ↦ absurd (let n : 16 ≡ 20 = sym (if-false _ 16 u) ∙ e in omega arith)
     ]
   where
-    rest : ltb (potentialOf f side) 2 ≡ true → firstRefused (verticalNeeds f side) ≡ firstRefused ((17, not (approachHolds f side)) ∷ (18, isEmpty f (missed side)) ∷ (19, isEmpty f (lateral side)) ∷ [])
+    rest : ltb (potentialOf f side) 2 ≡ true
+        → firstRefused (verticalNeeds f side) ≡ firstRefused ((17, not (approachHolds f side)) ∷ (18, isEmpty f (missed side)) ∷ (19, isEmpty f (lateral side)) ∷ [])
     rest u =
         if-true _ 16 u
         ∙ ap (λ (c : Bool). cond (not (approachHolds f side)) (cond (isEmpty f (missed side)) (cond (isEmpty f (lateral side)) (cond c 0 20) 19) 18) 17) (one-empty f side l h u)

@@ -1,4 +1,4 @@
--- Document 01, "3 descend", on any field within the bounds: what is shown of the one at 3000 of a side.
+-- Kind 3, the descent (01, "The requests"), on any field within the bounds: what is shown of the one at 3000 of a side.
 use mathlib.Core.Path.{_≡_}
 use Prim.Native.Nat.{ℕ}
 use Rattle.request.specs.declared.Request.{Request}

@@ -13,10 +13,11 @@ use Rattle.descent.specs.Descent.{descendFrom}
 abbrev pub butAlong : Answer → Answer
 butAlong a = record { number = a .number; aircraft = a .aircraft; zone = a .zone; fix = a .fix; leader = a .leader; along = 0 }
 
--- the request of the one at 3000 of an entry's side to descend, and the field after it
+-- the request of the one at 3000 of an entry's side to descend
 abbrev pub descendBefore : Field → Request → Request
 descendBefore f r = descendFrom f (r .side)
 
+-- the field after it
 abbrev pub descendedBefore : Field → Request → Field
 descendedBefore f r = stepOf f (descendBefore f r) .field
 

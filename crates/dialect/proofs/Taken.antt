@@ -13,7 +13,7 @@ use Rattle.field.specs.Boxes.{orderOf}
 use Rattle.field.proofs.Shapes.{order-next}
 use Rattle.dialect.specs.declared.Entry.{Entry}
 use Rattle.dialect.specs.declared.Listing.{Listing}
-use Rattle.dialect.specs.Going.{entryOf, entriesFrom, noEntry, listed}
+use Rattle.dialect.specs.Going.{listEntry, listEntries, noEntry, listed}
 
 -- the five places, of which the first hold these
 abbrev pub held : List Entry → List Entry
@@ -35,41 +35,41 @@ module _ (f : Field) where
     pub found : List Entry
     pub array : entries ≡ held found
     pub counted : i ≡ length found
-    pub rest : found ++ entriesFrom f (suc i) (drop i (orderOf s)) ≡ entriesFrom f 1 (orderOf s)
+    pub rest : found ++ listEntries f (suc i) (drop i (orderOf s)) ≡ listEntries f 1 (orderOf s)
 
   pub taken-none : (s : Sequence) {entries : List Entry} → entries ≡ replicate 5 noEntry → Taken s entries 0
   taken-none s e = record { found = []; array = e; counted = refl; rest = refl }
 
   -- the next of the sequence, at the place after its index
-  pub taken-more : (s : Sequence) (i : ℕ) → i < length (orderOf s) → i < 5 → {entries : List Entry} → Taken s entries i → {e : Entry} → e ≡ entryOf f (getD (s .numbers) i 0) (i + 1)
+  pub taken-more : (s : Sequence) (i : ℕ) → i < length (orderOf s) → i < 5 → {entries : List Entry} → Taken s entries i → {e : Entry} → e ≡ listEntry f (getD (s .numbers) i 0) (i + 1)
       → Taken s (set entries i e) (i + 1)
   taken-more s i h room {entries} p {e} same = record {
     found = p .found ++ (e ∷ []);
     array = ap (λ (r : List Entry). set r i e) (p .array) ∙ ap (λ (n : ℕ). set (held (p .found)) n e) (p .counted) ∙ held-more (p .found) e (let c = p .counted in omega arith);
     counted = let c = p .counted in let long = length-append (p .found) (e ∷ []) in omega arith;
     rest =
-        let behind = entriesFrom f (suc (i + 1)) (drop (i + 1) (orderOf s)) in
-        let here : entryOf f (getD (s .numbers) i 0) (suc i) ∷ entriesFrom f (suc (suc i)) (drop (i + 1) (orderOf s)) ≡ entriesFrom f (suc i) (drop i (orderOf s))
-        = ap (entriesFrom f (suc i)) (sym (order-next s i h)) in
+        let behind = listEntries f (suc (i + 1)) (drop (i + 1) (orderOf s)) in
+        let here : listEntry f (getD (s .numbers) i 0) (suc i) ∷ listEntries f (suc (suc i)) (drop (i + 1) (orderOf s)) ≡ listEntries f (suc i) (drop i (orderOf s))
+        = ap (listEntries f (suc i)) (sym (order-next s i h)) in
         append-assoc (p .found) (e ∷ []) behind
-        ∙ ap (λ (x : Entry). p .found ++ (x ∷ behind)) (same ∙ ap (entryOf f (getD (s .numbers) i 0)) (add-one i))
-        ∙ ap (λ (k : ℕ). p .found ++ (entryOf f (getD (s .numbers) i 0) (suc i) ∷ entriesFrom f (suc k) (drop (i + 1) (orderOf s)))) (add-one i)
+        ∙ ap (λ (x : Entry). p .found ++ (x ∷ behind)) (same ∙ ap (listEntry f (getD (s .numbers) i 0)) (add-one i))
+        ∙ ap (λ (k : ℕ). p .found ++ (listEntry f (getD (s .numbers) i 0) (suc i) ∷ listEntries f (suc k) (drop (i + 1) (orderOf s)))) (add-one i)
         ∙ ap (λ (r : List Entry). p .found ++ r) here
         ∙ p .rest;
   }
 
   module _ (i : ℕ) {entries : List Entry} (end : length (orderOf (f .sequence)) ≤ i) (p : Taken (f .sequence) entries i) where
-    all : p .found ≡ entriesFrom f 1 (orderOf (f .sequence))
-    all = sym (append-nil (p .found)) ∙ ap (λ (r : List ℕ). p .found ++ entriesFrom f (suc i) r) (sym (drop-of-length-le (orderOf (f .sequence)) {i = i} end)) ∙ p .rest
+    all : p .found ≡ listEntries f 1 (orderOf (f .sequence))
+    all = sym (append-nil (p .found)) ∙ ap (λ (r : List ℕ). p .found ++ listEntries f (suc i) r) (sym (drop-of-length-le (orderOf (f .sequence)) {i = i} end)) ∙ p .rest
 
     -- past the last of the sequence ..
-    pub taken-all : {count : ℕ} → count ≡ i → _≡_ {A = Listing} (record { number = 0; count = count; entries = entries }) (listed (entriesFrom f 1 (orderOf (f .sequence))))
+    pub taken-all : {count : ℕ} → count ≡ i → _≡_ {A = Listing} (record { number = 0; count = count; entries = entries }) (listed (listEntries f 1 (orderOf (f .sequence))))
     unfolding listed
     taken-all n = (λ t. record { number = 0; count = (n ∙ p .counted) t; entries = p .array t }) ∙ ap listed all
 
     -- .. and with one more behind it
     pub taken-last : i < 5 → {e x : Entry} → e ≡ x → {count : ℕ} → count ≡ i
-        → _≡_ {A = Listing} (record { number = 0; count = count + 1; entries = set entries count e }) (listed (entriesFrom f 1 (orderOf (f .sequence)) ++ (x ∷ [])))
+        → _≡_ {A = Listing} (record { number = 0; count = count + 1; entries = set entries count e }) (listed (listEntries f 1 (orderOf (f .sequence)) ++ (x ∷ [])))
     unfolding listed
     taken-last room {e} same {count} n =
         let longer = length-append (p .found) (e ∷ []) in
@@ -77,7 +77,7 @@ module _ (f : Field) where
         let counted : count + 1 ≡ length (p .found ++ (e ∷ [])) = omega arith in
         let array : set entries count e ≡ held (p .found ++ (e ∷ []))
         = ap (λ (r : List Entry). set r count e) (p .array) ∙ ap (λ (n : ℕ). set (held (p .found)) n e) (n ∙ p .counted) ∙ held-more (p .found) e (omega arith) in
-        let both = ap (λ (l : List Entry). l ++ (e ∷ [])) all ∙ ap (λ (y : Entry). entriesFrom f 1 (orderOf (f .sequence)) ++ (y ∷ [])) same in
+        let both = ap (λ (l : List Entry). l ++ (e ∷ [])) all ∙ ap (λ (y : Entry). listEntries f 1 (orderOf (f .sequence)) ++ (y ∷ [])) same in
         (λ t. record { number = 0; count = counted t; entries = array t }) ∙ ap listed both
 
 -- the last test of a list

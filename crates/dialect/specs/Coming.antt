@@ -1,5 +1,4 @@
--- Document 02, 2.12, "The classroom dialect", coming back: the field of a list in which everyone waits at 3000 or 2000. Definitions only.
--- The words in quotes are those of document 02, 2.12.
+-- The classroom dialect (02, 2.12), coming back: the field of a list in which everyone is in a holding. Definitions only.
 use mathlib.Core.Bool.{Bool, true, cond, _&&_}
 use mathlib.Core.List.{List, [], _∷_}
 use Prim.Native.Nat.{ℕ, suc, _%_}
@@ -22,7 +21,7 @@ use Rattle.dialect.specs.declared.Built.{Built}
 
 -- ---- the list, lent as bytes
 
--- four numbers of 16 bits, little-endian: number, location, place and fix
+-- an entry by its eight bytes, two for each of number, location, place and fix, the low byte first
 abbrev pub entryIn : List ℕ → Entry
 entryIn bytes = record {
   number = word (getD bytes 0 0) (getD bytes 1 0);
@@ -43,16 +42,16 @@ entriesIn (a ∷ b ∷ c ∷ d ∷ e ∷ f ∷ []) = []
 entriesIn (a ∷ b ∷ c ∷ d ∷ e ∷ f ∷ g ∷ []) = []
 entriesIn (a ∷ b ∷ c ∷ d ∷ e ∷ f ∷ g ∷ h ∷ rest) = entryIn (a ∷ b ∷ c ∷ d ∷ e ∷ f ∷ g ∷ h ∷ []) ∷ entriesIn rest
 
--- an entry that is "a location .. 1 to 4", where "every aircraft waits at 3000 or 2000", and has this place
+-- an entry whose location is a holding, zones 1 to 4, and whose place is this one
 unfoldable pub isPlaced : Entry → ℕ → Bool
 isPlaced e place = within 1 4 (e .location) && eqb (e .place) place
 
--- each entry's place is "its position", the first at this one
+-- the places of the entries count up along the list, from this one
 abbrev pub placedFrom : ℕ → List Entry → Bool
 placedFrom place [] = true
 placedFrom place (e ∷ es) = isPlaced e place && placedFrom (suc place) es
 
--- "29 for a list of more than five, a location not 1 to 4 or a place not its position"; bytes that are no whole entries are no list
+-- a list that 29 does not refuse: five entries at most, each in a holding, with places from 1; bytes that are no whole entries are no list
 unfoldable pub listAllowed : List ℕ → Bool
 listAllowed bytes = eqb (length bytes % 8) 0 && leb (length (entriesIn bytes)) 5 && placedFrom 1 (entriesIn bytes)
 
@@ -62,8 +61,8 @@ listAllowed bytes = eqb (length bytes % 8) 0 && leb (length (entriesIn bytes)) 5
 unfoldable pub fixIn : ℕ → ℕ
 fixIn fix = cond (isSide fix) fix 0
 
--- one of the list in its zone, waiting, at the end of the sequence, with the speed "from the caller", nothing waited, no leg of its own and
--- desk 1 as its owner; "the next fix follows our rules": it is the opposite of this one's
+-- one of the list in its zone, waiting, and last in the sequence, with the caller's speed, nothing waited, no leg of its own and desk 1 as its owner; the
+-- next fix is then the opposite of its own, as after an entry (01, "The boxes")
 unfoldable pub withEntry : Field → ℕ → Entry → Field
 withEntry f speed e =
     withSequence (withZone f (e .location) (withTail (zoneOf f (e .location)) (entering (e .number) (fixIn (e .fix)) speed 1)))
@@ -74,13 +73,14 @@ abbrev pub builtOn : Field → ℕ → List Entry → Field
 builtOn f speed [] = f
 builtOn f speed (e ∷ es) = builtOn (withEntry f speed e) speed es
 
--- all of them, on the empty field with these legs; "an empty list gives right"
+-- all of them, on the empty field with these legs; where the list is empty the next fix is that field's, right
 unfoldable pub built : Legs → ℕ → List Entry → Field
 built legs speed entries = builtOn (emptyField legs) speed entries
 
 -- ---- the answer
 
--- "Coming back: 7 for a leg, 4 for the speed, 29 .., 25 if the built field breaks a bound", with its index (2.9)
+-- the number that refuses a list, in this order: 7 by the legs, 4 by the speed, 29 by the list, and 25 by the field that it builds, with its index (02, 2.9);
+-- 0 where none does
 unfoldable pub comingNumber : FileLegs → ℕ → List ℕ → ℕ
 comingNumber legs speed bytes =
     firstRefused

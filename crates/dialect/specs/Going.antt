@@ -1,5 +1,4 @@
--- Document 02, 2.12, "The classroom dialect", going: the list of a field, in sequence order. Definitions only.
--- The words in quotes are those of document 02, 2.12.
+-- The classroom dialect (02, 2.12), going: the list of a field, in sequence order. Definitions only.
 use mathlib.Core.Bool.{Bool, cond}
 use mathlib.Core.List.{List, [], _∷_, _++_}
 use Prim.Native.Nat.{ℕ, suc, _-_}
@@ -16,26 +15,26 @@ use Rattle.dialect.specs.declared.Listing.{Listing}
 
 -- ---- one of the list
 
--- "number, location (our zone number), place .. and fix" of the one with this number, at this place of the list
-unfoldable pub entryOf : Field → ℕ → ℕ → Entry
-entryOf f number place = record { number = number; location = placeOf f number .zone; place = place; fix = fixOf f number }
+-- the entry of the one with this number, at this place of the list: its location is the zone where it is
+unfoldable pub listEntry : Field → ℕ → ℕ → Entry
+listEntry f number place = record { number = number; location = placeOf f number .zone; place = place; fix = fixOf f number }
 
 -- ---- the list
 
 -- numbers in order, the first at this place
-abbrev pub entriesFrom : Field → ℕ → List ℕ → List Entry
-entriesFrom f place [] = []
-entriesFrom f place (n ∷ ns) = entryOf f n place ∷ entriesFrom f (suc place) ns
+abbrev pub listEntries : Field → ℕ → List ℕ → List Entry
+listEntries f place [] = []
+listEntries f place (n ∷ ns) = listEntry f n place ∷ listEntries f (suc place) ns
 
--- "with a runway aircraft last at place 0"
+-- the entry of one on the runway, whose place is 0; none where nobody is there
 unfoldable pub onRunway : Field → List Entry
-onRunway f = cond (isEmpty f runway) [] (entryOf f (aircraftAt f runway 1 .number) 0 ∷ [])
+onRunway f = cond (isEmpty f runway) [] (listEntry f (aircraftAt f runway 1 .number) 0 ∷ [])
 
--- "a list in sequence order", "place from 1"
+-- the list of a field: everyone in the sequence, with places from 1, and then one on the runway
 unfoldable pub entriesOf : Field → List Entry
-entriesOf f = entriesFrom f 1 (orderOf (f .sequence)) ++ onRunway f
+entriesOf f = listEntries f 1 (orderOf (f .sequence)) ++ onRunway f
 
--- "no lateral or intermediate zones": nobody is "in zones 5, 6 or 11"
+-- nobody is in a zone that the dialect lacks: a lateral one or the intermediate one
 unfoldable pub inDialect : Field → Bool
 inDialect f = every (isEmpty f) (lateral right ∷ lateral left ∷ intermediate ∷ [])
 
@@ -53,7 +52,8 @@ listed entries = record { number = 0; count = length entries; entries = entries 
 unfoldable pub refused : ℕ → Listing
 refused number = record { number = number; count = 0; entries = replicate 5 noEntry }
 
--- "Errors, going: 10, then 29 for anyone in zones 5, 6 or 11"; an index that disagrees breaks the bounds too (2.9)
+-- the list of a field with an index beside it: refused by 10 where the bounds are broken, which an index that disagrees does too (02, 2.9), and then by 29
+-- where somebody is in a zone that the dialect lacks
 unfoldable pub listOf : Indexed → Listing
 listOf x =
     cond (withinBoundsIndexed x)

@@ -13,11 +13,11 @@ use questions::find::aircraft_at;
 use questions::find::fix_of;
 use questions::find::place_of;
 ghost use mathlib.Core.Path.{_≡_};
-ghost use Rattle.dialect.specs.Going.{entryOf, entriesOf, inDialect, noEntry, listed, refused, listOf};
+ghost use Rattle.dialect.specs.Going.{listEntry, entriesOf, inDialect, noEntry, listed, refused, listOf};
 
 // The one with a number, at a place of the list.
 fn entry_of(f: Field, number: u16, place: u16) -> Entry
-    ensures { λ r. ⌜ r ≡ entryOf f number place ⌝ }
+    ensures { λ r. ⌜ r ≡ listEntry f number place ⌝ }
 {
     let at = place_of(f, number);
     let fix = fix_of(f, number);
@@ -42,7 +42,7 @@ pub(crate) fn no_entry() -> Entry
 }
 
 // The answer with a refusal's number and nobody listed.
-fn refused(number: u16) -> Listing
+pub fn refused(number: u16) -> Listing
     ensures { λ r. ⌜ r ≡ refused number ⌝ }
 {
     let e = no_entry();
@@ -94,7 +94,7 @@ fn in_dialect(f: Field) -> bool
     is_empty(f, INTERMEDIATE)
 }
 
-// The list of a field; 10 for a field that breaks a bound, then 29 for anyone in zones 5, 6 or 11.
+// The list of a field; 10 for a field that breaks a bound, then 29 where somebody is in a zone that the dialect lacks.
 pub fn list_of(x: Indexed) -> Listing
     ensures { λ r. ⌜ r ≡ listOf x ⌝ }
 {

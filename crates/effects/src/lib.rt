@@ -168,7 +168,7 @@ fn fix_after_miss(f: Field, a: Aircraft) -> u8
     if order_length(s) == 1 { a.fix } else { f.next }
 }
 
-// Kind 10: the field with the head of final in the missed zone of its old fix, what was left of final ahead too, last in the sequence.
+// Kind 10: the field with the head of final in its old fix's missed zone, with the rest of final ahead of it too, and last in the sequence.
 fn missed_approach(f: Field, r: Request) -> Field
     ensures { λ g. ⌜ g ≡ missedApproach f r ⌝ }
 {

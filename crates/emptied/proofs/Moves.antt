@@ -110,7 +110,8 @@ module _ (f : Field) (r : Request) (m : T (movesOn (r .kind))) (e : numberOf f r
       let kept = keeps r (input-of f r e) in
       let side : r .side ≡ 0 = (let h = within-high 0 0 (r .side) (sym (ap (λ (b : Bool). inRange (cond b (range 1 2) (range 0 0)) (r .side)) no-entry) ∙ kept .side) in omega arith) in
       let amount : r .amount ≡ 0 =
-      (let h = within-high 0 0 (r .amount) (sym (ap (λ (b : Bool). inRange (cond b (range 1 fastest) (cond (isTick k) (range 1 longestTick) (range 0 0))) (r .amount)) no-entry ∙ ap (λ (b : Bool). inRange (cond b (range 1 longestTick) (range 0 0)) (r .amount)) no-tick) ∙ kept .amount) in omega arith) in
+      (let h = within-high 0 0 (r .amount) (sym (ap (λ (b : Bool). inRange (cond b (range 1 fastest) (cond (isTick k) (range 1 longestTick) (range 0 0))) (r .amount)) no-entry
+      ∙ ap (λ (b : Bool). inRange (cond b (range 1 longestTick) (range 0 0)) (r .amount)) no-tick) ∙ kept .amount) in omega arith) in
       λ i. record { kind = k; side = sym side i; number = there i; amount = sym amount i; desk = own i }
 
   among : T (isPair k z candidates)
@@ -149,7 +150,9 @@ button-kinds = tt
 -- the head of a zone is nobody where nobody is present
 nobody-heads : (f : Field) (z : ℕ) → presentOn f ≡ 0 → 1 ≤ z → z ≤ 13 → aircraftAt f z 1 .number ≡ 0
 unfolding presentOn howMany aircraftAt
-nobody-heads f z e l h = of (inZone f z) (empty everywhere e (each-zone (λ (y : ℕ). isIn y everywhere ≡ true) (refl, (refl, (refl, (refl, (refl, (refl, (refl, (refl, (refl, (refl, (refl, (refl, (refl, tt))))))))))))) z (and-i (leb 1 z) (leb z 13) (le→leb 1 z l) (le→leb z 13 h))))
+nobody-heads f z e l h =
+    of (inZone f z) (empty everywhere e (each-zone (λ (y : ℕ). isIn y everywhere ≡ true)
+    (refl, (refl, (refl, (refl, (refl, (refl, (refl, (refl, (refl, (refl, (refl, (refl, (refl, tt))))))))))))) z (and-i (leb 1 z) (leb z 13) (le→leb 1 z l) (le→leb z 13 h))))
   where
     of : (l : List Aircraft) → length l ≡ 0 → getD (nobody ∷ l) 1 nobody .number ≡ 0
     of [] e = refl
@@ -192,5 +195,6 @@ module _ (f : Field) (t : T (withinBounds f)) where
         nobody-then-none = λ e. proposal-is f t ∙ none-accepted f candidates e candidate-zones;
         accepted = λ r e. number-is f r ∙ here (Play r) e .0;
         is-step = λ r e. ap (playedBy f) e;
-        no-move = λ e r m a. (let n = sym (number-is f r) ∙ a in found f (r .kind) (z f r m n) candidates (ap (numberOf f) (is-head f r m n) ∙ n) (among f r m n) (sym (proposal-is f t) ∙ e) button-kinds);
+        no-move =
+            λ e r m a. (let n = sym (number-is f r) ∙ a in found f (r .kind) (z f r m n) candidates (ap (numberOf f) (is-head f r m n) ∙ n) (among f r m n) (sym (proposal-is f t) ∙ e) button-kinds);
       }

@@ -17,7 +17,7 @@ use Rattle.press.specs.HeldDown.{heldRequests, heldOf}
 
 -- a press on a field within the bounds
 pub record PressedOn (f : Field) : Type 0 where
-  -- it says none exactly when nobody is on the field
+  -- it says none where nobody is present, and nowhere else
   pub none-then-nobody : proposalOf f ≡ None → presentOn f ≡ 0
   pub nobody-then-none : presentOn f ≡ 0 → proposalOf f ≡ None
   -- a request that it proposes is accepted, and the press is its step

@@ -17,7 +17,7 @@ use Rattle.field.specs.declared.Aircraft.{Aircraft}
 use Rattle.field.specs.declared.Legs.{Legs}
 use Rattle.field.specs.declared.Field.{Field}
 use Rattle.field.specs.Boxes.{everywhere, inZone, isSide, emptyField, orderOf}
-use Rattle.field.specs.Lists.{every, isIn}
+use Rattle.field.specs.Lists.{every, isIn, Each}
 use Rattle.field.proofs.Tests.{passed, pass, decided, if-true, either-way}
 use Rattle.field.proofs.Lists.{every-listed}
 use Rattle.questions.specs.Counts.{howMany}
@@ -36,7 +36,7 @@ use Rattle.demand.proofs.Exact.{exactness}
 use Rattle.gaps.specs.declared.Spacing.the-variants.{Close, Clear}
 use Rattle.gaps.specs.declared.Pair.{Pair}
 use Rattle.gaps.specs.Gaps.{toGo, wayOf, gapOf, spacingOf, pairOf, onApproach, between, pairsIn, legalSpacing, listed, refused, gapsOf}
-use Rattle.exact_gaps.specs.ExactGaps.{ExactlySigned, following, wayFrom, reached, wayIn4096ths, gapIn, isClose, ExactPair, EachPair, ExactGaps}
+use Rattle.exact_gaps.specs.ExactGaps.{ExactlySigned, following, wayFrom, reached, wayIn4096ths, gapIn, isClose, ExactPair, ExactGaps}
 use Rattle.exact_gaps.proofs.Signed.{signed-grid, under-spacing}
 use Rattle.exact_gaps.proofs.Ways.{each-at, every-at, way-exact}
 
@@ -51,7 +51,8 @@ way-small w z flown =
     let outer = cond (eqb z 9 || eqb z 10) (w .base-leg) inner in
     let leg : in64ths w z ≤ 4096 =
     either-way (λ (k : ℕ). k ≤ 4096) (eqb z 7 || eqb z 8) (w .missed-leg) outer (λ e. omega arith)
-    (λ e. either-way (λ (k : ℕ). k ≤ 4096) (eqb z 9 || eqb z 10) (w .base-leg) inner (λ e. omega arith) (λ e. either-way (λ (k : ℕ). k ≤ 4096) (eqb z 11) (w .intermediate-leg) (w .final-leg) (λ e. omega arith) (λ e. omega arith))) in
+    (λ e. either-way (λ (k : ℕ). k ≤ 4096) (eqb z 9 || eqb z 10) (w .base-leg) inner (λ e. omega arith)
+    (λ e. either-way (λ (k : ℕ). k ≤ 4096) (eqb z 11) (w .intermediate-leg) (w .final-leg) (λ e. omega arith) (λ e. omega arith))) in
     let both = 64 * w .intermediate-leg + 64 * w .final-leg in
     let rest : following w z ≤ 128 * 4096 =
     either-way (λ (k : ℕ). k ≤ 128 * 4096) (eqb z 12) 0 (cond (eqb z 11) (64 * w .final-leg) both) (λ e. omega arith)
@@ -67,7 +68,7 @@ close-in : (b : Bool) (gap : Float) → isClose (cond b (Close gap) (Clear gap))
 close-in true gap = refl
 close-in false gap = refl
 
-each-append : (P : Pair → Type 0) (ps qs : List Pair) → EachPair P ps → EachPair P qs → EachPair P (ps ++ qs)
+each-append : (P : Pair → Type 0) (ps qs : List Pair) → Each P ps → Each P qs → Each P (ps ++ qs)
 each-append P [] qs h k = k
 each-append P (p ∷ ps) qs h k = (h .0, each-append P ps qs (h .1) k)
 
@@ -152,13 +153,13 @@ module _ (w : WholeLegs) (rs : List Request) where
           close = close-in b gap ∙ under-spacing gap (wayIn4096ths w rs m) (wayIn4096ths w rs l) spacing at-least at-most signed;
         }
 
-    between-exact : (l m : ℕ) → EachPair (ExactPair w rs spacing) (between f spacing l m)
+    between-exact : (l m : ℕ) → Each (ExactPair w rs spacing) (between f spacing l m)
     unfolding between
     between-exact l m =
-        either-way (EachPair (ExactPair w rs spacing)) (onApproach f l && onApproach f m) (pairOf f spacing l m ∷ []) []
+        either-way (Each (ExactPair w rs spacing)) (onApproach f l && onApproach f m) (pairOf f spacing l m ∷ []) []
         (λ e. (pair-exact l m (and-l (onApproach f l) (onApproach f m) (pass e)) (and-r (onApproach f l) (onApproach f m) (pass e)), tt)) (λ e. tt)
 
-    pairs-exact : (order : List ℕ) → EachPair (ExactPair w rs spacing) (pairsIn f spacing order)
+    pairs-exact : (order : List ℕ) → Each (ExactPair w rs spacing) (pairsIn f spacing order)
     pairs-exact [] = tt
     pairs-exact (n ∷ []) = tt
     pairs-exact (n ∷ m ∷ ns) = each-append (ExactPair w rs spacing) (between f spacing n m) (pairsIn f spacing (m ∷ ns)) (between-exact n m) (pairs-exact (m ∷ ns))

@@ -51,7 +51,9 @@ less-larger (fin false m e) (fin true n k) a b p q h = absurd (true≢false (q .
 less-larger (fin false m e) (fin false n k) a b p q h =
     let A = m * up e * down k in
     let B = n * up k * down e in
-    let under : A < B = lt-of-not-le (λ (g : B ≤ A). not-le-of-lt (mul-lt-mul-of-pos-right h (lit< tt)) (transfer b a 4096 4096 (n * up k) (m * up e) (down k) (down e) (down-pos k) (down-pos e) (sym (q .1)) (sym (p .1)) g)) in
+    let under : A < B =
+    lt-of-not-le (λ (g : B ≤ A). not-le-of-lt (mul-lt-mul-of-pos-right h (lit< tt))
+    (transfer b a 4096 4096 (n * up k) (m * up e) (down k) (down e) (down-pos k) (down-pos e) (sym (q .1)) (sym (p .1)) g)) in
     ap (λ (t : Bool). cond t (round binary64 true (B - A) (down e * down k)) (round binary64 false (A - B) (down e * down k))) (lt-ltb A B under)
     ∙ round-same binary64 true (B - A) (down e * down k) (b - a) 4096 (mul-pos (down-pos e) (down-pos k)) (lit< tt) (cross 4096 (m * up e) (down e) (n * up k) (down k) a b (p .1) (q .1))
 
@@ -66,7 +68,8 @@ signed-grid x y a b p q ha hb = go (decLe b a)
         let h : a < b = lt-of-not-le g in
         let more : b - a ≡ suc (b - suc a) = omega arith in
         subst (ExactlySigned (sub binary64 x y)) (sym (ap (λ (t : Bool). cond t (negsuc (b - suc a)) (pos (a - b))) (lt-ltb a b h)))
-        (subst (λ (z : Float). HasValue z true (suc (b - suc a)) 4096) (sym (less-larger x y a b p q h)) (subst (λ (n : ℕ). HasValue (round binary64 true (b - a) 4096) true n 4096) more (below-zero (b - a) (omega arith))))
+        (subst (λ (z : Float). HasValue z true (suc (b - suc a)) 4096) (sym (less-larger x y a b p q h))
+        (subst (λ (n : ℕ). HasValue (round binary64 true (b - a) 4096) true n 4096) more (below-zero (b - a) (omega arith))))
 
 -- a number below 0 is under one above 0
 minus-under : (x y : Float) (a b c d : ℕ) → HasValue x true a c → HasValue y false b d → 0 < b → lt x y ≡ true
@@ -97,7 +100,8 @@ under-spacing gap a b spacing low high g = go (decLe b a) (decLe (b + 64 * spaci
     go : Dec (b ≤ a) → Dec (b + 64 * spacing ≤ a) → lt gap (sixtyFourths spacing) ≡ ltb a (b + 64 * spacing)
     go (yes h) (yes k) =
         let far : 64 * spacing * 4096 ≤ (a - b) * 4096 = mul-le-mul-right 4096 (omega arith) in
-        lt-false gap (sixtyFourths spacing) (positive-of-value (sixtyFourths spacing) (64 * spacing) 4096 limit some) (le-of-values (sixtyFourths spacing) gap (64 * spacing) 4096 (a - b) 4096 (lit< tt) (lit< tt) limit (above h) far)
+        lt-false gap (sixtyFourths spacing) (positive-of-value (sixtyFourths spacing) (64 * spacing) 4096 limit some)
+        (le-of-values (sixtyFourths spacing) gap (64 * spacing) 4096 (a - b) 4096 (lit< tt) (lit< tt) limit (above h) far)
         ∙ sym (le-ltb a (b + 64 * spacing) k)
     go (yes h) (no k) =
         let near : a < b + 64 * spacing = lt-of-not-le k in

@@ -17,16 +17,16 @@ use Rattle.leg.proofs.Grid.{sixtyFourths-exact}
 use Rattle.leg.proofs.Missed.{left-grid, ahead-grid}
 use Rattle.field.specs.declared.Aircraft.{Aircraft}
 use Rattle.field.specs.Boxes.{nobody, legOf, isFlyingZone}
-use Rattle.field.specs.Lists.{every}
+use Rattle.field.specs.Lists.{every, Each}
 use Rattle.field.proofs.Tests.{each-from}
 use Rattle.bounds.specs.Bounds.{legFits}
-use Rattle.demand.specs.Exact.{WholeLegs, inMiles, in64ths, Flight, EachAircraft, Account}
+use Rattle.demand.specs.Exact.{WholeLegs, inMiles, in64ths, Flight, Account}
 use Rattle.gaps.specs.Gaps.{toGo}
 use Rattle.exact_gaps.specs.ExactGaps.{wayFrom}
 use Rattle.exact_gaps.proofs.Signed.{same-parts}
 
 -- ---- one of a queue, by its place from 1
-pub each-at : (P : Aircraft → Type 0) (qs : List Aircraft) (place : ℕ) → EachAircraft P qs → 1 ≤ place → place ≤ length qs → P (getD (nobody ∷ qs) place nobody)
+pub each-at : (P : Aircraft → Type 0) (qs : List Aircraft) (place : ℕ) → Each P qs → 1 ≤ place → place ≤ length qs → P (getD (nobody ∷ qs) place nobody)
 each-at P qs zero e low high = absurd (omega arith)
 each-at P [] (suc i) e low high = absurd (omega arith)
 each-at P (a ∷ qs) (suc zero) e low high = e .0
@@ -39,7 +39,8 @@ every-at p (a ∷ qs) (suc zero) e low high = and-l (p a) (every p qs) e
 every-at p (a ∷ qs) (suc (suc i)) e low high = every-at p qs (suc i) (and-r (p a) (every p qs) e) (omega arith) (omega arith)
 
 -- ---- what is left of a leg of k 64ths, of which the smaller of all and n 4096ths is flown
-left-exact : (p : Progress) (leg : Float) (k j n : ℕ) → Between 1 longestLeg k → T (eq leg (sixtyFourths k)) → Exactly leg j → FlownExactly p (min j n) → Exactly (remaining p leg) (64 * k - min (64 * k) n)
+left-exact : (p : Progress) (leg : Float) (k j n : ℕ) → Between 1 longestLeg k → T (eq leg (sixtyFourths k)) → Exactly leg j → FlownExactly p (min j n)
+    → Exactly (remaining p leg) (64 * k - min (64 * k) n)
 left-exact Waiting leg k j n r e h f = absurd f
 left-exact (Flying miles) leg k j n r e h f =
     let same : j ≡ 64 * k = same-parts leg (sixtyFourths k) j (64 * k) h (sixtyFourths-exact k (omega arith)) e in
@@ -67,7 +68,9 @@ module _ (w : WholeLegs) (a : Aircraft) (s : Flight) where
       let ff = w .final-fits in
       let left = left-exact (a .progress) (a .leg) (w .base-leg) (s .leg) (a .speed * s .ticks) (w .base-fits) e (k .leg) (k .miles f) in
       let more = ahead-grid (remaining (a .progress) (a .leg)) (sixtyFourths (w .intermediate-leg)) l (64 * w .intermediate-leg) left middle-exact (omega arith) in
-      let all = ahead-grid (add binary64 (remaining (a .progress) (a .leg)) (sixtyFourths (w .intermediate-leg))) (sixtyFourths (w .final-leg)) (l + 64 * w .intermediate-leg) (64 * w .final-leg) more final-exact (omega arith) in
+      let all =
+      ahead-grid (add binary64 (remaining (a .progress) (a .leg)) (sixtyFourths (w .intermediate-leg)))
+      (sixtyFourths (w .final-leg)) (l + 64 * w .intermediate-leg) (64 * w .final-leg) more final-exact (omega arith) in
       let same : l + 64 * w .intermediate-leg + 64 * w .final-leg ≡ l + (64 * w .intermediate-leg + 64 * w .final-leg) = omega arith in
       subst (Exactly (add binary64 (add binary64 (remaining (a .progress) (a .leg)) (sixtyFourths (w .intermediate-leg))) (sixtyFourths (w .final-leg)))) same all
 

@@ -1,5 +1,5 @@
--- "The gap is exact on a field reached from the empty one with legs in whole 64ths" (02, 2.8): in 4096ths of a mile it is the difference of two whole
--- numbers, an integer. Definitions only.
+-- Exact gaps (02, 2.8): where the legs are whole 64ths, and requests have led to the field from the empty one, a gap in 4096ths of a mile is an integer, the
+-- difference of two whole numbers. Definitions only.
 use mathlib.Core.Path.{_≡_}
 use mathlib.Core.Bool.{Bool, true, false, cond}
 use mathlib.Core.List.{List, [], _∷_}
@@ -11,6 +11,7 @@ use lib.Ieee.Exact.{HasValue}
 use Rattle.request.specs.declared.Request.{Request}
 use Rattle.field.specs.declared.Field.{Field}
 use Rattle.field.specs.Boxes.{intermediate, finalApproach, orderOf, emptyField}
+use Rattle.field.specs.Lists.{Each}
 use Rattle.questions.specs.Find.{placeOf, aircraftAt}
 use Rattle.rules.specs.Play.{fieldAfter, played}
 use Rattle.demand.specs.Exact.{WholeLegs, inMiles, in64ths, noFlight, flightAfter}
@@ -19,7 +20,7 @@ use Rattle.gaps.specs.declared.Spacing.the-variants.{Close, Clear}
 use Rattle.gaps.specs.declared.Pair.{Pair}
 use Rattle.gaps.specs.Gaps.{pairsIn, listed, gapsOf}
 
--- the miles times 4096 are exactly this integer, of either sign
+-- the miles are exactly so many 4096ths, an integer of either sign
 abbrev pub ExactlySigned : Float → ℤ → Type 0
 ExactlySigned miles (pos n) = HasValue miles false n 4096
 ExactlySigned miles (negsuc n) = HasValue miles true (suc n) 4096
@@ -36,7 +37,7 @@ wayFrom w z flown = 64 * in64ths w z - flown + following w z
 abbrev pub reached : WholeLegs → List Request → Field
 reached w rs = fieldAfter (emptyField (inMiles w)) rs
 
--- the way of the one with this number on that field: of its leg the smaller of the whole and the speed times the tick amounts since it began is flown
+-- the way of the one with this number on that field: of its leg it has flown its speed times its ticks, or all of it where that is less
 unfoldable pub wayIn4096ths : WholeLegs → List Request → ℕ → ℕ
 wayIn4096ths w rs number =
     let at = placeOf (reached w rs) number in
@@ -49,6 +50,7 @@ abbrev pub gapIn : Spacing → Float
 gapIn (Close gap) = gap
 gapIn (Clear gap) = gap
 
+-- whether an answer is close
 abbrev pub isClose : Spacing → Bool
 isClose (Close gap) = true
 isClose (Clear gap) = false
@@ -60,12 +62,7 @@ pub record ExactPair (w : WholeLegs) (rs : List Request) (spacing : ℕ) (p : Pa
   -- and it is close exactly where that is under 64 times the spacing in 64ths
   pub close : isClose (p .spacing) ≡ ltb (wayIn4096ths w rs (p .follower)) (wayIn4096ths w rs (p .leader) + 64 * spacing)
 
--- what holds of each pair
-abbrev pub EachPair : (Pair → Type 0) → List Pair → Type 0
-EachPair P [] = Unit {0}
-EachPair P (p ∷ ps) = P p × EachPair P ps
-
 -- what holds of a legal spacing on that field: it is not refused, and each pair is exact
 pub record ExactGaps (w : WholeLegs) (rs : List Request) (spacing : ℕ) : Type 0 where
   pub accepted : gapsOf (reached w rs) spacing ≡ listed (pairsIn (reached w rs) spacing (orderOf (reached w rs .sequence)))
-  pub exact : EachPair (ExactPair w rs spacing) (pairsIn (reached w rs) spacing (orderOf (reached w rs .sequence)))
+  pub exact : Each (ExactPair w rs spacing) (pairsIn (reached w rs) spacing (orderOf (reached w rs .sequence)))

@@ -16,13 +16,15 @@ use Rattle.field.specs.declared.Field.{Field}
 
 -- ---- sides and zones
 
--- "Sides: 1 right, 2 left"
+-- the right side, as the pilot sees it
 abbrev pub right : ℕ
 right = 1
 
+-- the left side
 abbrev pub left : ℕ
 left = 2
 
+-- whether a number is a side
 unfoldable pub isSide : ℕ → Bool
 isSide s = eqb s right || eqb s left
 
@@ -30,29 +32,35 @@ isSide s = eqb s right || eqb s left
 unfoldable pub opposite : ℕ → ℕ
 opposite s = cond (eqb s right) left (cond (eqb s left) right 0)
 
--- "Zones: 1, 2 holding at 3000 feet (right, left); 3, 4 holding at 2000 feet; 5, 6 lateral entry; 7, 8 missed approach;
--- 9, 10 base; 11 intermediate; 12 final; 13 runway", those of a side by the side's number
+-- the holding of a side at 3000 feet, zone 1 or 2
 abbrev pub at3000 : ℕ → ℕ
 at3000 side = side
 
+-- its holding at 2000 feet, zone 3 or 4
 abbrev pub at2000 : ℕ → ℕ
 at2000 side = 2 + side
 
+-- its lateral entry zone, 5 or 6
 abbrev pub lateral : ℕ → ℕ
 lateral side = 4 + side
 
+-- its missed approach zone, 7 or 8
 abbrev pub missed : ℕ → ℕ
 missed side = 6 + side
 
+-- its base, zone 9 or 10
 abbrev pub base : ℕ → ℕ
 base side = 8 + side
 
+-- intermediate, for both sides
 abbrev pub intermediate : ℕ
 intermediate = 11
 
+-- final
 abbrev pub finalApproach : ℕ
 finalApproach = 12
 
+-- the runway
 abbrev pub runway : ℕ
 runway = 13
 
@@ -65,15 +73,15 @@ abbrev pub zonesFrom : ℕ → ℕ → List ℕ
 zonesFrom z zero = []
 zonesFrom z (suc n) = z ∷ zonesFrom (suc z) n
 
--- "A side's area is its two holdings, lateral and missed zones."
+-- the area of a side: all its zones but the base
 abbrev pub area : ℕ → List ℕ
 area side = at3000 side ∷ at2000 side ∷ lateral side ∷ missed side ∷ []
 
--- "The approach is 9 to 12."
+-- the approach: both bases, intermediate and final
 abbrev pub approach : List ℕ
 approach = zonesFrom 9 4
 
--- "The operation area is 1 to 12."
+-- the operation area: every zone but the runway
 abbrev pub operation : List ℕ
 operation = zonesFrom 1 12
 
@@ -81,13 +89,13 @@ operation = zonesFrom 1 12
 abbrev pub everywhere : List ℕ
 everywhere = zonesFrom 1 13
 
--- "Flying zones are 7 to 12"
+-- whether zone z is flown in: the missed zones and the approach are
 unfoldable pub isFlyingZone : ℕ → Bool
 isFlyingZone z = leb 7 z && leb z 12
 
 -- ---- queues
 
--- "Places past a length are all zero and waiting.": a place as the empty field has it
+-- nobody: a place as the empty field has it
 abbrev pub nobody : Aircraft
 nobody = record { number = 0; fix = 0; speed = 0; progress = Waiting; waited = whole 0; leg = whole 0; desk = 0 }
 
@@ -95,11 +103,11 @@ nobody = record { number = 0; fix = 0; speed = 0; progress = Waiting; waited = w
 abbrev pub emptyZone : Zone
 emptyZone = record { aircraft = replicate 4 nobody; length = 0 }
 
--- zone z of the field; "0 means not on the field" and is empty, and so is a number over 13
+-- zone z of the field; 0, which is no zone of it, is empty, and so is a number over 13
 unfoldable pub zoneOf : Field → ℕ → Zone
 zoneOf f z = getD (emptyZone ∷ f .zones) z emptyZone
 
--- "Each zone is a first-in first-out queue kept as a fixed array with its length": those within the length, the head first
+-- those in a zone, within its length: first who came first, the head
 unfoldable pub queueOf : Zone → List Aircraft
 queueOf q = take (q .length) (q .aircraft)
 
@@ -121,7 +129,7 @@ orderLength s = length (orderOf s)
 
 -- ---- legs
 
--- "leg lengths (missed, base, intermediate, final; both sides alike) are held as f64 miles": four legs of so many 64ths of a mile
+-- four legs of so many 64ths of a mile, as the field has them, in miles
 abbrev pub legsIn64ths : ℕ → ℕ → ℕ → ℕ → Legs
 legsIn64ths missed base intermediate final =
     record {
@@ -131,7 +139,7 @@ legsIn64ths missed base intermediate final =
       «final_approach» = sixtyFourths final;
     }
 
--- the leg that belongs to zone z: "missed, base, intermediate, final; both sides alike"; 0 where no leg is flown
+-- the leg that belongs to zone z, the same for either side; 0 where no leg is flown
 unfoldable pub legOf : Legs → ℕ → Float
 legOf legs z =
     cond (eqb z (missed right) || eqb z (missed left)) (legs .missed)
@@ -142,12 +150,12 @@ legOf legs z =
 
 -- ---- aircraft
 
--- "Entering a flying zone sets miles to 0", and elsewhere an aircraft waits: the progress with which zone z is entered
+-- the progress of one that comes into zone z: no miles flown yet, or waiting where no leg is flown
 unfoldable pub progressInto : ℕ → Progress
 progressInto z = cond (isFlyingZone z) (Flying (whole 0)) Waiting
 
--- an aircraft as it enters: waiting, in a holding or a lateral zone, with no miles waited: they are added up "from entry to leaving" (02, 2.2); its own
--- leg is "0 while waiting" (02, 2.7); it belongs to the desk that lets it in (02, 2.10)
+-- an aircraft as it enters, in a holding or a lateral zone: it waits, has no miles waited yet (02, 2.2) and no leg of its own (02, 2.7), and belongs to the
+-- desk that lets it in (02, 2.10)
 unfoldable pub entering : ℕ → ℕ → ℕ → ℕ → Aircraft
 entering number fix speed desk = record { number = number; fix = fix; speed = speed; progress = Waiting; waited = whole 0; leg = whole 0; desk = desk }
 
@@ -155,12 +163,11 @@ entering number fix speed desk = record { number = number; fix = fix; speed = sp
 unfoldable pub onLeg : Aircraft → Progress → Float → Aircraft
 onLeg a p leg = record { number = a .number; fix = a .fix; speed = a .speed; progress = p; waited = a .waited; leg = leg; desk = a .desk }
 
--- an aircraft as it comes into zone z from another zone: its own leg is "the field's leg in zones 9 to 12" and "0 while waiting" (02, 2.7)
+-- an aircraft as it comes into zone z from another zone, but by a miss: its own leg is the one that belongs to z (02, 2.7)
 unfoldable pub arrived : Legs → ℕ → Aircraft → Aircraft
 arrived legs z a = onLeg a (progressInto z) (legOf legs z)
 
--- an aircraft of final as it comes into zone z by a miss: "the leg ahead is the missed leg plus what was left of final" (02, 2.7), by the miles and the own
--- leg that it had there
+-- an aircraft of final as it comes into zone z by a miss: its own leg is the missed leg with the rest of the one that it was on (02, 2.7)
 unfoldable pub turnedAway : Legs → ℕ → Aircraft → Aircraft
 turnedAway legs z a = onLeg a (progressInto z) (missedLeg (legs .missed) (a .progress) (a .leg))
 
@@ -168,13 +175,13 @@ turnedAway legs z a = onLeg a (progressInto z) (missedLeg (legs .missed) (a .pro
 unfoldable pub withFix : Aircraft → ℕ → Aircraft
 withFix a fix = record { number = a .number; fix = fix; speed = a .speed; progress = a .progress; waited = a .waited; leg = a .leg; desk = a .desk }
 
--- "the leg flown out: miles equal to the leg's length", of its own leg (02, 2.7)
+-- whether an aircraft is at the end of its own leg (01, "The requests"; 02, 2.7)
 unfoldable pub legFlownOut : Aircraft → Bool
 legFlownOut a = flownOut (a .progress) (a .leg)
 
 -- ---- the empty field
 
--- "the field with every zone and the sequence at length 0, all their places zero and waiting, the next fix right", and these legs
+-- the field that lists of requests start from, with these legs (01, "Any list of requests"): nobody is on it, and the next fix is right
 unfoldable pub emptyField : Legs → Field
 emptyField legs =
     record {

@@ -1,4 +1,4 @@
--- Tests of lists: of the numbers of aircraft, of zones, and of what else a list holds.
+-- Tests of lists: of the numbers of aircraft, of zones, and of what else a list holds; and what holds of each one of a list.
 use mathlib.Core.Bool.{Bool, true, false, not, _&&_, _||_}
 use mathlib.Core.List.{List, [], _∷_}
 use Prim.Native.Nat.{ℕ}
@@ -18,3 +18,8 @@ isIn n (m ∷ ms) = eqb m n || isIn n ms
 abbrev pub allDifferent : List ℕ → Bool
 allDifferent [] = true
 allDifferent (n ∷ ns) = not (isIn n ns) && allDifferent ns
+
+-- what holds of each one in a list
+abbrev pub Each : {A : Type 0} → (A → Type 0) → List A → Type 0
+Each P [] = Unit
+Each P (x ∷ xs) = P x × Each P xs

@@ -5,9 +5,9 @@ pub mod boxes;
 pub mod edits;
 pub mod zones;
 
-// Document 01's aircraft: a number (never 0), a fix (the side for its missed approach), a speed in 64ths of a mile
-// per minute, and a progress; and document 02's miles waited, those past the ends of its legs added up since it entered,
-// the length of its own leg in miles, and the desk that let it in, which stands beside the fix so that an aircraft is as long as before.
+// An aircraft (01, "The boxes"): a number that is not 0; the side to which a miss leads it, its fix; its speed in 64ths of a mile a minute; and its progress.
+// Document 02 adds the miles waited, those past the ends of its legs since it entered (2.2); its own leg, in miles (2.7); and its desk, the one that let it
+// in (2.10), which stands beside the fix so that an aircraft is as long as before.
 pub struct Aircraft {
     pub number: u16,
     pub fix: u8,
@@ -18,19 +18,20 @@ pub struct Aircraft {
     pub leg: f64,
 }
 
-// Document 01's zone: a first-in first-out queue kept as a fixed array with its length, the head at place 0.
+// A zone (01, "The boxes"): a queue in an array of four, and how many are in it. The head, who came first, has place 1 and stands at index 0 of `aircraft`,
+// place 4 at index 3.
 pub struct Zone {
     pub aircraft: [Aircraft; 4],
     pub length: usize,
 }
 
-// Document 01's landing sequence: the numbers of everyone in the operation area in order, first to land first.
+// The landing sequence (01, "The boxes"): the numbers of those in the operation area, first to land first, at index 0, and how many they are.
 pub struct Sequence {
     pub numbers: [u16; 4],
     pub length: usize,
 }
 
-// Document 01's leg lengths in miles, both sides alike.
+// The lengths of the legs in miles, the same for either side (01, "The boxes").
 pub struct Legs {
     pub missed: f64,
     pub base: f64,
@@ -38,7 +39,7 @@ pub struct Legs {
     pub final_approach: f64,
 }
 
-// Document 01's field. Zone 1 stands at index 0 of `zones`, zone 13 at index 12.
+// The field (01, "The boxes"). Zone 1 stands at index 0 of `zones`, zone 13 at index 12.
 pub struct Field {
     pub zones: [Zone; 13],
     pub sequence: Sequence,

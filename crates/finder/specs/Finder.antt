@@ -1,4 +1,4 @@
--- Document 02, 2.9: an index beside the field, in order of number, from each number present to its zone and place.
+-- The index beside a field (02, 2.9): the zone and place of each number on it, the lowest number first.
 use mathlib.Core.Path.{_≡_}
 use mathlib.Core.Logic.{_⊎_}
 use mathlib.Core.Bool.{Bool, true, false, cond, not, _&&_, _||_}
@@ -18,15 +18,15 @@ use Rattle.finder.specs.declared.Indexed.{Indexed}
 
 -- ---- the index of a field
 
--- an unused place: "all zero"
+-- an unused place: every number of it is 0
 abbrev pub unused : Entry
 unused = record { number = 0; zone = 0; place = 0 }
 
--- a number with what a look through the queues says of it
+-- a number with the zone and place where the queues have it
 unfoldable pub entryOf : Field → ℕ → Entry
 entryOf f number = let at = placeOf f number in record { number = number; zone = at .zone; place = at .place }
 
--- whether an entry stands before another: "in order of number", and unused places last
+-- whether an entry stands before another: the lower number does, and an unused place stands before none
 unfoldable pub isBefore : Entry → Entry → Bool
 isBefore a b = not (eqb (a .number) 0) && (eqb (b .number) 0 || ltb (a .number) (b .number))
 
@@ -48,8 +48,8 @@ abbrev pub putEach : List Entry → List Entry → List Entry
 putEach [] es = es
 putEach (e ∷ more) es = putEach more (put e es)
 
--- the index of a field: all numbers of the thirteen zones, each with what a look through the queues says of it, put among five unused places. Out of the
--- bounds a number that stands twice is in it once, 0 is left out, and of more than five numbers the five lowest are in it
+-- the index of a field: all numbers of the thirteen zones, each with its zone and place, put among five unused places. Out of the bounds a number that
+-- stands twice is in it once, 0 is left out, and of more than five numbers the five lowest are in it
 unfoldable pub indexOf : Field → Index
 indexOf f = record { entries = putEach (map (entryOf f) (numbersIn f everywhere)) (replicate 5 unused) }
 
@@ -58,7 +58,7 @@ abbrev pub Unused : List Entry → Type 0
 Unused [] = Unit {0}
 Unused (e ∷ es) = (e ≡ unused) × Unused es
 
--- entries "in order of number", the first above k and each above the one before it, with the unused ones last and all zero
+-- entries in order: the first number above k and each above the one before it, with the unused places behind them
 abbrev pub InOrder : ℕ → List Entry → Type 0
 InOrder k [] = Unit {0}
 InOrder k (e ∷ es) = Unused (e ∷ es) ⊎ ((k < e .number) × InOrder (e .number) es)

@@ -1,5 +1,4 @@
--- Document 02, 2.8, "Spacing along the path": the way to the threshold, the gap of a pair, and the pairs of a field. Definitions only.
--- The words in quotes are those of document 02, 2.8.
+-- Spacing along the path (02, 2.8): the way to the threshold, the gap of a pair, and the pairs of a field. Definitions only.
 use mathlib.Core.Bool.{Bool, cond, _&&_}
 use mathlib.Core.List.{List, [], _∷_, _++_}
 use Prim.Native.Nat.{ℕ, _-_}
@@ -19,15 +18,15 @@ use Rattle.gaps.specs.declared.Spacings.{Spacings}
 
 -- ---- the way to the threshold
 
--- "plus the full legs that follow (base, intermediate, final), added in that order": final after intermediate, both after a base, each sum
--- rounded once
+-- the way from zone z of the approach with so much of its leg left: from a base intermediate is added, and then final, from intermediate final alone, each
+-- sum rounded once
 unfoldable pub toGo : Legs → ℕ → Float → Float
 toGo legs z left =
     cond (eqb z finalApproach) left
     (cond (eqb z intermediate) (add binary64 left (legs .«final_approach»))
     (add binary64 (add binary64 left (legs .intermediate)) (legs .«final_approach»)))
 
--- the miles to the threshold of the one with this number: "what is left of its leg", its own (2.7), and the legs that follow
+-- the way of the one with this number, in miles: the rest of its own leg (02, 2.7), and the legs behind that
 unfoldable pub wayOf : Field → ℕ → Float
 wayOf f number =
     let at = placeOf f number in
@@ -36,15 +35,15 @@ wayOf f number =
 
 -- ---- a pair
 
--- "the follower's miles to the threshold less the leader's", rounded once; it may be negative
+-- how much longer the follower's way is than the leader's, rounded once; negative where it is shorter
 unfoldable pub gapOf : Field → ℕ → ℕ → Float
 gapOf f leader follower = sub binary64 (wayOf f follower) (wayOf f leader)
 
--- "close or clear, carrying the gap in miles; close means under a given spacing in 64ths"
+-- what is answered of a gap: close where it is below the spacing, which is in 64ths of a mile, else clear, both with the gap
 unfoldable pub spacingOf : Float → ℕ → Spacing
 spacingOf gap spacing = cond (lt gap (sixtyFourths spacing)) (Close gap) (Clear gap)
 
--- two neighbours, "with both numbers"
+-- two neighbours by their numbers, with the answer of their gap
 unfoldable pub pairOf : Field → ℕ → ℕ → ℕ → Pair
 pairOf f spacing leader follower = record { leader = leader; follower = follower; spacing = spacingOf (gapOf f leader follower) spacing }
 
@@ -54,11 +53,11 @@ pairOf f spacing leader follower = record { leader = leader; follower = follower
 unfoldable pub onApproach : Field → ℕ → Bool
 onApproach f number = leb 9 (placeOf f number .zone) && leb (placeOf f number .zone) 12
 
--- two neighbours in the sequence, where they are a pair that is "wholly on the approach"
+-- two neighbours in the sequence as a pair; none where either is not on the approach
 unfoldable pub between : Field → ℕ → ℕ → ℕ → List Pair
 between f spacing leader follower = cond (onApproach f leader && onApproach f follower) (pairOf f spacing leader follower ∷ []) []
 
--- "each neighbouring pair in the sequence", "in sequence order"
+-- the pairs of the neighbours in a list, in its order
 abbrev pub pairsIn : Field → ℕ → List ℕ → List Pair
 pairsIn f spacing [] = []
 pairsIn f spacing (n ∷ []) = []
@@ -78,11 +77,11 @@ listed pairs = record { number = 0; count = length pairs; pairs = pairs ++ repli
 unfoldable pub refused : ℕ → Spacings
 refused number = record { number = number; count = 0; pairs = replicate 3 noPair }
 
--- "a given spacing in 64ths, 1 to 512"
+-- a spacing that is not refused: 1 to 512 64ths of a mile
 abbrev pub legalSpacing : ℕ → Bool
 legalSpacing spacing = leb 1 spacing && leb spacing 512
 
--- "4 for a spacing outside its range, then 10"
+-- the pairs of a field, by its sequence; a spacing is refused by 4, and after that a field by 10
 unfoldable pub gapsOf : Field → ℕ → Spacings
 gapsOf f spacing =
     cond (legalSpacing spacing)

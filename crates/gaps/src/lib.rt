@@ -1,5 +1,5 @@
-// The spacing along the path (document 02, 2.8): for each two neighbours of the landing sequence that are both on the approach, the
-// follower's miles to the threshold less the leader's, close or clear (specs/Gaps.antt).
+// The spacing along the path (document 02, 2.8): for each two neighbours of the landing sequence that are both on the approach, how much longer
+// the follower's way to the threshold is than the leader's, and whether that is close or clear (specs/Gaps.antt).
 use bounds::within_bounds;
 use field::Field;
 use field::Legs;
@@ -62,7 +62,7 @@ fn way_of(f: Field, number: u16) -> f64
     to_go(legs, zone, remaining(p, a.leg))
 }
 
-// The follower's miles to the threshold less the leader's, rounded once.
+// How much longer the follower's way to the threshold is than the leader's, in miles, rounded once.
 fn gap_of(f: Field, leader: u16, follower: u16) -> f64
     ensures { λ r. ⌜ r ≡ gapOf f leader follower ⌝ }
 {
@@ -127,7 +127,7 @@ fn pair_of(f: Field, spacing: u16, leader: u16, follower: u16) -> Pair
 }
 
 // The answer with a refusal's number and no pair.
-fn refused(number: u16) -> Spacings
+pub fn refused(number: u16) -> Spacings
     ensures { λ r. ⌜ r ≡ refused number ⌝ }
 {
     let p = no_pair();

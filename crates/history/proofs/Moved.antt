@@ -46,7 +46,8 @@ module _ {A : Type 0} (xs : List A) (x : A) where
     after d b h =
         let long = p .long in
         let w = wide in
-        let ahead : length (take i (movedUp xs x) ++ (getD xs i d ∷ [])) ≡ i + 1 = (let a = length-append (take i (movedUp xs x)) (getD xs i d ∷ []) in let b = length-take-le i (movedUp xs x) (omega (arith, long, w, h)) in omega (arith, a, b)) in
+        let ahead : length (take i (movedUp xs x) ++ (getD xs i d ∷ [])) ≡ i + 1 =
+        (let a = length-append (take i (movedUp xs x)) (getD xs i d ∷ []) in let b = length-take-le i (movedUp xs x) (omega (arith, long, w, h)) in omega (arith, a, b)) in
         ap (λ (l : List A). getD l (i + 1) b)
         (p .made ∙ ap (λ (l : List A). take i (movedUp xs x) ++ l) (next-of xs i d (omega (arith, long, h)) ∙ ap (λ (l : List A). getD xs i d ∷ l) (next-of xs (i + 1) d (omega (arith, long, h))))
         ∙ sym (append-assoc (take i (movedUp xs x)) (getD xs i d ∷ []) (getD xs (i + 1) d ∷ drop (i + 1 + 1) xs)))

@@ -54,7 +54,8 @@ module _ (h : History) (r : Request) where
   unfolding stepHistory
   turned-away {n} e k =
       sym
-      (ap (λ (m : ℕ). cond (eqb m 0) (record { answer = stepOf (h .now .field) r .answer; after = keeping h (withIndex (stepOf (h .now .field) r .field)) }) (record { answer = numberAndZeros m; after = h })) e
+      (ap (λ (m : ℕ). cond (eqb m 0) (record { answer = stepOf (h .now .field) r .answer; after = keeping h (withIndex (stepOf (h .now .field) r .field)) })
+      (record { answer = numberAndZeros m; after = h })) e
       ∙ if-false _ _ (ne-eqb n 0 k))
 
   -- .. or accepted

@@ -4,6 +4,7 @@ use mathlib.Core.List.{List, [], _∷_, _++_}
 use Prim.Native.Nat.{ℕ, _+_, _-_}
 use lib.Dec.{eqb, leb, ltb}
 use lib.ListN.{getD, take, drop, set, replicate}
+use Rattle.limits.specs.Limits.{desks}
 use Rattle.request.specs.Input.{within, firstRefused, inputNumber}
 use Rattle.request.specs.declared.Request.{Request}
 use Rattle.field.specs.declared.Legs.{Legs}
@@ -22,8 +23,8 @@ use Rattle.history.specs.declared.SteppedHistory.{SteppedHistory}
 abbrev pub mostKept : ℕ
 mostKept = 8
 
--- a field with its index, such as one built from a classroom list (02, 2.12), of which no field before it is kept; all eight places hold the empty field
--- with its legs (02, 2.13)
+-- a field with its index, such as one that a classroom list gives (02, 2.12), with none kept before it; the eight places for kept ones all have the empty
+-- field with its legs (02, 2.13)
 unfoldable pub startWith : Indexed → History
 startWith x = record { now = x; kept = replicate mostKept (withIndex (emptyField (x .field .legs))); count = 0 }
 
@@ -61,8 +62,8 @@ numberHistory h r =
     (cond (withinBoundsHistory h) (numberOf (h .now .field) r) 10)
     (inputNumber r)
 
--- the step: an accepted request, a tick too, is answered and takes effect as on the field, and the field before it is kept; an entry that moves another
--- down (02, 2.5) keeps one field. A refused request answers its number and zeros, and changes nothing
+-- the step: an accepted request, a tick too, is answered and takes effect as on the field, and the field before it is kept, one also where an entry moves
+-- another down (02, 2.5). A refused request answers its number and zeros, and changes nothing
 unfoldable pub stepHistory : History → Request → SteppedHistory
 stepHistory h r =
     cond (eqb (numberHistory h r) 0)
@@ -73,13 +74,13 @@ stepHistory h r =
 
 -- the number of a step back by a desk: 31 for a desk that is not 1 or 2, 10 where the bounds are broken, 27 where no field is kept, in this order
 unfoldable pub numberBack : History → ℕ → ℕ
-numberBack h desk = firstRefused ((31, within 1 2 desk) ∷ (10, withinBoundsHistory h) ∷ (27, ltb 0 (h .count)) ∷ [])
+numberBack h desk = firstRefused ((31, within 1 desks desk) ∷ (10, withinBoundsHistory h) ∷ (27, ltb 0 (h .count)) ∷ [])
 
 -- the last kept field given back, with its index: one field less counts, and every place keeps what it had
 unfoldable pub givenBack : History → History
 givenBack h = record { now = getD (h .kept) (h .count - 1) (h .now); kept = h .kept; count = h .count - 1 }
 
--- the step back: it answers zeros, as a tick does; a refused one answers its number and zeros, and changes nothing
+-- the step back: the answer is zeros; a refused one answers its number and zeros, and changes nothing
 unfoldable pub stepBack : History → ℕ → SteppedHistory
 stepBack h desk =
     cond (eqb (numberBack h desk) 0)

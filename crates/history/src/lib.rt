@@ -103,7 +103,7 @@ fn keep(h: History, next: Indexed) -> History
 }
 
 // The number and zeros, and what was handed in.
-fn turned_away(h: History, number: u16) -> SteppedHistory
+pub fn turned_away(h: History, number: u16) -> SteppedHistory
     ensures { λ s. ⌜ s ≡ record { answer = numberAndZeros number; after = h } ⌝ }
 {
     SteppedHistory {

@@ -16,7 +16,7 @@ use Rattle.demand.specs.Demand.{Demand3Of}
 use Rattle.demand.specs.Exact.{WholeLegs, inMiles, ExactOf}
 use Rattle.indexed.specs.Indexed.{withIndex, stepIndexed, playedIndexed, indexedAfter}
 
--- the index says of every number, present or absent, what a look through the queues would say
+-- the index has every number that is on the field where the queues have it, and no other
 abbrev pub SaysAsLooked : Indexed → Type 0
 SaysAsLooked x = (number : ℕ) → foundIn (x .index) number ≡ placeOf (x .field) number
 
@@ -43,10 +43,10 @@ pub record Demand3Indexed (legs : Legs) (rs : List Request) : Type 0 where
   pub holds : Demand3Of (playedIndexed (emptyIndexed legs) rs) (indexedAfter (emptyIndexed legs) rs .field)
   -- .. also where it speaks of what is played from there on; ..
   pub goes-on : (more : List Request) → playedIndexed (indexedAfter (emptyIndexed legs) rs) more ≡ played (indexedAfter (emptyIndexed legs) rs .field) more
-  -- .. and the field is within the bounds, with its own index, which says what a look through the queues would say
+  -- .. and the field is within the bounds, with its own index, which says where everyone is
   pub still-within : T (withinBoundsIndexed (indexedAfter (emptyIndexed legs) rs))
   pub says : SaysAsLooked (indexedAfter (emptyIndexed legs) rs)
 
--- exactness of the field with its index, after a list of requests from the empty one with legs in whole 64ths
+-- exactness of the field with its index, where the legs are whole 64ths, after a list of requests from the empty one
 abbrev pub ExactIndexed : WholeLegs → List Request → Type 0
 ExactIndexed w rs = ExactOf w (playedIndexed (emptyIndexed (inMiles w)) rs) (indexedAfter (emptyIndexed (inMiles w)) rs .field)

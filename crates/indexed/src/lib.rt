@@ -3,11 +3,15 @@ use bounds::within_bounds;
 use effects::effect;
 use field::Field;
 use field::Sequence;
+use finder::Entry;
 use finder::Index;
 use finder::Indexed;
 use finder::find;
 use finder::index_of;
 use finder::within_bounds_indexed;
+use kept_up::is_told;
+use kept_up::kept_up;
+use kept_up::leads_to;
 use needs::check_number;
 use questions::find::leader_of;
 use request::Request;
@@ -17,12 +21,13 @@ use step::acceptance;
 use step::along_of;
 use step::number_and_zeros;
 ghost use mathlib.Core.Path.{_≡_};
-ghost use mathlib.Core.Bool.{false, cond};
+ghost use mathlib.Core.Bool.{true, false, cond};
 ghost use lib.Dec.{T, eqb};
 ghost use Rattle.request.specs.Input.{within, inputNumber};
 ghost use Rattle.questions.specs.Find.{leaderOf};
 ghost use Rattle.bounds.specs.Bounds.{withinBounds};
 ghost use Rattle.finder.specs.Finder.{indexOf, foundIn, withinBoundsIndexed};
+ghost use Rattle.kept_up.specs.KeptUp.{isTold, keptUp};
 ghost use Rattle.rules.specs.Step.{numberOf, numberAndZeros, acceptanceOn};
 ghost use Rattle.indexed.specs.Indexed.{withIndex, numberIndexed, stepIndexed};
 
@@ -72,10 +77,22 @@ fn zone_ahead(index: Index, s: Sequence, r: Request) -> usize
     }
 }
 
+// The index of the field `g` after a request that is accepted and no tick: kept up from that of the field before where the kind and the zone tell where
+// the aircraft went, which the entry says, and else made anew.
+fn index_after(index: Index, g: Field, kind: u8, from: u8, to: Entry) -> Index
+    requires { ⌜ (isTold kind from ≡ true → keptUp from to index ≡ indexOf g) ⌝ }
+    ensures { λ i. ⌜ i ≡ indexOf g ⌝ }
+{
+    if is_told(kind, from) {
+        return kept_up(index, from, to);
+    }
+    index_of(g)
+}
+
 // The answer to a request that is accepted and the index of the field `g` after it, from the index of the field before: a tick leaves the
-// index, and after any other request it is made anew.
-fn answered(index: Index, g: Field, r: Request, along: u16) -> AnswerAndIndex
-    requires { ⌜ T (withinBounds g) × (r .kind ≡ 12 → index ≡ indexOf g) ⌝ }
+// index.
+fn answered(index: Index, g: Field, r: Request, along: u16, from: u8, to: Entry) -> AnswerAndIndex
+    requires { ⌜ T (withinBounds g) × (r .kind ≡ 12 → index ≡ indexOf g) × (isTold (r .kind) from ≡ true → keptUp from to index ≡ indexOf g) ⌝ }
     ensures { λ a. ⌜ a ≡ record { answer = cond (eqb (r .kind) 12) (numberAndZeros 0) (acceptanceOn g r along); index = indexOf g } ⌝ }
 {
     let kind = r.kind;
@@ -87,7 +104,7 @@ fn answered(index: Index, g: Field, r: Request, along: u16) -> AnswerAndIndex
     }
     let number = r.number;
     let s = g.sequence;
-    let made = index_of(g);
+    let made = index_after(index, g, kind, from, to);
     let ahead = find(made, leader_of(s, number));
     AnswerAndIndex {
         answer: acceptance(g, find(made, number), ahead, r, along),
@@ -127,13 +144,20 @@ fn step_by_index(x: Indexed, r: Request, judged: bool) -> SteppedIndexed
     }
     let zone = at.zone;
     let along = along_of(f, r, zone);
+    let to = leads_to(r.kind, zone);
+    let there = f.zones[to - 1].length;
     let g = effect(f, r, zone, ahead);
     if judged {
         if !within_bounds(g) {
             return turned_away(x, 25);
         }
     }
-    accepted(answered(index, g, r, along), g)
+    let led = Entry {
+        number: r.number,
+        zone: to as u8,
+        place: (there + 1) as u8,
+    };
+    accepted(answered(index, g, r, along, zone, led), g)
 }
 
 // The step: the answer to a request, and the field with its index after it. Both are judged before, and the field after.

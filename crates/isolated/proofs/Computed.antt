@@ -8,7 +8,7 @@ use native.Mathlib.Omega.{arith}
 use lib.Dec.{T, eqb}
 use Rattle.request.specs.declared.Request.{Request}
 use Rattle.field.specs.declared.Field.{Field}
-use Rattle.field.specs.Lists.{every}
+use Rattle.field.specs.Lists.{every, Each}
 use Rattle.field.proofs.Tests.{each-zone}
 use lib.Ieee.{neg, add, sub, mul, div, ofInt, round, lt, le, eq}
 use Rattle.leg.specs.Progress.{advanced, pastEnd, waitedAfter, missedLeg}
@@ -29,9 +29,8 @@ use Rattle.rules.specs.Play.{fieldAfter}
 use Rattle.renaming.specs.Renaming.{Renaming, exchanged}
 use Rattle.renaming.proofs.Exchanged.{exchange-apart, exchange-renames}
 use Rattle.indexed.specs.Indexed.{withIndex, numberIndexed, stepIndexed}
-use Rattle.owners.specs.Owners.{Each}
 use Rattle.isolated.specs.Isolated.{FixesOne, FixesAircraft, KeepsOwn}
-use Rattle.isolated.specs.Seen.{otherLets, seen}
+use Rattle.isolated.specs.Seen.{otherLets, seenSessions}
 use Rattle.isolated.specs.Weaker.{OnlyAccepted, OnlyNamed, NotApart, ZeroToo, EachNeeded}
 
 -- ---- the field and the sessions
@@ -76,7 +75,7 @@ not-own : {A : Type 0} → _≡_ {A = ℕ} 2 1 → A
 not-own e = absurd (omega arith)
 
 -- all together, so that what is computed is unfolded once
-computed : T (every caseHolds seen) × EachNeeded
+computed : T (every caseHolds seenSessions) × EachNeeded
 unfolding
     advanced pastEnd waitedAfter missedLeg deskAllowed kindAllowed sideAllowed numberAllowed amountAllowed inputNumber isSide opposite isFlyingZone zoneOf queueOf inZone orderOf progressInto entering
     onLeg arrived turnedAway withFix legOf legFlownOut emptyField howMany howManyWithFix presentOn inOperation inArea perFix approachHolds countedFor potentialOf findIn placeOf
@@ -142,5 +141,5 @@ pub each-needed : EachNeeded
 each-needed = computed .1
 
 -- What a desk does see of the other.
-pub seen-cases : T (every caseHolds seen)
+pub seen-cases : T (every caseHolds seenSessions)
 seen-cases = computed .0

@@ -17,7 +17,7 @@ use Rattle.field.specs.declared.Aircraft.{Aircraft}
 use Rattle.field.specs.declared.Zone.{Zone}
 use Rattle.field.specs.declared.Field.{Field}
 use Rattle.field.specs.Boxes.{everywhere, emptyZone, zoneOf, queueOf, inZone}
-use Rattle.field.specs.Lists.{every}
+use Rattle.field.specs.Lists.{every, Each}
 use Rattle.field.proofs.Lists.{every-listed, zone-listed}
 use Rattle.field.proofs.Tests.{decided, if-false, either-way}
 use Rattle.bounds.specs.Bounds.{isWaiting, isNobody, zoneKept, withinBounds}
@@ -27,10 +27,9 @@ use Rattle.rules.specs.Step.{stepOf}
 use Rattle.rules.specs.Play.{played, ofDesk}
 use Rattle.renaming.specs.Renaming.{Renaming, renamedAircraft, renamedZone, renamedField, renamedRequest, renamedPair}
 use Rattle.renaming.proofs.Theorems.{played-renamed}
-use Rattle.owners.specs.Owners.{Each}
 use Rattle.isolated.specs.Isolated.{FixesRequest, FixesRequests, FixesOne, FixesAircraft, Isolation, renamedOther, renamedOthersIn, renamedOthers, renamedOtherRequest, renamedOtherRequests}
 use Rattle.owners.proofs.Lists.{each-parts, each-places, maps-agree}
-use Rattle.isolated.proofs.Stays.{StaysIn, Stays, step-stays}
+use Rattle.isolated.proofs.Stays.{StaysIn, Stays, own-numbers-stay}
 use Rattle.isolated.proofs.Shown.{pair-stays}
 
 -- a test of several parts passes its first
@@ -46,7 +45,9 @@ module _ (d : ℕ) {π : ℕ → ℕ} (p : Renaming π) where
   unfolding isNobody
   past-stays [] t = tt
   past-stays (a ∷ xs) t =
-      let none = first-part (eqb (a .number) 0) (eqb (a .fix) 0) (eqb (a .speed) 0) (eqb (a .desk) 0) (eq (a .waited) (whole 0)) (eq (a .leg) (whole 0)) (isWaiting (a .progress)) (and-l (isNobody a) (every isNobody xs) t) in
+      let none =
+      first-part (eqb (a .number) 0) (eqb (a .fix) 0) (eqb (a .speed) 0) (eqb (a .desk) 0) (eq (a .waited) (whole 0))
+      (eq (a .leg) (whole 0)) (isWaiting (a .progress)) (and-l (isNobody a) (every isNobody xs) t) in
       ((λ e. rw (eqb→eq (a .number) 0 none) (p .zero)), past-stays xs (and-r (isNobody a) (every isNobody xs) t))
 
   module _ (f : Field) (w : T (withinBounds f)) (h : FixesAircraft d π f) where
@@ -89,7 +90,7 @@ module _ (d : ℕ) {π : ℕ → ℕ} (p : Renaming π) where
   own-answers : (f : Field) (rs : List Request) → Stays d π f → FixesRequests d π rs → ofDesk d (map (renamedPair π) (played f rs)) ≡ ofDesk d (played f rs)
   own-answers f [] h k = refl
   own-answers f (r ∷ rs) h k =
-      same-listed (decided (eqb (r .desk) d)) (own-answers (stepOf f r .field) rs (step-stays d p f r (k .0) h) (k .1))
+      same-listed (decided (eqb (r .desk) d)) (own-answers (stepOf f r .field) rs (own-numbers-stay d p f r (k .0) h) (k .1))
     where
       pair : Request × Answer
       pair = (r, stepOf f r .answer)

@@ -30,5 +30,5 @@ module _ (d : ℕ) {π : ℕ → ℕ} (p : Renaming π) where
   pub effect-stays : (f : Field) (r : Request) → FixesRequest d π r → Stays d π f → Stays d π (effectOf f r)
   effect-stays = everyone.effect-stays (Fixed d π) (λ e. p .zero)
 
-  pub step-stays : (f : Field) (r : Request) → FixesRequest d π r → Stays d π f → Stays d π (stepOf f r .field)
-  step-stays = everyone.step-stays (Fixed d π) (λ e. p .zero)
+  pub own-numbers-stay : (f : Field) (r : Request) → FixesRequest d π r → Stays d π f → Stays d π (stepOf f r .field)
+  own-numbers-stay = everyone.step-stays (Fixed d π) (λ e. p .zero)

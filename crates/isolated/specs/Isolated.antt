@@ -11,9 +11,9 @@ use Rattle.field.specs.declared.Aircraft.{Aircraft}
 use Rattle.field.specs.declared.Zone.{Zone}
 use Rattle.field.specs.declared.Field.{Field}
 use Rattle.field.specs.Boxes.{inZone}
+use Rattle.field.specs.Lists.{Each}
 use Rattle.bounds.specs.Bounds.{withinBounds}
 use Rattle.rules.specs.Play.{played, ofDesk}
-use Rattle.owners.specs.Owners.{Each}
 use Rattle.renaming.specs.Renaming.{Renaming, renamedAircraft, renamedSequence, renamedRequest}
 
 -- ---- the other desk's numbers renamed; this desk is d
@@ -44,7 +44,7 @@ renamedOtherRequests d π rs = map (renamedOtherRequest d π) rs
 abbrev pub FixesRequest : ℕ → (ℕ → ℕ) → Request → Type 0
 FixesRequest d π r = r .desk ≡ d → π (r .number) ≡ r .number
 
--- each number that desk d names in the list, in refused requests too: "each number this desk ever names" (02, 2.10)
+-- each number that desk d names in the list, also where it is refused (02, 2.10)
 abbrev pub FixesRequests : ℕ → (ℕ → ℕ) → List Request → Type 0
 FixesRequests d π rs = Each (FixesRequest d π) rs
 

@@ -7,6 +7,7 @@ use lib.Dec.{T, eqb}
 use lib.ListN.{length}
 use Rattle.request.specs.declared.Request.{Request}
 use Rattle.field.specs.declared.Field.{Field}
+use Rattle.field.specs.Lists.{Each}
 use Rattle.questions.specs.Find.{leaderOf}
 use Rattle.bounds.specs.Bounds.{withinBounds}
 use Rattle.finder.specs.declared.Indexed.{Indexed}
@@ -15,7 +16,6 @@ use Rattle.rules.specs.declared.Answer.{Answer}
 use Rattle.rules.specs.Play.{fieldAfter, played, ofDesk}
 use Rattle.renaming.specs.Renaming.{Renaming}
 use Rattle.indexed.specs.Indexed.{playedIndexed}
-use Rattle.owners.specs.Owners.{Each}
 use Rattle.isolated.specs.Isolated.{renamedOthers, renamedOtherRequest, renamedOtherRequests, FixesRequests, FixesAircraft, KeepsOwn}
 
 -- ---- something less is asked of the new numbers
@@ -55,12 +55,13 @@ pub record ZeroToo (d : ℕ) (π : ℕ → ℕ) (f : Field) (rs : List Request) 
 abbrev pub acceptedRenamed : ℕ → (ℕ → ℕ) → Field → List Request → List Request
 acceptedRenamed d π f rs = map (λ (p : Request × Answer). cond (eqb (p .1 .number) 0) (renamedOtherRequest d π (p .0)) (p .0)) (played f rs)
 
+-- the claim, with that list
 abbrev pub RefusedStay : Type 0
 RefusedStay =
     (f : Field) → length (f .zones) ≡ 13 → T (withinBounds f) → (d : ℕ) (rs : List Request) (π : ℕ → ℕ) → KeepsOwn d π f rs
     → ofDesk d (played (renamedOthers d π f) (acceptedRenamed d π f rs)) ≡ ofDesk d (played f rs)
 
--- the leader of a number that stays is shown, whosever it is
+-- more than what answers show: `leaderOf`, who is ahead in the sequence, stays the same for every number that stays, also where the leader is the other desk's
 abbrev pub LeaderShown : Type 0
 LeaderShown =
     (f : Field) → length (f .zones) ≡ 13 → T (withinBounds f) → (d : ℕ) (rs : List Request) (π : ℕ → ℕ) → KeepsOwn d π f rs

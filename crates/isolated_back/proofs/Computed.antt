@@ -9,7 +9,7 @@ use lib.Ieee.Fits.{and-l, and-r}
 use borrow.Author.Tests.{eq-eqb}
 use Rattle.field.specs.declared.Aircraft.{Aircraft}
 use Rattle.field.specs.declared.Field.{Field}
-use Rattle.field.specs.Lists.{every}
+use Rattle.field.specs.Lists.{every, Each}
 use Rattle.field.proofs.Lists.{every-listed, zone-listed}
 use lib.Ieee.{neg, add, sub, mul, div, ofInt, round, lt, le, eq}
 use Rattle.leg.specs.Progress.{advanced, pastEnd, waitedAfter, missedLeg}
@@ -30,7 +30,6 @@ use Rattle.rules.specs.Cases.{ask, allLegs}
 use Rattle.renaming.specs.Renaming.{exchanged}
 use Rattle.renaming.proofs.Exchanged.{exchange-renames}
 use Rattle.indexed.specs.Indexed.{withIndex}
-use Rattle.owners.specs.Owners.{Each}
 use Rattle.isolated.specs.Isolated.{FixesOne, FixesAircraft}
 use Rattle.isolated.specs.Seen.{otherLets}
 use Rattle.history.specs.declared.History.{History}
@@ -59,7 +58,8 @@ those-stay π (a ∷ l) t = (one-stays π a (and-l (staysOf π a) (every (staysO
 
 stay-on : (π : ℕ → ℕ) (f : Field) → T (staysOn π f) → FixesAircraft 1 π f
 stay-on π f t z w =
-    those-stay π (inZone f z) (every-listed (λ z. every (staysOf π) (inZone f z)) everywhere z t (zone-listed z (record { least = leb→le 1 z (and-l (leb 1 z) (leb z 13) w); most = leb→le z 13 (and-r (leb 1 z) (leb z 13) w) })))
+    those-stay π (inZone f z) (every-listed (λ z. every (staysOf π) (inZone f z)) everywhere z t
+    (zone-listed z (record { least = leb→le 1 z (and-l (leb 1 z) (leb z 13) w); most = leb→le z 13 (and-r (leb 1 z) (leb z 13) w) })))
 
 stay-on-each : (π : ℕ → ℕ) (l : List Indexed) → T (every (λ (x : Indexed). staysOn π (x .field)) l) → Each (λ (x : Indexed). FixesAircraft 1 π (x .field)) l
 stay-on-each π [] t = tt

@@ -12,7 +12,7 @@ use lib.ListN.{length, drop, length-map, length-append, length-drop}
 use lib.Seq.{length-take-le, take-at}
 use borrow.Author.Tests.{eqb-true, eq-eqb}
 use Rattle.request.specs.declared.Request.{Request}
-use Rattle.field.specs.Lists.{every}
+use Rattle.field.specs.Lists.{every, Each}
 use Rattle.field.proofs.Tests.{pass, passed, decided, if-false, either-way}
 use Rattle.finder.specs.declared.Indexed.{Indexed}
 use Rattle.finder.specs.Finder.{withinBoundsIndexed}
@@ -20,7 +20,6 @@ use Rattle.rules.specs.declared.Answer.{Answer}
 use Rattle.renaming.specs.Renaming.{Renaming, renamedRequest, renamedAnswer}
 use Rattle.indexed.specs.Indexed.{withIndex}
 use Rattle.indexed.proofs.Steps.{field-within, index-own}
-use Rattle.owners.specs.Owners.{Each}
 use Rattle.isolated.specs.Isolated.{FixesAircraft}
 use Rattle.owners.proofs.Lists.{maps-agree}
 use Rattle.isolated.proofs.Shown.{zeros-stay, answer-stays}
@@ -66,7 +65,8 @@ module _ (d : ℕ) {π : ℕ → ℕ} (p : Renaming π) where
   calls-same g h q [] k = refl
   calls-same g h q (c ∷ cs) k =
       let a = call-renamed g h q c (k .0) in
-      ap (λ (n : ℕ). cond (eqb n d) (pair ∷ callsOf d (playedCalls (called g (renamedOtherCall d π c) .after) (map (renamedOtherCall d π) cs))) (callsOf d (playedCalls (called g (renamedOtherCall d π c) .after) (map (renamedOtherCall d π) cs)))) (desk-stays c)
+      ap (λ (n : ℕ). cond (eqb n d) (pair ∷ callsOf d (playedCalls (called g (renamedOtherCall d π c) .after) (map (renamedOtherCall d π) cs)))
+      (callsOf d (playedCalls (called g (renamedOtherCall d π c) .after) (map (renamedOtherCall d π) cs)))) (desk-stays c)
       ∙ same-listed (decided (eqb (callDesk c) d)) a (calls-same (called g (renamedOtherCall d π c) .after) (called h c .after) (a .after) cs (k .1))
     where
       pair : Call × Answer

@@ -12,7 +12,7 @@ use borrow.Author.Tests.{eqb-true, eqb-false}
 use Rattle.request.specs.Input.{within, firstRefused}
 use Rattle.request.specs.declared.Request.{Request}
 use Rattle.field.specs.declared.Field.{Field}
-use Rattle.field.specs.Lists.{every}
+use Rattle.field.specs.Lists.{every, Each}
 use Rattle.field.proofs.Tests.{decided, either-way}
 use Rattle.finder.specs.declared.Indexed.{Indexed}
 use Rattle.finder.specs.Finder.{withinBoundsIndexed}
@@ -25,10 +25,9 @@ use Rattle.renaming.proofs.Needed.{input-renamed}
 use Rattle.renaming.proofs.Theorems.{number-renamed, step-renamed}
 use Rattle.indexed.specs.Indexed.{withIndex}
 use Rattle.indexed.proofs.Own.{within-own}
-use Rattle.owners.specs.Owners.{Each}
 use Rattle.isolated.specs.Isolated.{FixesRequest}
 use Rattle.owners.proofs.Lists.{each-drop, each-take, each-append, each-at}
-use Rattle.isolated.proofs.Stays.{Stays, step-stays}
+use Rattle.isolated.proofs.Stays.{Stays, own-numbers-stay}
 use Rattle.isolated.proofs.Shown.{zeros-stay}
 use Rattle.history.specs.declared.History.{History}
 use Rattle.history.specs.declared.SteppedHistory.{SteppedHistory}
@@ -97,7 +96,8 @@ module _ (d : ℕ) {π : ℕ → ℕ} (p : Renaming π) where
       left-same =
           ap (λ (k : ℕ). cond (ltb k mostKept) (counted g) (drop 1 (counted g))) (q .count)
           ∙ ap (λ (l : List Indexed). cond (ltb (h .count) mostKept) l (drop 1 l)) (q .kept)
-          ∙ either-way (λ (l : List Indexed). cond (ltb (h .count) mostKept) (map renamed (counted h)) (drop 1 (map renamed (counted h))) ≡ map renamed l) (ltb (h .count) mostKept) (counted h) (drop 1 (counted h))
+          ∙ either-way (λ (l : List Indexed). cond (ltb (h .count) mostKept) (map renamed (counted h)) (drop 1 (map renamed (counted h))) ≡ map renamed l)
+          (ltb (h .count) mostKept) (counted h) (drop 1 (counted h))
           (λ t. ap (λ (b : Bool). cond b (map renamed (counted h)) (drop 1 (map renamed (counted h)))) t)
           (λ t. ap (λ (b : Bool). cond b (map renamed (counted h)) (drop 1 (map renamed (counted h)))) t ∙ drop-map renamed 1 (counted h))
 
@@ -166,7 +166,7 @@ module _ (d : ℕ) {π : ℕ → ℕ} (p : Renaming π) where
   unfolding withIndex
   stepped-renamed g h q r k =
       let f = h .now .field in
-      keeping-renamed g h q (withIndex (stepOf f r .field)) (record { own = refl; stays = step-stays d p f r k (q .own-now .stays) })
+      keeping-renamed g h q (withIndex (stepOf f r .field)) (record { own = refl; stays = own-numbers-stay d p f r k (q .own-now .stays) })
 
   -- ---- a call
   pub record Answered (s t : SteppedHistory) : Type 0 where

@@ -6,11 +6,11 @@ use mathlib.Core.List.{List, [], _∷_, _++_, map}
 use Prim.Native.Nat.{ℕ}
 use lib.Dec.{T, eqb}
 use lib.ListN.{length, drop}
+use Rattle.field.specs.Lists.{Each}
 use Rattle.finder.specs.declared.Indexed.{Indexed}
 use Rattle.rules.specs.declared.Answer.{Answer}
 use Rattle.renaming.specs.Renaming.{Renaming}
 use Rattle.indexed.specs.Indexed.{withIndex}
-use Rattle.owners.specs.Owners.{Each}
 use Rattle.isolated.specs.Isolated.{renamedOthers, renamedOtherRequest, FixesRequest, FixesAircraft}
 use Rattle.history.specs.declared.History.{History}
 use Rattle.history.specs.History.{mostKept, counted, withinBoundsHistory}
@@ -18,7 +18,7 @@ use Rattle.taken_back.specs.Calls.{Call, request, back, playedCalls}
 
 -- ---- the other desk's numbers renamed; this desk is d
 
--- a field with its index: the other desk's aircraft and the sequence, and the index put in order again (02, 2.10)
+-- a field with its index: the other desk's aircraft and the sequence are renamed, and the index is the renamed field's own (02, 2.10)
 abbrev pub renamedIndexed : ℕ → (ℕ → ℕ) → Indexed → Indexed
 renamedIndexed d π x = withIndex (renamedOthers d π (x .field))
 
@@ -59,7 +59,7 @@ pub record KeepsOwnBack (d : ℕ) (π : ℕ → ℕ) (h : History) (cs : List Ca
   pub calls : Each (FixesCall d π) cs
   -- each number that its aircraft carry on the field stays, ..
   pub aircraft : FixesAircraft d π (h .now .field)
-  -- .. and on each kept field that counts: "the numbers of this desk's aircraft there stay" (02, 2.13)
+  -- .. and so does each that they carry on a kept field that counts (02, 2.13)
   pub kept : Each (λ (x : Indexed). FixesAircraft d π (x .field)) (counted h)
 
 -- ---- the claim

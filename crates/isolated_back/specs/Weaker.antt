@@ -4,10 +4,10 @@ use mathlib.Core.List.{List, _++_, map}
 use Prim.Native.Nat.{ℕ}
 use lib.Dec.{T}
 use lib.ListN.{drop}
+use Rattle.field.specs.Lists.{Each}
 use Rattle.finder.specs.declared.Entry.{Entry}
 use Rattle.finder.specs.declared.Indexed.{Indexed}
 use Rattle.renaming.specs.Renaming.{Renaming}
-use Rattle.owners.specs.Owners.{Each}
 use Rattle.isolated.specs.Isolated.{renamedOthers, FixesAircraft}
 use Rattle.history.specs.declared.History.{History}
 use Rattle.history.specs.History.{counted, withinBoundsHistory}
@@ -33,7 +33,7 @@ abbrev pub notInOrder : ℕ → (ℕ → ℕ) → Indexed → Indexed
 notInOrder d π x =
     record { field = renamedOthers d π (x .field); index = record { entries = map (λ (e : Entry). record { number = π (e .number); zone = e .zone; place = e .place }) (x .index .entries) } }
 
--- the numbers of this desk's aircraft on kept fields need not stay
+-- nothing is asked of the numbers that this desk's aircraft have on kept fields
 pub record OnlyOnField (d : ℕ) (π : ℕ → ℕ) (h : History) (cs : List Call) : Type 0 where
   pub renaming : Renaming π
   pub calls : Each (FixesCall d π) cs

@@ -123,6 +123,8 @@ shaped-within f w zones places numbers =
     let q = zoneOf f z in
     record {
       places = places z r;
-      fits = leb→le (q .length) 4 (and-l (leb (q .length) 4) (every isNobody (drop (q .length) (q .aircraft))) (every-listed (λ y. zoneKept (zoneOf f y)) everywhere z (within-e f w .zones-kept) (zone-listed z r)));
+      fits =
+          leb→le (q .length) 4 (and-l (leb (q .length) 4) (every isNobody (drop (q .length) (q .aircraft)))
+          (every-listed (λ y. zoneKept (zoneOf f y)) everywhere z (within-e f w .zones-kept) (zone-listed z r)));
     })
     (record { places = numbers; fits = leb→le (s .length) 4 (and-l (leb (s .length) 4) (every (λ n. eqb n 0) (drop (s .length) (s .numbers))) (within-e f w .sequence-kept)) })

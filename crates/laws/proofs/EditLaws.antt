@@ -140,14 +140,10 @@ module _ (f : Field) (z : ℕ) (q : Zone) where
       go (suc i) zero h = refl
       go (suc i) (suc j) h = getD-set-other (f .zones) i j q emptyZone (λ e. h (ap suc e))
 
-  -- The sequence and the legs are as they were.
+  -- The sequence is as it was.
   pub sequence-kept : withZone f z q .sequence ≡ f .sequence
   unfolding withZone
   sequence-kept = refl
-
-  pub legs-kept : withZone f z q .legs ≡ f .legs
-  unfolding withZone
-  legs-kept = refl
 
   module _ (r : Between 1 13 z) (long : length (f .zones) ≡ 13) where
     -- What holds of the new zone, and of every other as it was, holds of every zone after.

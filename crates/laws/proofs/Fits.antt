@@ -91,7 +91,8 @@ module _ (legs : Legs) (z : ℕ) (a : Aircraft) where
       (and-i (leb 1 (a .desk)) (leb (a .desk) desks) (le→leb 1 (a .desk) (p .desk .least)) (le→leb (a .desk) desks (p .desk .most))))
       (p .waited))
       (p .own))
-      (either-way (λ (b : Bool). T b) (isFlyingZone z) flown (isWaiting (a .progress)) (λ e. and-i (not (isWaiting (a .progress))) (withinLeg (a .progress) (a .leg)) (p .flies e) (p .along e)) (p .waits))
+      (either-way (λ (b : Bool). T b) (isFlyingZone z) flown (isWaiting (a .progress))
+      (λ e. and-i (not (isWaiting (a .progress))) (withinLeg (a .progress) (a .leg)) (p .flies e) (p .along e)) (p .waits))
 
 -- Everyone in a zone fits it, where bound g holds.
 pub all-fit : (f : Field) → T (boundG f) → (z : ℕ) → 1 ≤ z → z ≤ 13 → T (every (fitsZone (f .legs) z) (inZone f z))
@@ -139,7 +140,8 @@ own-legal legs l z u leg t = go (decided (eqb z (missed right) || eqb z (missed 
 -- ---- an aircraft that comes into a zone
 
 -- It fits the zone where it fitted the one that it came from, and its leg fits.
-into-fits : (legs : Legs) → T (legalLegs legs) → (from to : ℕ) (leg : Float) (a after : Aircraft) → Into to leg a after → T (legFits legs to leg) → T (fitsZone legs from a) → T (fitsZone legs to after)
+into-fits : (legs : Legs) → T (legalLegs legs) → (from to : ℕ) (leg : Float) (a after : Aircraft) → Into to leg a after → T (legFits legs to leg)
+    → T (fitsZone legs from a) → T (fitsZone legs to after)
 into-fits legs l from to leg a after i w t =
     let p = fits-parts legs from a t in
     fits-of legs to after
@@ -160,7 +162,8 @@ into-fits legs l from to leg a after i w t =
 -- The leg of a zone fits it.
 zone-leg-fits : (legs : Legs) → T (legalLegs legs) → (z : ℕ) → T (legFits legs z (legOf legs z))
 unfolding legFits eq ofInt
-zone-leg-fits legs l z = either-way (λ (b : Bool). T b) (eqb z (missed right) || eqb z (missed left)) (legalMissedLeg (legOf legs z)) (eq (legOf legs z) (legOf legs z)) ahead (λ e. same (decided (isFlyingZone z)))
+zone-leg-fits legs l z =
+    either-way (λ (b : Bool). T b) (eqb z (missed right) || eqb z (missed left)) (legalMissedLeg (legOf legs z)) (eq (legOf legs z) (legOf legs z)) ahead (λ e. same (decided (isFlyingZone z)))
   where
     ahead : (eqb z (missed right) || eqb z (missed left)) ≡ true → T (legalMissedLeg (legOf legs z))
     ahead e = longer-legal (legOf legs z) (leg-legal legs l z (missed-flown z e))
@@ -174,7 +177,8 @@ pub arrived-fits : (legs : Legs) → T (legalLegs legs) → (from to : ℕ) (a :
 arrived-fits legs l from to a t = into-fits legs l from to (legOf legs to) a (arrived legs to a) (into-arrived legs to a) (zone-leg-fits legs l to) t
 
 -- And so does one that misses, in a missed zone: the leg ahead is from 1/64 of a mile to 128 miles (02, 2.7).
-pub turned-away-fits : (legs : Legs) → T (legalLegs legs) → (z : ℕ) (a : Aircraft) → (eqb z (missed right) || eqb z (missed left)) ≡ true → T (fitsZone legs finalApproach a) → T (fitsZone legs z (turnedAway legs z a))
+pub turned-away-fits : (legs : Legs) → T (legalLegs legs) → (z : ℕ) (a : Aircraft) → (eqb z (missed right) || eqb z (missed left)) ≡ true
+    → T (fitsZone legs finalApproach a) → T (fitsZone legs z (turnedAway legs z a))
 unfolding legFits isFlyingZone legalLegs legOf
 turned-away-fits legs l z a e t =
     let p = fits-parts legs finalApproach a t in
@@ -199,9 +203,11 @@ refixed-fits legs z fix a s t =
 -- ---- an aircraft that enters
 
 -- It fits a zone that is not flown in, where its fix is a side, its speed is allowed and its desk is one.
-pub entering-fits : (legs : Legs) (z number fix speed desk : ℕ) → T (isSide fix) → Between 1 fastest speed → Between 1 desks desk → isFlyingZone z ≡ false → T (fitsZone legs z (entering number fix speed desk))
+pub entering-fits : (legs : Legs) (z number fix speed desk : ℕ) → T (isSide fix) → Between 1 fastest speed → Between 1 desks desk → isFlyingZone z ≡ false
+    → T (fitsZone legs z (entering number fix speed desk))
 unfolding entering legFits eq ofInt
 entering-fits legs z number fix speed desk s r d e =
-    let own : T (legFits legs z (whole 0)) = subst T (sym (if-false (legalMissedLeg (whole 0)) (eq (whole 0) (legOf legs z)) (not-missed z e))) (subst (λ (x : Float). T (eq (whole 0) x)) (sym (leg-not-flown legs z e)) tt) in
+    let own : T (legFits legs z (whole 0)) =
+    subst T (sym (if-false (legalMissedLeg (whole 0)) (eq (whole 0) (legOf legs z)) (not-missed z e))) (subst (λ (x : Float). T (eq (whole 0) x)) (sym (leg-not-flown legs z e)) tt) in
     fits-of legs z (entering number fix speed desk)
     (record { side = s; speeds = r; desk = d; waited = zero-waited; own = own; flies = λ u. absurd (true≢false (sym u ∙ e)); along = λ u. absurd (true≢false (sym u ∙ e)); waits = λ u. tt })

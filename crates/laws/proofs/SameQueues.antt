@@ -198,7 +198,8 @@ same-with f g z q p s t =
     none : (w : ℕ) → (w ≡ 0) ⊎ (13 < w) → SameZone (zoneOf (withZone f z q) w) (zoneOf (withZone g z p) w)
     none w h = rw (no-zone-empty (withZone f z q) (long-with f z q (s .zones)) w h, no-zone-empty (withZone g z p) (long-with g z p (s .zones-too)) w h) (same-zone emptyZone kept-empty)
 
-    each : (w : ℕ) → (eqb w z ≡ true) ⊎ (eqb w z ≡ false) → (leb 1 z ≡ true) ⊎ (leb 1 z ≡ false) → (leb z 13 ≡ true) ⊎ (leb z 13 ≡ false) → SameZone (zoneOf (withZone f z q) w) (zoneOf (withZone g z p) w)
+    each : (w : ℕ) → (eqb w z ≡ true) ⊎ (eqb w z ≡ false) → (leb 1 z ≡ true) ⊎ (leb 1 z ≡ false) → (leb z 13 ≡ true) ⊎ (leb z 13 ≡ false)
+        → SameZone (zoneOf (withZone f z q) w) (zoneOf (withZone g z p) w)
     each w (inr e) a b = let d = eqb-false w z e in subst (λ (x : Zone). SameZone x (zoneOf (withZone g z p) w)) (sym (zone-kept f z q w d)) (subst (SameZone (zoneOf f w)) (sym (zone-kept g z p w d)) (s .zone w))
     each w (inl e) (inl a) (inl b) =
         let in-range : Between 1 13 z = record { least = leb-true 1 z a; most = leb-true z 13 b } in
@@ -236,7 +237,8 @@ module _ (f g : Field) (s : Same f g) where
   queues-same = fun-ext (λ z. s .zone z .queue)
 
   pub alike : Alike f g
-  alike = record { numbers = λ z. ap (λ (h : ℕ → List Aircraft). map numberOf (h z)) queues-same; fixes = λ z. ap (λ (h : ℕ → List Aircraft). map fixOfOne (h z)) queues-same; sequence = s .sequence; next = s .next }
+  alike =
+      record { numbers = λ z. ap (λ (h : ℕ → List Aircraft). map numberOf (h z)) queues-same; fixes = λ z. ap (λ (h : ℕ → List Aircraft). map fixOfOne (h z)) queues-same; sequence = s .sequence; next = s .next }
 
   -- Within the bounds is the one where the other is.
   pub within-same : T (withinBounds f) → T (withinBounds g)
@@ -256,7 +258,8 @@ module _ (f g : Field) (s : Same f g) where
     where
       zones-same : every (λ z. zoneKept (zoneOf f z)) everywhere ≡ every (λ z. zoneKept (zoneOf g z)) everywhere
       zones-same =
-          let each : (z : ℕ) → zoneKept (zoneOf f z) ≡ zoneKept (zoneOf g z) = λ z. passed {b = zoneKept (zoneOf f z)} (s .zone z .one .kept) ∙ sym (passed {b = zoneKept (zoneOf g z)} (s .zone z .other .kept)) in
+          let each : (z : ℕ) → zoneKept (zoneOf f z) ≡ zoneKept (zoneOf g z) =
+          λ z. passed {b = zoneKept (zoneOf f z)} (s .zone z .one .kept) ∙ sym (passed {b = zoneKept (zoneOf g z)} (s .zone z .other .kept)) in
           ap (λ (p : ℕ → Bool). every p everywhere) (fun-ext each)
 
       e-same : boundE f ≡ boundE g

@@ -110,7 +110,9 @@ module _ (amount z : ℕ) where
       go : (a : Aircraft) (p : Progress) (leg : Float)
           → (zeros a && eq (waitedWith p (a .waited) (a .speed) amount leg) (whole 0) && eq (a .leg) (whole 0) && isWaiting (progressAfter p (a .speed) amount leg)) ≡ (zeros a && eq (a .waited) (whole 0) && eq (a .leg) (whole 0) && isWaiting p)
       go a Waiting leg = refl
-      go a (Flying miles) leg = never (zeros a && eq (waitedWith (Flying miles) (a .waited) (a .speed) amount leg) (whole 0) && eq (a .leg) (whole 0)) ∙ sym (never (zeros a && eq (a .waited) (whole 0) && eq (a .leg) (whole 0)))
+      go a (Flying miles) leg =
+          never (zeros a && eq (waitedWith (Flying miles) (a .waited) (a .speed) amount leg) (whole 0) && eq (a .leg) (whole 0))
+          ∙ sym (never (zeros a && eq (a .waited) (whole 0) && eq (a .leg) (whole 0)))
 
   -- ---- a zone after a tick
   empty-ticked : tickedIn amount z emptyZone ≡ emptyZone

@@ -15,12 +15,12 @@ pub record Between (low high n : ℕ) : Type 0 where
   pub least : low ≤ n
   pub most : n ≤ high
 
--- "4 amount: 1 to 64 for a tick", of each tick of a list
+-- each tick of a list has an amount that is not refused (01, "Turned away by the request or the file", 4)
 abbrev pub TickAmounts : List ℕ → Type 0
 TickAmounts [] = Unit
 TickAmounts (amount ∷ amounts) = Between 1 longestTick amount × TickAmounts amounts
 
--- "the tick amounts added up"
+-- the amounts of a list of ticks together
 abbrev pub addedUp : List ℕ → ℕ
 addedUp [] = 0
 addedUp (amount ∷ amounts) = amount + addedUp amounts
@@ -30,7 +30,7 @@ abbrev pub afterTicks : Progress → ℕ → List ℕ → Float → Progress
 afterTicks p speed [] leg = p
 afterTicks p speed (amount ∷ amounts) leg = afterTicks (progressAfter p speed amount leg) speed amounts leg
 
--- "the miles times 4096 are exactly" n, of miles flown or of a leg's: the fraction n / 4096, and not below zero
+-- the miles, flown or of a leg, are n / 4096 exactly, and not below zero
 abbrev pub Exactly : Float → ℕ → Type 0
 Exactly miles n = HasValue miles false n 4096
 

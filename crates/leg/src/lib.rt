@@ -1,18 +1,18 @@
 // An aircraft's progress along one leg, in miles as an `f64`. A tick of `amount` 64ths of a minute at
-// `speed` 64ths of a mile a minute adds (speed / 64) * (amount / 64) miles, and stops at the leg's length.
+// `speed` 64ths of a mile a minute adds (speed / 64) * (amount / 64) miles, but flies no further than the leg is long.
 // Every function is total: on every `u16`, and on every `f64`, NaN and the infinities included.
 use limits::LONGEST_OWN_LEG;
 use limits::MOST_WAITED;
 ghost use mathlib.Core.Path.{_≡_};
 ghost use Rattle.leg.specs.Progress.{upTo, beyond, advancing, waitedAfter, waitedWithin, flownOut, remaining, missedLeg, withinLeg, legalLeg, legalMissedLeg, sixtyFourths};
 
-// Document 01's progress: waiting, or flying with the miles flown on this leg.
+// The progress of an aircraft (01, "The boxes"): it waits, or it flies and has flown these miles of its leg.
 pub enum Progress {
     Waiting,
     Flying(f64),
 }
 
-// What a tick yields of a flying aircraft: the miles flown after it, and the miles that it would have flown past the leg's end.
+// What a tick yields of a flying aircraft: the miles flown after it, and the miles past the leg's end that it did not fly.
 pub struct Advanced {
     pub miles: f64,
     pub past: f64,

@@ -1,31 +1,31 @@
--- The limits of documents 01 and 02 that several definitions and theorems speak of, each by one name. The words in quotes are those of document 01, and the section is named where the words stand in it.
+-- The limits of documents 01 and 02 that several definitions and theorems speak of, each by one name, with the place where the documents set it.
 use Prim.Native.Nat.{ℕ, _+_, _*_}
 
--- "4 amount: 1 to 64 for a tick" ("Turned away by the request or the file"): the longest tick, in 64ths of a minute
+-- the longest tick, in 64ths of a minute (01, "Turned away by the request or the file", 4)
 abbrev pub longestTick : ℕ
 longestTick = 64
 
--- "4 amount: speed 1 to 512 for kinds 1, 2", and bound g's "speeds 1 to 512": the highest speed, in 64ths of a nautical mile per minute
+-- the highest speed, in 64ths of a nautical mile a minute (01, "Turned away by the request or the file", 4, and "The bounds", g)
 abbrev pub fastest : ℕ
 fastest = 512
 
--- "7 a leg not 1 to 4096 64ths" ("Turned away by the request or the file"): the longest leg of a practice file, in 64ths of a mile
+-- the longest leg of a practice file, in 64ths of a mile (01, "Turned away by the request or the file", 7)
 abbrev pub longestLeg : ℕ
 longestLeg = 4096
 
--- bound g's "legs compare between 1/64 and 64 miles": the same length in miles, as a field holds it
+-- the same length in miles, as a field holds it (01, "The bounds", g)
 abbrev pub longestLegMiles : ℕ
 longestLegMiles = 64
 
--- bound g's "1/64 to 128 miles in zones 7 and 8" (02, 2.7): the longest leg of an aircraft's own, in miles, the missed leg and the whole of final
+-- the longest leg of an aircraft's own, in miles, the missed leg and the whole of final (02, 2.7)
 abbrev pub longestOwnLegMiles : ℕ
 longestOwnLegMiles = 128
 
--- "n a multiple of 6 up to 24,576", of "6 bytes each" ("The practice file"): the most requests of a practice file
+-- the most requests of a practice file, whose body 2 has six bytes for each and 24,576 at most (01, "The practice file")
 abbrev pub mostRequests : ℕ
 mostRequests = 4096
 
--- the most moves that are accepted before the next entry or miss, ticks not counted (02, 2.14)
+-- the most moves from one entry or miss to the next, on a field that requests reach from the empty one (02, 2.14)
 abbrev pub mostMoves : ℕ
 mostMoves = 27
 

@@ -3,7 +3,7 @@
 // The longest tick, in 64ths of a minute.
 pub const LONGEST_TICK: u16 = 64;
 
-// The highest speed, in 64ths of a nautical mile per minute.
+// The highest speed, in 64ths of a nautical mile a minute.
 pub const FASTEST: u16 = 512;
 
 // The desks that share the field, numbered from 1.

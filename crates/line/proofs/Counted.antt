@@ -16,7 +16,7 @@ use Rattle.field.specs.Boxes.{zoneOf, queueOf, inZone, area, approach, operatio
 use Rattle.field.specs.Lists.{isIn}
 use Rattle.questions.specs.Counts.{total, haveFix, howMany, howManyWithFix, inOperation, inArea, perFix, approachHolds, countedFor, potentialOf}
 use Rattle.order.specs.Model.{Side, right, left, opp, num, nextFix, count, countFix, free, potential, all}
-use Rattle.field.proofs.Tests.{if-false, each-zone}
+use Rattle.field.proofs.Tests.{if-false, each-zone, each-operation}
 use Rattle.line.proofs.Line.{zoneFor, queue-for, zone-by, Placed, zonesIn, numbersOf, inside, zonesOf, sequenceFor, fieldOf}
 
 -- ---- what is inside a zone
@@ -156,39 +156,17 @@ module _ (f : Side) (line : List Placed) (runway : List Aircraft) (legs : Legs) 
     unfolding potentialOf countedFor
     potential-is s =
         total-same (countedFor F s) (λ z. cond (isIn z (area s)) (count (zonesIn line) z) (countFix f (zonesIn line) s z)) operation tt
-        (λ z t. ap (λ (n : ℕ). cond (isIn z (area s)) n (howManyWithFix F s z)) (how-many f line runway legs z t) ∙ ap (λ (n : ℕ). cond (isIn z (area s)) (count (zonesIn line) z) n) (how-many-with-fix f line runway legs a s z t))
+        (λ z t. ap (λ (n : ℕ). cond (isIn z (area s)) n (howManyWithFix F s z)) (how-many f line runway legs z t)
+        ∙ ap (λ (n : ℕ). cond (isIn z (area s)) (count (zonesIn line) z) n) (how-many-with-fix f line runway legs a s z t))
 
 -- ---- the counts of the model over all zones add up to the list's length
 
 -- what is counted in one zone is counted once
 pub one-each : (n z : ℕ) → T (within 1 12 z) → total (λ w. cond (eqb z w) n 0) operation ≡ n
 one-each n z t =
-    each-zone (λ (z : ℕ). T (within 1 12 z) → total (λ w. cond (eqb z w) n 0) operation ≡ n) (
-      (λ u. omega arith),
-      (
-        (λ u. omega arith),
-        (
-          (λ u. omega arith),
-          (
-            (λ u. omega arith),
-            (
-              (λ u. omega arith),
-              (
-                (λ u. omega arith),
-                (
-                  (λ u. omega arith),
-                  (
-                    (λ u. omega arith),
-                    ((λ u. omega arith), ((λ u. omega arith), ((λ u. omega arith), ((λ u. omega arith), ((λ u. absurd u), tt))))),
-                  ),
-                ),
-              ),
-            ),
-          ),
-        ),
-      ),
-    )
-    z (lower z t) t
+    each-operation (λ (z : ℕ). total (λ w. cond (eqb z w) n 0) operation ≡ n)
+    (omega arith, omega arith, omega arith, omega arith, omega arith, omega arith, omega arith, omega arith, omega arith, omega arith, omega arith, omega arith)
+    z t
 
 pub total-add : (g h : ℕ → ℕ) (zs : List ℕ) → total (λ z. g z + h z) zs ≡ total g zs + total h zs
 total-add g h [] = refl

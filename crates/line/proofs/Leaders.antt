@@ -52,7 +52,8 @@ module _ (f : Side) (e : Placed) (b : List Placed) (runway : List Aircraft) (leg
       (leader-there f (a ++ (x ∷ [])) e b runway legs d ∙ ap (lastOr 0) (map-append (λ (p : Placed). p .aircraft .number) a (x ∷ [])) ∙ last-is 0 (numbersOf a) m)
       (every-at nonzero (λ (p : Placed). p .aircraft .number) a x (e ∷ b) (subst (λ (l : List Placed). T (every nonzero (numbersOf l))) s n))
       (ap (λ (l : List Placed). placeOf (fieldOf f l runway legs) m .zone) s
-      ∙ ap (λ (p : Place). p .zone) (located f a x (e ∷ b) runway legs (subst (λ (l : List Placed). T (allDifferent (numbersOf l ++ numbers runway))) s d) (all-at (within 1 12) (λ (p : Placed). p .zone) a x (e ∷ b) u))
+      ∙ ap (λ (p : Place). p .zone) (located f a x (e ∷ b) runway legs
+      (subst (λ (l : List Placed). T (allDifferent (numbersOf l ++ numbers runway))) s d) (all-at (within 1 12) (λ (p : Placed). p .zone) a x (e ∷ b) u))
       ∙ sym (ap (lastOr 0) (map-append (λ (p : Placed). p .zone) a (x ∷ [])) ∙ last-is 0 (zonesIn a) (x .zone)))
 
   pub leader-zone : (a : List Placed) → T (allDifferent (numbersOf (a ++ e ∷ b) ++ numbers runway)) → T (every nonzero (numbersOf (a ++ e ∷ b))) → T (all (within 1 12) (zonesIn (a ++ e ∷ b)))

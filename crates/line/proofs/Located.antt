@@ -135,7 +135,8 @@ module _ (f : Side) (a : List Placed) (e : Placed) (b : List Placed) (runway : L
   elsewhere : (z : ℕ) → eqb (e .zone) z ≡ false → isIn n (numbers (inside z (a ++ e ∷ b))) ≡ false
   elsewhere z h =
       ap (λ (l : List Aircraft). isIn n (numbers l)) (inside-other z a e b h ∙ sym (inside-append z a b))
-      ∙ absent-inside n z (a ++ b) (ap (isIn n) (map-append (λ (p : Placed). p .aircraft .number) a b) ∙ Rattle.field.proofs.Lists.absent-both n (numbersOf a) (numbersOf b) (apart .ahead) (absent-left n (numbersOf b) (numbers runway) (apart .behind)))
+      ∙ absent-inside n z (a ++ b) (ap (isIn n) (map-append (λ (p : Placed). p .aircraft .number) a b)
+      ∙ Rattle.field.proofs.Lists.absent-both n (numbersOf a) (numbersOf b) (apart .ahead) (absent-left n (numbersOf b) (numbers runway) (apart .behind)))
 
   pub located : T (within 1 12 (e .zone)) → placeOf F n ≡ at (e .zone) (suc (length (inside (e .zone) a)))
   unfolding placeOf

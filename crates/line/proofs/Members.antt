@@ -94,7 +94,8 @@ every-in xs ys h = go xs (λ n. count-le n)
     count-le n e = in-count ys n (let k = h n in let l : 1 ≤ count xs n = positive n e in omega arith)
       where
         positive : (n : ℕ) → isIn n xs ≡ true → 1 ≤ count xs n
-        positive n e = elim (decided (leb 1 (count xs n))) [ inl t ↦ leb→le 1 (count xs n) (pass t) | inr t ↦ absurd (true≢false (sym e ∙ absent-count xs n (let k = borrow.Author.Tests.leb-false 1 (count xs n) t in omega arith))) ]
+        positive n e =
+            elim (decided (leb 1 (count xs n))) [ inl t ↦ leb→le 1 (count xs n) (pass t) | inr t ↦ absurd (true≢false (sym e ∙ absent-count xs n (let k = borrow.Author.Tests.leb-false 1 (count xs n) t in omega arith))) ]
 
     go : (zs : List ℕ) → ((n : ℕ) → isIn n zs ≡ true → isIn n ys ≡ true) → T (every (λ n. isIn n ys) zs)
     go [] k = tt
@@ -123,7 +124,9 @@ line-total n [] t = refl
 line-total n (e ∷ line) t =
     let hit = one (eqb (e .aircraft .number) n) in
     let v = and-l (within 1 12 (e .zone)) (all (within 1 12) (zonesIn line)) t in
-    let a = Rattle.line.proofs.Counted.total-same (λ z. count (numbers (inside z (e ∷ line))) n) (λ z. cond (eqb (e .zone) z) hit 0 + count (numbers (inside z line)) n) operation tt (λ z u. split (eqb (e .zone) z) z) in
+    let a =
+    Rattle.line.proofs.Counted.total-same (λ z. count (numbers (inside z (e ∷ line))) n)
+    (λ z. cond (eqb (e .zone) z) hit 0 + count (numbers (inside z line)) n) operation tt (λ z u. split (eqb (e .zone) z) z) in
     let b = total-add (λ z. cond (eqb (e .zone) z) hit 0) (λ z. count (numbers (inside z line)) n) operation in
     let c = in-one-zone hit (e .zone) (Rattle.line.proofs.Counted.lower (e .zone) v) v in
     let d = line-total n line (and-r (within 1 12 (e .zone)) (all (within 1 12) (zonesIn line)) t) in

@@ -35,12 +35,14 @@ use Rattle.line.proofs.Orderly.{Orderly, every-zone, every-same, kept-f
 -- the aircraft of a zone fit it where those of the line fit theirs
 fit-inside : (legs : Legs) (z : ℕ) (line : List Placed) → T (every (λ (e : Placed). fitsZone legs (e .zone) (e .aircraft)) line) → T (every (fitsZone legs z) (inside z line))
 fit-inside legs z [] t = tt
-fit-inside legs z (e ∷ line) t = go (decided (eqb (e .zone) z)) (fit-inside legs z line (and-r (fitsZone legs (e .zone) (e .aircraft)) (every (λ (e : Placed). fitsZone legs (e .zone) (e .aircraft)) line) t))
+fit-inside legs z (e ∷ line) t =
+    go (decided (eqb (e .zone) z)) (fit-inside legs z line (and-r (fitsZone legs (e .zone) (e .aircraft)) (every (λ (e : Placed). fitsZone legs (e .zone) (e .aircraft)) line) t))
   where
     here : T (fitsZone legs (e .zone) (e .aircraft))
     here = and-l (fitsZone legs (e .zone) (e .aircraft)) (every (λ (e : Placed). fitsZone legs (e .zone) (e .aircraft)) line) t
 
-    go : (eqb (e .zone) z ≡ true) ⊎ (eqb (e .zone) z ≡ false) → T (every (fitsZone legs z) (inside z line)) → T (every (fitsZone legs z) (cond (eqb (e .zone) z) (e .aircraft ∷ inside z line) (inside z line)))
+    go : (eqb (e .zone) z ≡ true) ⊎ (eqb (e .zone) z ≡ false) → T (every (fitsZone legs z) (inside z line))
+        → T (every (fitsZone legs z) (cond (eqb (e .zone) z) (e .aircraft ∷ inside z line) (inside z line)))
     go (inl b) h =
         subst (λ (c : Bool). T (every (fitsZone legs z) (cond c (e .aircraft ∷ inside z line) (inside z line)))) (sym b)
         (and-i (fitsZone legs z (e .aircraft)) (every (fitsZone legs z) (inside z line)) (subst (λ (w : ℕ). T (fitsZone legs w (e .aircraft))) (borrow.Author.Tests.eqb-true (e .zone) z b) here) h)
@@ -186,8 +188,10 @@ module _ (f : Side) (line : List Placed) (runway : List Aircraft) (legs : Legs) 
       (and-i p (isSide (F .next))
       (every-zone (λ z. every (fitsZone (F .legs) z) (inZone F z)) everywhere tt
       (zone-split {P = λ z. T (every (fitsZone (F .legs) z) (inZone F z))}
-      (subst (λ (l : Legs). T (every (fitsZone l 13) (inZone F 13))) (sym legs-are) (subst (λ (q : List Aircraft). T (every (fitsZone legs 13) q)) (sym (on-runway f line runway legs)) (o .fit-runway)))
-      (λ z t. subst (λ (l : Legs). T (every (fitsZone l z) (inZone F z))) (sym legs-are) (subst (λ (q : List Aircraft). T (every (fitsZone legs z) q)) (sym (in-line f line runway legs z t)) (fit-inside legs z line (o .fit-line))))))
+      (subst (λ (l : Legs). T (every (fitsZone l 13) (inZone F 13))) (sym legs-are)
+      (subst (λ (q : List Aircraft). T (every (fitsZone legs 13) q)) (sym (on-runway f line runway legs)) (o .fit-runway)))
+      (λ z t. subst (λ (l : Legs). T (every (fitsZone l z) (inZone F z))) (sym legs-are)
+      (subst (λ (q : List Aircraft). T (every (fitsZone legs z) q)) (sym (in-line f line runway legs z t)) (fit-inside legs z line (o .fit-line))))))
       (subst (λ (n : ℕ). T (isSide n)) (sym next-is) (side-num (nextFix f zs))))
       (subst (λ (l : Legs). T (legalLegs l)) (sym legs-are) (o .legal))
 
@@ -224,7 +228,8 @@ module _ (f : Side) (line : List Placed) (runway : List Aircraft) (legs : Legs) 
   e-holds =
       let p = every (λ z. zoneKept (zoneOf F z)) everywhere in
       and-i (numbersDiffer F && sequenceExact F && finalFirst F && p) (sequenceKept (F .sequence))
-      (and-i (numbersDiffer F && sequenceExact F && finalFirst F) p (and-i (numbersDiffer F && sequenceExact F) (finalFirst F) (and-i (numbersDiffer F) (sequenceExact F) differ exact) final-holds) kept)
+      (and-i (numbersDiffer F && sequenceExact F && finalFirst F) p
+      (and-i (numbersDiffer F && sequenceExact F) (finalFirst F) (and-i (numbersDiffer F) (sequenceExact F) differ exact) final-holds) kept)
       sequence-holds
 
   -- ---- all seven
@@ -236,4 +241,5 @@ module _ (f : Side) (line : List Placed) (runway : List Aircraft) (legs : Legs) 
       let abcd = abc && boundD F in
       let abcde = abcd && boundE F in
       let abcdef = abcde && boundF F in
-      and-i abcdef (boundG F) (and-i abcde (boundF F) (and-i abcd (boundE F) (and-i abc (boundD F) (and-i ab (boundC F) (and-i (boundA F) (boundB F) a-holds b-holds) c-holds) d-holds) e-holds) f-holds) g-holds
+      and-i abcdef (boundG F) (and-i abcde (boundF F) (and-i abcd (boundE F)
+      (and-i abc (boundD F) (and-i ab (boundC F) (and-i (boundA F) (boundB F) a-holds b-holds) c-holds) d-holds) e-holds) f-holds) g-holds

@@ -19,6 +19,7 @@ use Rattle.dialect.specs.Coming.{fieldOf}
 unfoldable pub entryLine : Entry → List ℕ
 entryLine e = line (e .number ∷ e .location ∷ e .place ∷ e .fix ∷ [])
 
+-- the lines of a list
 abbrev pub entryLines : List Entry → List ℕ
 entryLines [] = []
 entryLines (e ∷ es) = entryLine e ++ entryLines es

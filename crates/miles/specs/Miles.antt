@@ -7,9 +7,11 @@ use lib.Ieee.{Float, binary64, mul, neg, lt, toUnsigned}
 use Rattle.leg.specs.Progress.{whole}
 use Rattle.text.specs.Text.{decimal}
 
+-- the point before the decimals, as a byte
 abbrev pub point : ℕ
 point = 46
 
+-- the sign of miles below 0, as a byte
 abbrev pub minus : ℕ
 minus = 45
 

@@ -1,5 +1,5 @@
--- Document 02, 2.14: from any field reached from the empty one, at most 27 moves are accepted before the next entry or miss, ticks not counted;
--- and with no smaller number would that be true.
+-- Twenty-seven moves (02, 2.14): on a field that requests reach from the empty one, there are no more from one entry or miss to the next, and no smaller
+-- number would do.
 use mathlib.Core.Path.{_≡_}
 use mathlib.Core.List.{List}
 use Prim.Native.Nat.{ℕ, _≤_}
@@ -13,7 +13,7 @@ use Rattle.rules.specs.Play.{fieldAfter, played, accepted, addsMoves, moves}
 use Rattle.demand.specs.Demand.{AtMostMoves}
 use Rattle.most_moves.specs.Session.{sessionLegs, sessionBefore, sessionMoves}
 
--- from every field reached from an empty one with legal legs, at most n moves are accepted before the next entry or miss
+-- n is such a number, for all legal legs and all lists of requests
 abbrev pub AtMost : ℕ → Type 0
 AtMost n = (legs : Legs) → T (legalLegs legs) → (rs : List Request) → AtMostMoves n (fieldAfter (emptyField legs) rs)
 

@@ -30,7 +30,7 @@ use Rattle.line.proofs.Orderly.{Orderly, length-zones}
 use Rattle.moves.proofs.Moves.{into, MayMove, moved-line}
 use Rattle.moves.proofs.Owners.{owners, owners-all, passing, desksOn, same-desks}
 use Rattle.moves.proofs.Ticking.{tickPlaced}
-use Rattle.moves.proofs.Kept.{changed, placedFits}
+use Rattle.moves.proofs.StaysOrderly.{changed, placedFits}
 use Rattle.moves.proofs.Carried.{onward-into, Carried, carried-one}
 
 -- ---- after an accepted request
@@ -116,7 +116,9 @@ module _ (f : Side) (a : List Placed) (e : Placed) (b : List Placed) (runway : L
     moved-is = moved-line f a e b runway legs w may-move (o .different)
 
     pub moved-orderly : Orderly f (a ++ into legs w e ∷ b) runway legs
-    moved-orderly = changed f a e (into legs w e) b runway legs o (okay-joined f a (into legs w e) b after) (into-arrived legs w (e .aircraft) .number) (into-arrived legs w (e .aircraft) .fix) (arrived-fits legs (o .legal) (e .zone) w (e .aircraft) fit-here)
+    moved-orderly =
+        changed f a e (into legs w e) b runway legs o (okay-joined f a (into legs w e) b after) (into-arrived legs w (e .aircraft) .number)
+        (into-arrived legs w (e .aircraft) .fix) (arrived-fits legs (o .legal) (e .zone) w (e .aircraft) fit-here)
 
   -- a move of the model's, as a request's effect
   pub line-move : (k : Kind) (r : Request) → T (free (zonesIn a) (e .zone)) → T (needs k (zonesIn a) (e .zone) (zonesIn b))

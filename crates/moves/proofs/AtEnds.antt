@@ -16,7 +16,7 @@ use Rattle.field.specs.declared.Aircraft.{Aircraft}
 use Rattle.field.specs.declared.Legs.{Legs}
 use Rattle.field.specs.declared.Field.{Field}
 use Rattle.field.specs.Boxes.{isFlyingZone, missed, entering, arrived, turnedAway, withFix}
-use Rattle.field.specs.Lists.{isIn, every}
+use Rattle.field.specs.Lists.{isIn, every, Each}
 use Rattle.bounds.specs.Bounds.{fitsZone}
 use Rattle.order.specs.Model.{Side, right, left, opp, num, okay, firstFix, weight, one}
 use Rattle.order.proofs.Facts.{okay-length, first-leaves, misses, exit-lighter, landing-lighter}
@@ -35,8 +35,8 @@ use Rattle.moves.proofs.Leaves.{taxied, first-exits, first-lands}
 use Rattle.moves.proofs.Enters.{entryFix, entrant, enters, misser, misses-approach}
 use Rattle.moves.proofs.Ticking.{tickPlaced, ticks, zones-same}
 use Rattle.moves.proofs.Owners.{passing, owners, one-more, desks-ticked}
-use Rattle.moves.proofs.Kept.{side-fits, first-gone, landed-on, runway-left, come, ticked-orderly}
-use Rattle.moves.proofs.Carried.{Each, each-append, onRunway, onward-into, Turned, Entered, Came, went, turned, came-in, stay-all, stay-runway, apart-in}
+use Rattle.moves.proofs.StaysOrderly.{side-fits, first-gone, landed-on, runway-left, come, ticked-orderly}
+use Rattle.moves.proofs.Carried.{each-append, onRunway, onward-into, Turned, Entered, Came, went, turned, came-in, stay-all, stay-runway, apart-in}
 use Rattle.moves.proofs.After.{After, leaves, one-le, zone-in, room-for, fit-here}
 use Rattle.rules.proofs.Checks.{effect-at}
 
@@ -105,7 +105,8 @@ module _ (f : Side) (e : Placed) (b : List Placed) (runway : List Aircraft) (leg
             come f (opp f) b g runway legs gone (misses f (zonesIn b) (subst (λ (v : ℕ). T (okay f (v ∷ zonesIn b))) z (o .okay-line))) refl
             (subst (λ (n : ℕ). T (nonzero n)) (sym same) (and-l (nonzero (e .aircraft .number)) (every nonzero (numbersOf b ++ numbers runway)) (o .nonzeros)))
             (ap (λ (n : ℕ). isIn n (numbersOf b ++ numbers runway)) same ∙ al .behind)
-            (refixed-fits legs w (num (entryFix f (opp f) (zonesIn b))) (turnedAway legs w (e .aircraft)) (side-fits (entryFix f (opp f) (zonesIn b))) (turned-away-fits legs (o .legal) w (e .aircraft) (missed-zone f) (subst (λ (v : ℕ). T (fitsZone legs v (e .aircraft))) z (fit-here f [] e b runway legs o))));
+            (refixed-fits legs w (num (entryFix f (opp f) (zonesIn b))) (turnedAway legs w (e .aircraft)) (side-fits (entryFix f (opp f) (zonesIn b)))
+            (turned-away-fits legs (o .legal) w (e .aircraft) (missed-zone f) (subst (λ (v : ℕ). T (fitsZone legs v (e .aircraft))) z (fit-here f [] e b runway legs o))));
         balance =
             λ who.
             let p = one-more who b g in
@@ -114,14 +115,16 @@ module _ (f : Side) (e : Placed) (b : List Placed) (runway : List Aircraft) (leg
         lighter = λ u. absurd (true≢false (ap addsMoves (sym h) ∙ u));
         carried =
             let i = into-turned-away legs w (e .aircraft) in
-            let to : Turned legs e g = record { turned-number = i .number; turned-speed = i .speed; turned-waited = i .waited; begins-anew = i .progress; from-final = z; to-missed = missed-zone f; leg-ahead = i .leg-is } in
+            let to : Turned legs e g =
+            record { turned-number = i .number; turned-speed = i .speed; turned-waited = i .waited; begins-anew = i .progress; from-final = z; to-missed = missed-zone f; leg-ahead = i .leg-is } in
             λ u. record { carry = λ Q p q. (each-append (Came legs r Q) b (g ∷ []) (behind-all Q p) (turned e (p .0) to (sym named) h, tt), runway-all Q q) };
         ticked-on = λ u. absurd (let n : 12 ≡ 10 = sym u ∙ h in omega arith);
         runway-on = λ u. absurd (let n : 12 ≡ 10 = sym u ∙ h in omega arith);
       }
 
 -- kind 7
-pub after-7 : (f : Side) (e : Placed) (b : List Placed) (legs : Legs) (o : Orderly f (e ∷ b) [] legs) (r : Request) → r .number ≡ e .aircraft .number → r .kind ≡ 7 → e .zone ≡ 12 → After f (e ∷ b) [] legs r
+pub after-7 : (f : Side) (e : Placed) (b : List Placed) (legs : Legs) (o : Orderly f (e ∷ b) [] legs) (r : Request) → r .number ≡ e .aircraft .number → r .kind ≡ 7
+    → e .zone ≡ 12 → After f (e ∷ b) [] legs r
 after-7 f e b legs o r named h z =
     let x = arrived legs 13 (e .aircraft) in
     let same = into-arrived legs 13 (e .aircraft) .number in
@@ -133,7 +136,8 @@ after-7 f e b legs o r named h z =
       runway-after = x ∷ [];
       effect = effect-at (fieldOf f (e ∷ b) [] legs) r h ∙ first-lands f e b legs z (room f e b [] legs o r named) (o .different) r named;
       orderly =
-          landed-on (opp f) b x legs (first-gone f e b [] legs o (rest-okay f e b [] legs o r named)) (subst (λ (m : ℕ). T (nonzero m)) (sym same) (and-l (nonzero n) (every nonzero (numbersOf b ++ [])) (o .nonzeros)))
+          landed-on (opp f) b x legs (first-gone f e b [] legs o (rest-okay f e b [] legs o r named))
+          (subst (λ (m : ℕ). T (nonzero m)) (sym same) (and-l (nonzero n) (every nonzero (numbersOf b ++ [])) (o .nonzeros)))
           (ap (λ (m : ℕ). isIn m (numbersOf b)) same ∙ absent-left n (numbersOf b) [] (al .behind))
           (arrived-fits legs (o .legal) (e .zone) 13 (e .aircraft) (fit-here f [] e b [] legs o));
       balance =
@@ -147,7 +151,8 @@ after-7 f e b legs o r named h z =
     }
 
 -- kind 8
-pub after-8 : (f : Side) (line : List Placed) (x : Aircraft) (legs : Legs) (o : Orderly f line (x ∷ []) legs) (r : Request) → r .number ≡ x .number → r .kind ≡ 8 → r .desk ≡ x .desk → After f line (x ∷ []) legs r
+pub after-8 : (f : Side) (line : List Placed) (x : Aircraft) (legs : Legs) (o : Orderly f line (x ∷ []) legs) (r : Request) → r .number ≡ x .number → r .kind ≡ 8
+    → r .desk ≡ x .desk → After f line (x ∷ []) legs r
 after-8 f line x legs o r named h own =
     record {
       first-after = f;
@@ -169,7 +174,8 @@ after-8 f line x legs o r named h own =
     not-in-line = Rattle.field.proofs.Lists.alone (numbersOf line) (x .number) [] (o .different) .ahead
 
 -- kinds 1 and 2, into zone w
-pub after-entry : (s f : Side) (line : List Placed) (runway : List Aircraft) (legs : Legs) (o : Orderly f line runway legs) (r : Request) (w : ℕ) → T (within 1 12 w) → T (not (isFlyingZone w)) → r .side ≡ num s
+pub after-entry : (s f : Side) (line : List Placed) (runway : List Aircraft) (legs : Legs) (o : Orderly f line runway legs) (r : Request) (w : ℕ) → T (within 1 12 w)
+    → T (not (isFlyingZone w)) → r .side ≡ num s
     → T (isEntry (r .kind)) → effectOf (fieldOf f line runway legs) r ≡ entered (fieldOf f line runway legs) r w
     → T (okay (firstFix s f (zonesIn line)) (zonesIn line ++ (w ∷ []))) → 1 ≤ r .number → isIn (r .number) (numbersOf line ++ numbers runway) ≡ false → Between 1 fastest (r .amount)
     → DeskKnown (r .desk) → (r .kind ≡ 12 → ⊥) → T (not (leaves (r .kind))) → After f line runway legs r
@@ -182,7 +188,10 @@ after-entry s f line runway legs o r w t u side kind eff k n d fast desk tick st
       line-after = line ++ (e ∷ []);
       runway-after = runway;
       effect = eff ∙ enters s f line runway legs r w t room side;
-      orderly = come s f line e runway legs o k refl (fail (borrow.Author.Tests.ne-eqb (r .number) 0 (λ q. omega arith))) d (entering-fits legs w (r .number) (num (entryFix s f (zonesIn line))) (r .amount) (r .desk) (side-fits (entryFix s f (zonesIn line))) fast (record { least = desk .low; most = desk .high }) (failed {b = isFlyingZone w} u));
+      orderly =
+          come s f line e runway legs o k refl (fail (borrow.Author.Tests.ne-eqb (r .number) 0 (λ q. omega arith))) d
+          (entering-fits legs w (r .number) (num (entryFix s f (zonesIn line))) (r .amount) (r .desk)
+          (side-fits (entryFix s f (zonesIn line))) fast (record { least = desk .low; most = desk .high }) (failed {b = isFlyingZone w} u));
       balance =
           λ who.
           let p = one-more who line e in
@@ -191,7 +200,8 @@ after-entry s f line runway legs o r w t u side kind eff k n d fast desk tick st
           omega arith;
       lighter = λ v. absurd (true≢false (sym (adds kind) ∙ v));
       carried =
-          let new : Entered r e = record { an-entry = passed {b = isEntry (r .kind)} kind; new-number = refl; new-speed = refl; none-waited = refl; no-leg = refl; not-flown = failed {b = isFlyingZone w} u } in
+          let new : Entered r e =
+          record { an-entry = passed {b = isEntry (r .kind)} kind; new-number = refl; new-speed = refl; none-waited = refl; no-leg = refl; not-flown = failed {b = isFlyingZone w} u } in
           λ v.
           record {
             carry =
@@ -206,7 +216,8 @@ after-entry s f line runway legs o r w t u side kind eff k n d fast desk tick st
     adds v = ap (λ (b : Bool). b || eqb (r .kind) 10) (passed {b = isEntry (r .kind)} v)
 
 -- kind 12
-pub after-12 : (f : Side) (line : List Placed) (runway : List Aircraft) (legs : Legs) (o : Orderly f line runway legs) (r : Request) → r .kind ≡ 12 → Between 1 longestTick (r .amount) → After f line runway legs r
+pub after-12 : (f : Side) (line : List Placed) (runway : List Aircraft) (legs : Legs) (o : Orderly f line runway legs) (r : Request) → r .kind ≡ 12
+    → Between 1 longestTick (r .amount) → After f line runway legs r
 after-12 f line runway legs o r h amount =
     let four = let p = okay-length f (zonesIn line) (o .okay-line) in let q = length-zones line in let g : length line ≤ 4 = omega arith in g in
     record {

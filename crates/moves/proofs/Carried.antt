@@ -1,5 +1,6 @@
--- Where each one on the field after an accepted request comes from, and what it keeps: those with another number than the request's stay where they are, or go along with a hold or an entry; the one with its
--- number has come into another zone or onto the runway, has missed its approach, or has just entered. Assumes nothing.
+-- Where each one on the field after an accepted request comes from, and what it keeps: those with another number than the request's stay where they are,
+-- or go along with a hold or an entry; the one with its number has come into another zone or onto the runway, has missed its approach, or has just
+-- entered. Assumes nothing.
 use mathlib.Core.Path.{_≡_, refl, sym, ap, _∙_, subst}
 use mathlib.Core.Logic.{_⊎_, inl, inr}
 use mathlib.Core.Bool.{true, false, _||_, true≢false}
@@ -13,7 +14,7 @@ use Rattle.request.specs.declared.Request.{Request}
 use Rattle.field.specs.declared.Aircraft.{Aircraft}
 use Rattle.field.specs.declared.Legs.{Legs}
 use Rattle.field.specs.Boxes.{right, left, missed, finalApproach, isFlyingZone, legOf, progressInto}
-use Rattle.field.specs.Lists.{isIn, allDifferent}
+use Rattle.field.specs.Lists.{isIn, allDifferent, Each}
 use Rattle.rules.specs.Play.{addsMoves}
 use Rattle.field.proofs.Lists.{or-false-left, or-false-right, absent-left, absent-right, Alone, alone}
 use Rattle.field.proofs.Arrival.{into-arrived}
@@ -23,10 +24,6 @@ use Rattle.questions.proofs.FindLaws.{numbers}
 use Rattle.moves.proofs.Moves.{into}
 
 -- ---- what holds of each one of a line
-abbrev pub Each : (Placed → Type 0) → List Placed → Type 0
-Each P [] = Unit {0}
-Each P (e ∷ line) = P e × Each P line
-
 pub each-append : (P : Placed → Type 0) (a b : List Placed) → Each P a → Each P b → Each P (a ++ b)
 each-append P [] b p q = q
 each-append P (e ∷ a) b p q = (p .0, each-append P a b (p .1) q)
@@ -105,11 +102,13 @@ module _ (legs : Legs) (r : Request) (Q : Placed → Type 0) where
       same-numbers (x ∷ runway) = ap (λ (l : List ℕ). x .number ∷ l) (same-numbers runway)
 
 -- one of a line of different numbers
-pub apart-in : (a : List Placed) (e : Placed) (b : List Placed) (runway : List Aircraft) → T (allDifferent (numbersOf (a ++ e ∷ b) ++ numbers runway)) → Alone (e .aircraft .number) (numbersOf a) (numbersOf b ++ numbers runway)
+pub apart-in : (a : List Placed) (e : Placed) (b : List Placed) (runway : List Aircraft) → T (allDifferent (numbersOf (a ++ e ∷ b) ++ numbers runway))
+    → Alone (e .aircraft .number) (numbersOf a) (numbersOf b ++ numbers runway)
 apart-in a e b runway d = alone (numbersOf a) (e .aircraft .number) (numbersOf b ++ numbers runway) (subst (λ (l : List ℕ). T (allDifferent l)) (numbers-split a e b (numbers runway)) d)
 
 -- one of the line has come into another zone
-pub carried-one : (legs : Legs) (r : Request) (a : List Placed) (e g : Placed) (b : List Placed) (runway : List Aircraft) → T (allDifferent (numbersOf (a ++ e ∷ b) ++ numbers runway)) → r .number ≡ e .aircraft .number
+pub carried-one : (legs : Legs) (r : Request) (a : List Placed) (e g : Placed) (b : List Placed) (runway : List Aircraft)
+    → T (allDifferent (numbersOf (a ++ e ∷ b) ++ numbers runway)) → r .number ≡ e .aircraft .number
     → addsMoves (r .kind) ≡ false → Onward legs e g → Carried legs r (a ++ e ∷ b) runway (a ++ g ∷ b) runway
 carried-one legs r a e g b runway d named k on =
     let al = apart-in a e b runway d in
@@ -124,7 +123,8 @@ carried-one legs r a e g b runway d named k on =
     }
 
 -- one with another number than the request's has gone along before that
-pub followed-first : (legs : Legs) (r : Request) (a : List Placed) (x y : Placed) (b : List Placed) (runway : List Aircraft) (after : List Placed) (left : List Aircraft) → (x .aircraft .number ≡ r .number → ⊥) → Onward legs x y
+pub followed-first : (legs : Legs) (r : Request) (a : List Placed) (x y : Placed) (b : List Placed) (runway : List Aircraft) (after : List Placed) (left : List Aircraft)
+    → (x .aircraft .number ≡ r .number → ⊥) → Onward legs x y
     → isFlyingZone (x .zone) ≡ false → isFlyingZone (y .zone) ≡ false → Carried legs r (a ++ y ∷ b) runway after left → Carried legs r (a ++ x ∷ b) runway after left
 followed-first legs r a x y b runway after left other on from to c =
     record {
@@ -155,7 +155,8 @@ followed-first legs r a x y b runway after left other on from to c =
     back Q g (followed e (inr v) on n i j) = followed (v .0) (v .1) (joined (v .2) on) (v .3) (v .4) j
       where
         joined : {x y z : Placed} → Onward legs x y → Onward legs y z → Onward legs x z
-        joined s t = record { same-number = t .same-number ∙ s .same-number; same-speed = t .same-speed ∙ s .same-speed; same-waited = t .same-waited ∙ s .same-waited; begins = t .begins; leg-is = t .leg-is }
+        joined s t =
+            record { same-number = t .same-number ∙ s .same-number; same-speed = t .same-speed ∙ s .same-speed; same-waited = t .same-waited ∙ s .same-waited; begins = t .begins; leg-is = t .leg-is }
     back Q g (came-in n) = came-in n
 
     backs : (Q : Placed → Type 0) (l : List Placed) → Each (Came legs r (First Q)) l → Each (Came legs r Q) l

@@ -49,7 +49,8 @@ alternates-snoc : (f : Side) (line : List Placed) (e : Placed) → Alternates f 
 alternates-snoc f [] e a h = (h, tt)
 alternates-snoc f (x ∷ line) e a h = (a .0, alternates-snoc (opp f) line e (a .1) h)
 
-pub alternates-after : (s f : Side) (line : List Placed) (e : Placed) → Alternates f line → e .aircraft .fix ≡ num (entryFix s f (zonesIn line)) → Alternates (firstFix s f (zonesIn line)) (line ++ (e ∷ []))
+pub alternates-after : (s f : Side) (line : List Placed) (e : Placed) → Alternates f line → e .aircraft .fix ≡ num (entryFix s f (zonesIn line))
+    → Alternates (firstFix s f (zonesIn line)) (line ++ (e ∷ []))
 alternates-after s f [] e a h = (h, tt)
 alternates-after s f (x ∷ line) e a h = (a .0, alternates-snoc (opp f) line e (a .1) h)
 
@@ -79,7 +80,8 @@ pub ended : (s f : Side) (line : List Placed) (e : Placed) (runway : List Aircra
 unfolding fieldOf
 ended s f line e runway legs room =
     ap (λ (q : Sequence). fieldBy (zonesOf (line ++ (e ∷ [])) runway) q (opposite (num (entryFix s f (zonesIn line)))) legs) (sequence-more line e room)
-    ∙ ap (λ (n : ℕ). fieldBy (zonesOf (line ++ (e ∷ [])) runway) (sequenceFor (numbersOf (line ++ (e ∷ [])))) n legs) (opposite-num (entryFix s f (zonesIn line)) ∙ ap num (sym (next-after s f line e)))
+    ∙ ap (λ (n : ℕ). fieldBy (zonesOf (line ++ (e ∷ [])) runway) (sequenceFor (numbersOf (line ++ (e ∷ [])))) n legs)
+    (opposite-num (entryFix s f (zonesIn line)) ∙ ap num (sym (next-after s f line e)))
 
 -- ---- kinds 1 and 2
 module _ (s f : Side) (line : List Placed) (runway : List Aircraft) (legs : Legs) (r : Request) (w : ℕ) (t : T (within 1 12 w)) (room : length line < 4) (side : r .side ≡ num s) where
@@ -105,7 +107,8 @@ module _ (s f : Side) (line : List Placed) (runway : List Aircraft) (legs : Legs
   unfolding entered tailPut withSequence fieldOf entering
   enters =
       ap (λ (n : ℕ). withSequence (withZone F w (withTail (zoneOf F w) (entering (r .number) n (r .amount) (r .desk)))) (appended (F .sequence) (r .number)) (opposite n)) fix-taken
-      ∙ ap (λ (g : Field). withSequence g (appended (F .sequence) (r .number)) (opposite (num (entryFix s f (zonesIn line))))) (at-tail line entrant runway (sequenceFor (numbersOf line)) (num (nextFix f (zonesIn line))) legs t room)
+      ∙ ap (λ (g : Field). withSequence g (appended (F .sequence) (r .number)) (opposite (num (entryFix s f (zonesIn line)))))
+      (at-tail line entrant runway (sequenceFor (numbersOf line)) (num (nextFix f (zonesIn line))) legs t room)
       ∙ ended s f line entrant runway legs room
 
 -- ---- kind 10
@@ -152,8 +155,11 @@ module _ (f : Side) (e : Placed) (b : List Placed) (runway : List Aircraft) (leg
       ∙ ap (λ (m : ℕ). let g = fieldBy (zonesOf b runway) (sequenceFor (numbersOf (e ∷ b))) (num (nextFix f (zonesIn (e ∷ b)))) legs in
       withSequence (withZone g (missed m) (withTail (zoneOf g (missed m)) (withFix (turnedAway legs (missed m) (e .aircraft)) (num (entryFix f (opp f) (zonesIn b))))))
       (appended (removed (F₁₀ .sequence) (r .number)) (r .number)) (opposite (num (entryFix f (opp f) (zonesIn b))))) fix
-      ∙ ap (λ (g : Field). withSequence g (appended (removed (F₁₀ .sequence) (r .number)) (r .number)) (opposite (num (entryFix f (opp f) (zonesIn b))))) (at-tail b misser runway (sequenceFor (numbersOf (e ∷ b))) (num (nextFix f (zonesIn (e ∷ b)))) legs (missed-in f) room)
+      ∙ ap (λ (g : Field). withSequence g (appended (removed (F₁₀ .sequence) (r .number)) (r .number)) (opposite (num (entryFix f (opp f) (zonesIn b)))))
+      (at-tail b misser runway (sequenceFor (numbersOf (e ∷ b))) (num (nextFix f (zonesIn (e ∷ b)))) legs (missed-in f) room)
       ∙ ap (λ (n : ℕ). fieldBy (zonesOf (b ++ (misser ∷ [])) runway) (appended (removed (sequenceFor (numbersOf (e ∷ b))) n) n) (opposite (num (entryFix f (opp f) (zonesIn b)))) legs) number
-      ∙ ap (λ (q : Sequence). fieldBy (zonesOf (b ++ (misser ∷ [])) runway) (appended q (e .aircraft .number)) (opposite (num (entryFix f (opp f) (zonesIn b)))) legs) (sequence-left f e b runway legs t room)
-      ∙ ap (λ (n : ℕ). fieldBy (zonesOf (b ++ (misser ∷ [])) runway) (appended (sequenceFor (numbersOf b)) n) (opposite (num (entryFix f (opp f) (zonesIn b)))) legs) (sym (into-turned-away legs (missed (num f)) (e .aircraft) .number))
+      ∙ ap (λ (q : Sequence). fieldBy (zonesOf (b ++ (misser ∷ [])) runway) (appended q (e .aircraft .number)) (opposite (num (entryFix f (opp f) (zonesIn b)))) legs)
+      (sequence-left f e b runway legs t room)
+      ∙ ap (λ (n : ℕ). fieldBy (zonesOf (b ++ (misser ∷ [])) runway) (appended (sequenceFor (numbersOf b)) n) (opposite (num (entryFix f (opp f) (zonesIn b)))) legs)
+      (sym (into-turned-away legs (missed (num f)) (e .aircraft) .number))
       ∙ ended f (opp f) b misser runway legs room

@@ -39,7 +39,8 @@ pub find-line : (n : ℕ) (line : List Placed) → InLine n line ⊎ (isIn n (nu
 find-line n [] = inr refl
 find-line n (e ∷ line) = go (decided (eqb (e .aircraft .number) n)) (find-line n line)
   where
-    go : (eqb (e .aircraft .number) n ≡ true) ⊎ (eqb (e .aircraft .number) n ≡ false) → InLine n line ⊎ (isIn n (numbersOf line) ≡ false) → InLine n (e ∷ line) ⊎ (isIn n (numbersOf (e ∷ line)) ≡ false)
+    go : (eqb (e .aircraft .number) n ≡ true) ⊎ (eqb (e .aircraft .number) n ≡ false) → InLine n line ⊎ (isIn n (numbersOf line) ≡ false)
+        → InLine n (e ∷ line) ⊎ (isIn n (numbersOf (e ∷ line)) ≡ false)
     go (inl b) rest = inl (record { ahead = []; here = e; behind = line; whole = refl; named = sym (eqb-true (e .aircraft .number) n b) })
     go (inr b) (inl i) = inl (record { ahead = e ∷ i .ahead; here = i .here; behind = i .behind; whole = ap (λ (l : List Placed). e ∷ l) (i .whole); named = i .named })
     go (inr b) (inr h) = inr (ap (λ (t : Bool). t || isIn n (numbersOf line)) b ∙ h)
@@ -119,7 +120,8 @@ module _ (f : Side) (line : List Placed) (runway : List Aircraft) (legs : Legs) 
         elim (decided (eqb (x .number) n)) [
           | inl b ↦
               let c : n ≡ x .number = sym (eqb-true (x .number) n b) in
-              let p : placeOf (fieldOf f line (x ∷ []) legs) n ≡ at 13 1 = ap (placeOf (fieldOf f line (x ∷ []) legs)) c ∙ located-runway f line x legs (ap (λ (m : ℕ). isIn m (numbersOf line)) (sym c) ∙ d) in
+              let p : placeOf (fieldOf f line (x ∷ []) legs) n ≡ at 13 1 =
+              ap (placeOf (fieldOf f line (x ∷ []) legs)) c ∙ located-runway f line x legs (ap (λ (m : ℕ). isIn m (numbersOf line)) (sym c) ∙ d) in
               record { one = x; whole = e; named = c; place-is = p; starts = pass (ap (λ (y : Place). startsFrom (r .kind) (y .zone)) (sym (q ∙ p)) ∙ from); owned-by = desk-is (ap (λ (l : List Aircraft). fieldOf f line l legs) e) p (runway-head f line x legs) }
           | inr b ↦ absurd (false≢true (ap (λ (y : Place). not (eqb (y .zone) 0)) (sym (q ∙ not-located f line (x ∷ []) legs n d (ap (λ (t : Bool). t || false) b))) ∙ known))
         ]

@@ -142,14 +142,16 @@ module _ (f : Side) (a : List Placed) (g : Placed) (b : List Placed) (e : Placed
   carried-both h =
       let in-zone = lower z (zone-in f a₂ e c runway legs orderly₂) in
       let second = carried-one legs r a₂ e (into legs y e) c runway (orderly₂ .different) named (ap addsMoves h) (onward-into legs y e) in
-      followed-first legs r a g (into legs w g) (b ++ e ∷ c) runway (a₂ ++ into legs y e ∷ c) runway other (onward-into legs w g) (ap isFlyingZone above ∙ waits-above z in-zone missed-zone) (waits z in-zone missed-zone)
+      followed-first legs r a g (into legs w g) (b ++ e ∷ c) runway (a₂ ++ into legs y e ∷ c) runway other
+      (onward-into legs w g) (ap isFlyingZone above ∙ waits-above z in-zone missed-zone) (waits z in-zone missed-zone)
       (subst (λ (l : List Placed). Carried legs r l runway (a₂ ++ into legs y e ∷ c) runway) (sym (regroup e)) second)
     where
       other : g .aircraft .number ≡ r .number → ⊥
       other q =
           let al = apart-in a₂ e c runway (orderly₂ .different) .ahead in
           let here = or-false-left (eqb (into legs w g .aircraft .number) (e .aircraft .number)) (isIn (e .aircraft .number) (numbersOf b))
-          (absent-right (e .aircraft .number) (numbersOf a) (numbersOf (into legs w g ∷ b)) (ap (isIn (e .aircraft .number)) (sym (map-append (λ (p : Placed). p .aircraft .number) a (into legs w g ∷ b))) ∙ al)) in
+          (absent-right (e .aircraft .number) (numbersOf a) (numbersOf (into legs w g ∷ b))
+          (ap (isIn (e .aircraft .number)) (sym (map-append (λ (p : Placed). p .aircraft .number) a (into legs w g ∷ b))) ∙ al)) in
           true≢false (sym (eq-eqb (into legs w g .aircraft .number) (e .aircraft .number) (into-arrived legs w (g .aircraft) .number ∙ q ∙ named)) ∙ here)
 
   pub after-both : r .kind ≡ 11 → effectOf F r ≡ moved (moved F y w) z y → After f (a ++ g ∷ (b ++ e ∷ c)) runway legs r

@@ -3,7 +3,7 @@ pub mod Leaves
 pub mod Enters
 pub mod Ticking
 pub mod Owners
-pub mod Kept
+pub mod StaysOrderly
 pub mod Carried
 pub mod After
 pub mod Heads
@@ -11,6 +11,6 @@ pub mod OnLine
 pub mod HoldBoth
 pub mod AtEnds
 pub mod EnterAbove
-pub mod Accepted
-pub mod Steps
+pub mod EachMove
+pub mod EveryKind
 pub mod Outcomes

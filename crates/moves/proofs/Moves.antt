@@ -128,7 +128,8 @@ module _ (f : Side) (a : List Placed) (e : Placed) (b : List Placed) (runway : L
   left-zone =
       ap withoutHead (zone-of-line f (a ++ e ∷ b) runway legs z (m .from-zone) ∙ ap zoneFor (inside-at a e b ∙ ap (λ (l : List Aircraft). l ++ e .aircraft ∷ inside z b) (m .heads)))
       ∙ head-for (e .aircraft) (inside z b) room-behind
-      ∙ sym (if-false (zoneFor runway) (zoneFor (inside z (a ++ into legs w e ∷ b))) (not-13 z (m .from-zone)) ∙ ap zoneFor (inside-other z a (into legs w e) b (m .other-zone) ∙ ap (λ (l : List Aircraft). l ++ inside z b) (m .heads)))
+      ∙ sym (if-false (zoneFor runway) (zoneFor (inside z (a ++ into legs w e ∷ b))) (not-13 z (m .from-zone))
+      ∙ ap zoneFor (inside-other z a (into legs w e) b (m .other-zone) ∙ ap (λ (l : List Aircraft). l ++ inside z b) (m .heads)))
 
   flipped : eqb z w ≡ false
   flipped = Rattle.field.proofs.Tests.flip-eqb w z (m .other-zone)
@@ -141,7 +142,8 @@ module _ (f : Side) (a : List Placed) (e : Placed) (b : List Placed) (runway : L
   entered-zone =
       ap (λ (q : Zone). withTail q x) (if-false (zoneFor runway) (zoneFor (inside w (a ++ e ∷ b))) (not-13 w (m .to-zone)) ∙ ap zoneFor before-zone)
       ∙ tail-for (inside w a) x room-ahead
-      ∙ sym (if-false (zoneFor runway) (zoneFor (inside w (a ++ into legs w e ∷ b))) (not-13 w (m .to-zone)) ∙ ap zoneFor (inside-at a (into legs w e) b ∙ ap (λ (l : List Aircraft). inside w a ++ x ∷ l) (m .none-behind)))
+      ∙ sym (if-false (zoneFor runway) (zoneFor (inside w (a ++ into legs w e ∷ b))) (not-13 w (m .to-zone))
+      ∙ ap zoneFor (inside-at a (into legs w e) b ∙ ap (λ (l : List Aircraft). inside w a ++ x ∷ l) (m .none-behind)))
 
   -- any other zone
   kept-zone : (y : ℕ) → T (within 1 13 y) → eqb y z ≡ false → eqb y w ≡ false → G y ≡ H y
@@ -162,6 +164,7 @@ module _ (f : Side) (a : List Placed) (e : Placed) (b : List Placed) (runway : L
   unfolding moved headGone tailPut fieldOf
   moved-line =
       ap (λ (y : Aircraft). withZone (withZone F z (withoutHead (zoneOf F z))) w (withTail (zoneOf (withZone F z (withoutHead (zoneOf F z))) w) (arrived legs w y))) head-is
-      ∙ ap (λ (q : Zone). withZone (withZone F z (withoutHead (zoneOf F z))) w (withTail q x)) (zone-other G H S N legs z w (withoutHead (zoneOf F z)) (lower z (m .from-zone)) (lower w (m .to-zone)) (m .other-zone))
+      ∙ ap (λ (q : Zone). withZone (withZone F z (withoutHead (zoneOf F z))) w (withTail q x))
+      (zone-other G H S N legs z w (withoutHead (zoneOf F z)) (lower z (m .from-zone)) (lower w (m .to-zone)) (m .other-zone))
       ∙ two-zones G H S N legs z w (withoutHead (zoneOf F z)) (withTail (G w) x) (lower z (m .from-zone)) (lower w (m .to-zone)) left-zone entered-zone kept-zone
       ∙ after-is

@@ -139,7 +139,7 @@ module _ (f : Side) (a : List Placed) (e : Placed) (b : List Placed) (runway : L
       (subst (λ (k : ℕ). T (staysOn k)) (sym h) tt) (λ u. let n : 12 ≡ r .kind = sym u in omega arith) named
 
   -- kind 4
-  may-is : T (within 1 12 (base (opposite (sideOf z)))) → (mayApproach (F .sequence) (r .number) (zoneAhead F r) && baseFree F (sideOf z)) ≡ model.mayApproach zs₁ z zs₂
+  may-is : T (within 1 12 (base (opposite (sideOf z)))) → (mayApproach (F .sequence) (r .number) (zoneAhead F r) && baseFree F (sideOf z)) ≡ model.mayComeToBase zs₁ z zs₂
   unfolding mayApproach baseFree
   may-is t = ap (λ (c : Bool). c && baseFree F (sideOf z)) (led 9 12) ∙ ap (λ (n : ℕ). (isNil zs₁ || within 9 12 (lastOr 0 zs₁)) && leb n 1) (many (base (opposite (sideOf z))) t)
 
@@ -150,16 +150,18 @@ module _ (f : Side) (a : List Placed) (e : Placed) (b : List Placed) (runway : L
       let q₁ = and-l (within 3 6 z) (within 1 12 (base (opposite (sideOf z)))) q in
       let q₂ = and-r (within 3 6 z) (within 1 12 (base (opposite (sideOf z)))) q in
       let p = input.passed (besides F r 4) (tt, (tt, tt)) c in
-      let t₁ : (within 5 6 z || mayApproach (F .sequence) (r .number) (zoneAhead F r)) ≡ true = ap (λ (w : ℕ). within 5 6 w || mayApproach (F .sequence) (r .number) (zoneAhead F r)) (sym zone-before) ∙ p .0 in
+      let t₁ : (within 5 6 z || mayApproach (F .sequence) (r .number) (zoneAhead F r)) ≡ true =
+      ap (λ (w : ℕ). within 5 6 w || mayApproach (F .sequence) (r .number) (zoneAhead F r)) (sym zone-before) ∙ p .0 in
       let t₂ : (within 5 6 z || baseFree F (sideOf z)) ≡ true = ap (λ (w : ℕ). within 5 6 w || baseFree F (sideOf w)) (sym zone-before) ∙ p .1 .0 in
       line-move f a e b runway legs o approaching r heads
-      (and-i (within 3 6 z) (within 5 6 z || model.mayApproach zs₁ z zs₂) q₁
+      (and-i (within 3 6 z) (within 5 6 z || model.mayComeToBase zs₁ z zs₂) q₁
       (pass (ap (λ (t : Bool). within 5 6 z || t) (sym (may-is q₂)) ∙ excused (within 5 6 z) (mayApproach (F .sequence) (r .number) (zoneAhead F r)) (baseFree F (sideOf z)) t₁ t₂)))
       (effect-at F r h
-      ∙ ap (λ (w : ℕ). cond (within 5 6 w) (cond (mayApproach (F .sequence) (r .number) (zoneAhead F r) && baseFree F (sideOf w)) (moved F w (base (sideOf w))) (moved F w (at2000 (sideOf w)))) (moved F w (base (sideOf w)))) zone-before
+      ∙ ap (λ (w : ℕ). cond (within 5 6 w) (cond (mayApproach (F .sequence) (r .number) (zoneAhead F r) && baseFree F (sideOf w))
+      (moved F w (base (sideOf w))) (moved F w (at2000 (sideOf w)))) (moved F w (base (sideOf w)))) zone-before
       ∙ from-lateral (within 5 6 z) (mayApproach (F .sequence) (r .number) (zoneAhead F r)) (baseFree F (sideOf z)) _ _ t₁ t₂
       ∙ ap (λ (t : Bool). cond t (moved F z (base (sideOf z))) (moved F z (at2000 (sideOf z)))) (may-is q₂)
-      ∙ either-zone F z (base (sideOf z)) (at2000 (sideOf z)) (model.mayApproach zs₁ z zs₂))
+      ∙ either-zone F z (base (sideOf z)) (at2000 (sideOf z)) (model.mayComeToBase zs₁ z zs₂))
       (subst (λ (k : ℕ). T (staysOn k)) (sym h) tt) (λ u. let n : 12 ≡ r .kind = sym u in omega arith) named
 
   -- kind 5
@@ -189,7 +191,8 @@ module _ (f : Side) (a : List Placed) (e : Placed) (b : List Placed) (runway : L
       line-move f a e b runway legs o hold r heads
       (and-i (within 7 8 z) (free (zs₁ ++ z ∷ zs₂) (at3000 (sideOf z))) (q .is-missed) (pass (sym (empty-free (at3000 (sideOf z)) (q .above)) ∙ t)))
       (effect-at F r h
-      ∙ ap (λ (w : ℕ). cond (isEmpty F (at3000 (sideOf w))) (cond (isEmpty F (at2000 (sideOf w))) (moved F w (at2000 (sideOf w))) (moved F w (at3000 (sideOf w)))) (moved (moved F (at3000 (sideOf w)) (at2000 (sideOf w))) w (at3000 (sideOf w)))) zone-before
+      ∙ ap (λ (w : ℕ). cond (isEmpty F (at3000 (sideOf w))) (cond (isEmpty F (at2000 (sideOf w))) (moved F w (at2000 (sideOf w))) (moved F w (at3000 (sideOf w))))
+      (moved (moved F (at3000 (sideOf w)) (at2000 (sideOf w))) w (at3000 (sideOf w)))) zone-before
       ∙ if-true (cond (isEmpty F (at2000 (sideOf z))) (moved F z (at2000 (sideOf z))) (moved F z (at3000 (sideOf z)))) (moved (moved F (at3000 (sideOf z)) (at2000 (sideOf z))) z (at3000 (sideOf z))) t
       ∙ either-zone F z (at2000 (sideOf z)) (at3000 (sideOf z)) (isEmpty F (at2000 (sideOf z)))
       ∙ ap (λ (c : Bool). moved F z (cond c (at2000 (sideOf z)) (at3000 (sideOf z)))) (empty-free (at2000 (sideOf z)) (q .below)))

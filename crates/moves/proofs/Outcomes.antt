@@ -22,7 +22,7 @@ use Rattle.line.proofs.Within.{within-bounds}
 use Rattle.moves.proofs.After.{After}
 use Rattle.rules.proofs.Checks.{NeverOthers, needNumbers, need-never, input-never, refused-by, refused-append, checks-numbered, checks-refuse, input-numbered}
 use Rattle.rules.proofs.Refusals.{accepts}
-use Rattle.moves.proofs.Steps.{accepted-after}
+use Rattle.moves.proofs.EveryKind.{accepted-after}
 
 pub record Accepted (f : Side) (line : List Placed) (runway : List Aircraft) (legs : Legs) (r : Request) : Type 1 where
   pub number-0 : numberOf (fieldOf f line runway legs) r ≡ 0
@@ -59,7 +59,9 @@ module _ (f : Side) (line : List Placed) (runway : List Aircraft) (legs : Legs) 
         | inl e ↦ inl (accepted-by i (eqb-true (firstRefused (checksOf F r)) 0 e))
         | inr e ↦
             let n = eqb-false (firstRefused (checksOf F r)) 0 e in
-            let q : numberOf F r ≡ firstRefused (checksOf F r) = number-of i ∙ refused-append (checksOf F r) ((25, withinBounds (effectOf F r)) ∷ []) (checks-refuse F r) ∙ if-false (cond (withinBounds (effectOf F r)) 0 25) (firstRefused (checksOf F r)) e in
+            let q : numberOf F r ≡ firstRefused (checksOf F r) =
+            number-of i ∙ refused-append (checksOf F r) ((25, withinBounds (effectOf F r)) ∷ []) (checks-refuse F r)
+            ∙ if-false (cond (withinBounds (effectOf F r)) 0 25) (firstRefused (checksOf F r)) e in
             elim (refused-by needNumbers (checksOf F r) (checks-numbered F r)) [
               | inl z ↦ absurd (n z)
               | inr t ↦ inr (subst NeverOthers (sym q) (need-never (firstRefused (checksOf F r)) t))

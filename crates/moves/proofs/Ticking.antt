@@ -67,7 +67,8 @@ module _ (amount : ℕ) where
   numbers-same [] = refl
   numbers-same (e ∷ line) = ap (λ (n : ℕ). n ∷ numbersOf (map (tickPlaced amount) line)) (number-kept amount (e .zone) (e .aircraft)) ∙ ap (λ (l : List ℕ). e .aircraft .number ∷ l) (numbers-same line)
 
-  pub ticks : (f : Side) (line : List Placed) (runway : List Aircraft) (legs : Legs) → length line ≤ 4 → ticked (fieldOf f line runway legs) amount ≡ fieldOf f (map (tickPlaced amount) line) runway legs
+  pub ticks : (f : Side) (line : List Placed) (runway : List Aircraft) (legs : Legs) → length line ≤ 4
+      → ticked (fieldOf f line runway legs) amount ≡ fieldOf f (map (tickPlaced amount) line) runway legs
   unfolding ticked fieldOf isFlyingZone
   ticks f line runway legs h =
       by-zones (λ z. tickedIn amount z (zonesOf line runway z)) (sequenceFor (numbersOf line)) (num (nextFix f (zonesIn line))) legs (zonesOf (map (tickPlaced amount) line) runway)

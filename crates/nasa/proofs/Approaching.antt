@@ -80,7 +80,8 @@ module _ (f : Field) (t : T (withinBounds f)) (r : Request) (z : Zone) (at : zon
   unfolding baseFree opposite
   initiates s q =
       let other = each-side (λ s. zoneNumber (base (opp s)) ≡ boxes.base (opposite (num s))) refl refl s in
-      let free : length (stateOf f .queue (base (opp s))) ≡ howMany f (boxes.base (opposite (sideOf (zoneBefore f r)))) = how-many-in f (base (opp s)) ∙ ap (howMany f) (other ∙ ap (λ (y : ℕ). boxes.base (opposite y)) (sym q)) in
+      let free : length (stateOf f .queue (base (opp s))) ≡ howMany f (boxes.base (opposite (sideOf (zoneBefore f r)))) =
+      how-many-in f (base (opp s)) ∙ ap (howMany f) (other ∙ ap (λ (y : ℕ). boxes.base (opposite y)) (sym q)) in
       ap (λ (c : ℕ). leb c 1 && (isFirst one || onApproach (stateOf f) (leader one))) free
       ∙ ap (λ (b : Bool). leb (howMany f (boxes.base (opposite (sideOf (zoneBefore f r))))) 1 && b) approaches
 
@@ -178,7 +179,8 @@ module _ (f : Field) (h : T (hasPlaces f)) (r : Request) (k : r .kind ≡ 4) (e 
       asked : mayInitiate (stateOf f) s (seen f (zoneNumber (lez s)) (a .x)) ≡ (may && free)
       asked = initiates f (bounded f h r e) r (lez s) at a u s own ∙ and-comm free may
 
-      to : (w : Zone) (g : ℕ → ℕ) → T (differing (lez s) w) → g (num s) ≡ zoneNumber w → effectOf f r ≡ moved f z₀ (g (sideOf z₀)) → lateralApproachInitiation s (stateOf f) ≡ add (put (stateOf f) (lez s) (map (seen f (zoneNumber (lez s))) (a .rest))) w (seen f (zoneNumber (lez s)) (a .x)) ∷ [] → Is f r (lateralApproachInitiation s)
+      to : (w : Zone) (g : ℕ → ℕ) → T (differing (lez s) w) → g (num s) ≡ zoneNumber w → effectOf f r ≡ moved f z₀ (g (sideOf z₀))
+          → lateralApproachInitiation s (stateOf f) ≡ add (put (stateOf f) (lez s) (map (seen f (zoneNumber (lez s))) (a .rest))) w (seen f (zoneNumber (lez s)) (a .x)) ∷ [] → Is f r (lateralApproachInitiation s)
       to w g d q p i =
           leads f r (lateralApproachInitiation s) (there f h r e (lez s) w at a d) (moved f (zoneNumber (lez s)) (zoneNumber w)) e
           (p ∙ ap (λ (y : ℕ). moved f z₀ (g y)) own ∙ ap (moved f z₀) q ∙ ap (λ (y : ℕ). moved f y (zoneNumber w)) at) i (goes f h r e (lez s) w at a d)

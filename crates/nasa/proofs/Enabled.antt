@@ -36,7 +36,7 @@ use Rattle.nasa.specs.Definitions.{Aircraft, Zone, SCA}
 use Rattle.nasa.specs.Rules.{when, forFirst, zoneNumber}
 use Rattle.nasa.specs.Stands.{seen, stateOf}
 use Rattle.nasa.specs.Steps.{transitionFor}
-use Rattle.nasa.specs.Enabled.{moveOf, Follows}
+use Rattle.nasa.specs.Enabled.{headRequest, LeadsTo}
 use Rattle.nasa.proofs.States.{zone-number}
 use Rattle.nasa.proofs.Heads.{Heads}
 use Rattle.nasa.proofs.Asked.{not-zero}
@@ -87,7 +87,7 @@ module _ (f : Field) (S : Sound f) where
   ]
 
   -- and leads to the state of its transition
-  pub follows : (r : Request) (k : ℕ) → r .kind ≡ k → numberOf f r ≡ 0 → (s : SCA) → transitionFor k f r (stateOf f) ≡ s ∷ [] → Follows f r s
+  pub follows : (r : Request) (k : ℕ) → r .kind ≡ k → numberOf f r ≡ 0 → (s : SCA) → transitionFor k f r (stateOf f) ≡ s ∷ [] → LeadsTo f r s
   follows r k q e s i =
       let own : transitionFor k f r (stateOf f) ≡ stateOf (stepOf f r .field) ∷ [] = ap (λ (j : ℕ). transitionFor j f r (stateOf f)) (sym q) ∙ steps-as f (S .places) r .accepted (number-is f r ∙ e) in
       record { accepted = number-is f r ∙ e; leads-to = head-same (sym own ∙ i) }
@@ -98,7 +98,7 @@ module _ (f : Field) (S : Sound f) where
     zn = zoneNumber z
 
     abbrev pub r : Request
-    r = moveOf f k z
+    r = headRequest f k z
 
     pub is-first : aircraftAt f zn 1 ≡ F .x
     unfolding aircraftAt

@@ -93,7 +93,9 @@ module _ (f : Field) (t : T (withinBounds f)) (k : Shaped f) (r : Request) (s : 
   few = elim (decided (ltb (f .sequence .length) 4)) [
     | inl p ↦ ltb-true (f .sequence .length) 4 p
     | inr p ↦
-        let there : isIn n (numbersAt g zn) ≡ true = ap (λ (l : List field.Aircraft). isIn n (numbers l)) in-zone ∙ ap (isIn n) (map-append (λ (b : field.Aircraft). b .number) (inZone f zn) (a ∷ [])) ∙ in-right n (numbersAt f zn) (n ∷ []) (ap (λ (b : Bool). b || false) (same n)) in
+        let there : isIn n (numbersAt g zn) ≡ true =
+        ap (λ (l : List field.Aircraft). isIn n (numbers l)) in-zone ∙ ap (isIn n) (map-append (λ (b : field.Aircraft). b .number) (inZone f zn) (a ∷ []))
+        ∙ in-right n (numbersAt f zn) (n ∷ []) (ap (λ (b : Bool). b || false) (same n)) in
         let listed : isIn n (orderOf (appended (f .sequence) n)) ≡ true = in-sequence g after zn inside n there in
         absurd (true≢false (sym listed ∙ ap (λ (c : Sequence). isIn n (orderOf c)) (full-stays (f .sequence) (k .sequence) n p) ∙ not-listed))
   ]

@@ -54,7 +54,8 @@ places-of f k =
     let a = every (λ z. eqb (length (zoneOf f z .aircraft)) 4) everywhere in
     let n = eqb (length (f .sequence .numbers)) 4 in
     and-i (z && a) n
-    (and-i z a (pass (eq-eqb (length (f .zones)) 13 (k .zones))) (each (λ z. eqb (length (zoneOf f z .aircraft)) 4) everywhere (λ z. pass (eq-eqb (length (zoneOf f z .aircraft)) 4 (k .zone z .places)))))
+    (and-i z a (pass (eq-eqb (length (f .zones)) 13 (k .zones)))
+    (each (λ z. eqb (length (zoneOf f z .aircraft)) 4) everywhere (λ z. pass (eq-eqb (length (zoneOf f z .aircraft)) 4 (k .zone z .places)))))
     (pass (eq-eqb (length (f .sequence .numbers)) 4 (k .sequence .places)))
   where
     each : (p : ℕ → Bool) (zs : List ℕ) → ((z : ℕ) → T (p z)) → T (every p zs)
@@ -131,7 +132,8 @@ module _ (f : Field) (h : T (hasPlaces f)) (r : Request) (k : r .kind ≡ 1) (e 
       let p20 : nobodyIn (stateOf f) (holding3 s) ≡ true = nobody-in f (holding3 s) ∙ free in
       leads f r (verticalEntry s) (enters (stateOf f) (holding3 s) s) (entered f r (zoneNumber (holding3 s))) e into
       (if-true _ [] (all-five p16 p17 p18 p19 p20))
-      (entered-state f t (shape f h r e) r s asks (holding3 s) (each-side (λ s. T (within 1 12 (zoneNumber (holding3 s)))) tt tt s) (absent-from f (r .number) (met .0)) few (pass (sym (ap withinBounds into) ∙ passes f r e .after)))
+      (entered-state f t (shape f h r e) r s asks (holding3 s) (each-side (λ s. T (within 1 12 (zoneNumber (holding3 s)))) tt tt s)
+      (absent-from f (r .number) (met .0)) few (pass (sym (ap withinBounds into) ∙ passes f r e .after)))
     where
       all-five : {a b c d g : Bool} → a ≡ true → b ≡ true → c ≡ true → d ≡ true → g ≡ true → (a && b && c && d && g) ≡ true
       all-five {a} {b} {c} {d} {g} p q u v w = rw (p, q, u, v, w)
@@ -166,13 +168,16 @@ module _ (f : Field) (h : T (hasPlaces f)) (r : Request) (k : r .kind ≡ 1) (e 
   first-step : holdingPatternDescend s (stateOf f) ≡ stateOf g ∷ []
   unfolding sideOf
   first-step =
-      let side : sideBefore f r₁ ≡ s = ap (λ (p : Place). sideNamed (sideOf (p .zone))) (found-above f (bounded f h r e) (r .side) b occupied) ∙ ap (λ (y : ℕ). sideNamed (sideOf y)) own ∙ each-side (λ s. sideNamed (sideOf (zoneNumber (holding3 s))) ≡ s) refl refl s in
+      let side : sideBefore f r₁ ≡ s =
+      ap (λ (p : Place). sideNamed (sideOf (p .zone))) (found-above f (bounded f h r e) (r .side) b occupied)
+      ∙ ap (λ (y : ℕ). sideNamed (sideOf y)) own ∙ each-side (λ s. sideNamed (sideOf (zoneNumber (holding3 s))) ≡ s) refl refl s in
       subst (λ (q : Side). Is f r₁ (holdingPatternDescend q)) side (descend-is f h r₁ refl e₁)
 
   lower : g ≡ moved f up down
   lower =
       let below = each-side (λ s. at2000 (zoneNumber (holding3 s)) ≡ zoneNumber (holding2 s)) refl refl s in
-      field-accepted f r₁ e₁ ∙ effect-at f r₁ refl ∙ ap (λ (p : Place). moved f (p .zone) (at2000 (p .zone))) (found-above f (bounded f h r e) (r .side) b occupied) ∙ ap (λ (y : ℕ). moved f y (at2000 y)) own ∙ ap (moved f up) below
+      field-accepted f r₁ e₁ ∙ effect-at f r₁ refl ∙ ap (λ (p : Place). moved f (p .zone) (at2000 (p .zone))) (found-above f (bounded f h r e) (r .side) b occupied)
+      ∙ ap (λ (y : ℕ). moved f y (at2000 y)) own ∙ ap (moved f up) below
 
   places : T (hasPlaces g)
   places = subst (λ (q : Field). T (hasPlaces q)) (sym lower) (places-of (moved f up down) (moved-shaped f (shape f h r e) up down (zone-number (holding3 s)) (zone-number (holding2 s))))
@@ -195,7 +200,10 @@ module _ (f : Field) (h : T (hasPlaces f)) (r : Request) (k : r .kind ≡ 1) (e 
   then-free : isEmpty g up ≡ true
   unfolding howMany moved
   then-free =
-      let left = put-here f (shape f h r e) up down (zone-number (holding3 s)) (zone-number (holding2 s)) (each-side (λ s. zoneNumber (holding2 s) ≢ zoneNumber (holding3 s)) (λ q. omega arith) (λ q. omega arith) s) (aircraftAt f (r .side) 1) [] alone (arrived (f .legs) down (aircraftAt f up 1)) room in
+      let left =
+      put-here f (shape f h r e) up down (zone-number (holding3 s)) (zone-number (holding2 s))
+      (each-side (λ s. zoneNumber (holding2 s) ≢ zoneNumber (holding3 s)) (λ q. omega arith) (λ q. omega arith) s)
+      (aircraftAt f (r .side) 1) [] alone (arrived (f .legs) down (aircraftAt f up 1)) room in
       ap (λ (q : Field). isEmpty q up) lower ∙ ap (λ (l : List field.Aircraft). eqb (length l) 0) left
 
   second-step : verticalEntry s (stateOf g) ≡ stateOf (stepOf f r .field) ∷ []

@@ -24,7 +24,7 @@ use Rattle.nasa.specs.Definitions.{Zone, holding3, holding2, lez, maz, b
 use Rattle.nasa.specs.Definitions as model
 use Rattle.nasa.specs.Rules.{Transition, nobodyIn, zoneNumber, mayInitiate, verticalEntry, lateralEntry, holdingPatternDescend, verticalApproachInitiation, lateralApproachInitiation, merging, exit, finalSegment, landing, taxing, missedApproach, lowestAvailableAltitude}
 use Rattle.nasa.specs.Stands.{sideNamed, seen, stateOf, entryAbove}
-use Rattle.nasa.specs.Enabled.{vertically, laterally, descends, initiates, initiatesLateral, merges, holds, exits, goesFinal, lands, taxies, misses, Entrant, entryOf, moveOf, mayCome, Follows, Enabled}
+use Rattle.nasa.specs.Enabled.{vertically, laterally, descends, initiates, initiatesLateral, merges, holds, exits, goesFinal, lands, taxies, misses, Entrant, entryRequest, headRequest, mayCome, LeadsTo, Enabled}
 use Rattle.nasa.proofs.Heads.{first-of, nobody-in}
 use Rattle.nasa.proofs.Moves.{each-side}
 use Rattle.nasa.proofs.Approaching as asked
@@ -36,106 +36,121 @@ module _ (f : Field) (S : Sound f) where
   State = stateOf f
 
   -- ---- descend
-  descending : (s : Side) (t : SCA) → holdingPatternDescend s State ≡ t ∷ [] → Follows f (moveOf f 3 (holding3 s)) t
+  descending : (s : Side) (t : SCA) → holdingPatternDescend s State ≡ t ∷ [] → LeadsTo f (headRequest f 3 (holding3 s)) t
   unfolding holdingPatternDescend startsFrom sideOf
   descending s t q =
       let F = somebody f (holding3 s) _ t q in
       let free = tested (nobodyIn State (holding2 s)) _ t (sym (first-of f (holding3 s) (F .x) (F .rest) (F .here) _) ∙ q) in
       let below = each-side (λ s. at2000 (zoneNumber (holding3 s)) ≡ zoneNumber (holding2 s)) refl refl s in
       let met : isEmpty f (at2000 (zoneNumber (holding3 s))) ≡ true = ap (isEmpty f) below ∙ sym (nobody-in f (holding2 s)) ∙ free in
-      let e = moves-on f S (holding3 s) F 3 tt (each-side (λ s. startsFrom 3 (zoneNumber (holding3 s)) ≡ true) refl refl s) (input.none-refused ((21, isEmpty f (at2000 (zoneNumber (holding3 s)))) ∷ []) (met, tt)) in
+      let e =
+      moves-on f S (holding3 s) F 3 tt (each-side (λ s. startsFrom 3 (zoneNumber (holding3 s)) ≡ true) refl refl s)
+      (input.none-refused ((21, isEmpty f (at2000 (zoneNumber (holding3 s)))) ∷ []) (met, tt)) in
       let side = ap (λ (z : ℕ). sideNamed (sideOf z)) (zone-is f S (holding3 s) F 3 tt) ∙ each-side (λ s. sideNamed (sideOf (zoneNumber (holding3 s))) ≡ s) refl refl s in
-      follows f S (moveOf f 3 (holding3 s)) 3 refl e t (ap (λ (p : Side). holdingPatternDescend p State) side ∙ q)
+      follows f S (headRequest f 3 (holding3 s)) 3 refl e t (ap (λ (p : Side). holdingPatternDescend p State) side ∙ q)
 
   -- ---- approach initiation
-  from-2000 : (s : Side) (t : SCA) → verticalApproachInitiation s State ≡ t ∷ [] → Follows f (moveOf f 4 (holding2 s)) t
+  from-2000 : (s : Side) (t : SCA) → verticalApproachInitiation s State ≡ t ∷ [] → LeadsTo f (headRequest f 4 (holding2 s)) t
   unfolding verticalApproachInitiation startsFrom sideOf
   from-2000 s t q =
       let F = somebody f (holding2 s) _ t q in
-      let r = moveOf f 4 (holding2 s) in
+      let r = headRequest f 4 (holding2 s) in
       let zone = zone-is f S (holding2 s) F 4 tt in
       let zn = zoneNumber (holding2 s) in
       let u = each-side (λ s. T (within 1 12 (zoneNumber (holding2 s)))) tt tt s in
       let own : sideOf (zoneBefore f r) ≡ num s = ap sideOf zone ∙ each-side (λ s. sideOf (zoneNumber (holding2 s)) ≡ num s) refl refl s in
       let may = mayApproach (f .sequence) (r .number) (zoneAhead f r) in
-      let both : (baseFree f (sideOf (zoneBefore f r)) && may) ≡ true = sym (asked.initiates f (S .bounds) r (holding2 s) zone (head f S (holding2 s) F 4 tt) u s own) ∙ tested (mayInitiate State s (seen f zn (F .x))) _ t (sym (first-of f (holding2 s) (F .x) (F .rest) (F .here) _) ∙ q) in
+      let both : (baseFree f (sideOf (zoneBefore f r)) && may) ≡ true =
+      sym (asked.initiates f (S .bounds) r (holding2 s) zone (head f S (holding2 s) F 4 tt) u s own)
+      ∙ tested (mayInitiate State s (seen f zn (F .x))) _ t (sym (first-of f (holding2 s) (F .x) (F .rest) (F .here) _) ∙ q) in
       let p22 : (within 5 6 zn || may) ≡ true = ap (λ (b : Bool). within 5 6 zn || b) (input.both-right (baseFree f (sideOf (zoneBefore f r))) may both) ∙ or-true (within 5 6 zn) in
-      let p23 : (within 5 6 zn || baseFree f (sideOf zn)) ≡ true = ap (λ (b : Bool). within 5 6 zn || b) (ap (λ (z : ℕ). baseFree f (sideOf z)) (sym zone) ∙ input.both-left (baseFree f (sideOf (zoneBefore f r))) may both) ∙ or-true (within 5 6 zn) in
-      let e = moves-on f S (holding2 s) F 4 tt (each-side (λ s. startsFrom 4 (zoneNumber (holding2 s)) ≡ true) refl refl s) (input.none-refused ((22, within 5 6 zn || may) ∷ (23, within 5 6 zn || baseFree f (sideOf zn)) ∷ []) (p22, (p23, tt))) in
+      let p23 : (within 5 6 zn || baseFree f (sideOf zn)) ≡ true =
+      ap (λ (b : Bool). within 5 6 zn || b) (ap (λ (z : ℕ). baseFree f (sideOf z)) (sym zone) ∙ input.both-left (baseFree f (sideOf (zoneBefore f r))) may both) ∙ or-true (within 5 6 zn) in
+      let e =
+      moves-on f S (holding2 s) F 4 tt (each-side (λ s. startsFrom 4 (zoneNumber (holding2 s)) ≡ true) refl refl s)
+      (input.none-refused ((22, within 5 6 zn || may) ∷ (23, within 5 6 zn || baseFree f (sideOf zn)) ∷ []) (p22, (p23, tt))) in
       let side = ap (λ (z : ℕ). sideNamed (sideOf z)) zone ∙ each-side (λ s. sideNamed (sideOf (zoneNumber (holding2 s))) ≡ s) refl refl s in
       let not-lateral : within 5 6 (zoneBefore f r) ≡ false = ap (within 5 6) zone ∙ each-side (λ s. within 5 6 (zoneNumber (holding2 s)) ≡ false) refl refl s in
       follows f S r 4 refl e t (ap (λ (T : Transition). T State) (if-false _ _ not-lateral) ∙ ap (λ (p : Side). verticalApproachInitiation p State) side ∙ q)
 
-  from-lateral : (s : Side) (t : SCA) → lateralApproachInitiation s State ≡ t ∷ [] → Follows f (moveOf f 4 (lez s)) t
+  from-lateral : (s : Side) (t : SCA) → lateralApproachInitiation s State ≡ t ∷ [] → LeadsTo f (headRequest f 4 (lez s)) t
   unfolding lateralApproachInitiation startsFrom sideOf
   from-lateral s t q =
       let F = somebody f (lez s) _ t q in
-      let r = moveOf f 4 (lez s) in
+      let r = headRequest f 4 (lez s) in
       let zone = zone-is f S (lez s) F 4 tt in
       let zn = zoneNumber (lez s) in
       let may = mayApproach (f .sequence) (r .number) (zoneAhead f r) in
       let there : within 5 6 zn ≡ true = each-side (λ s. within 5 6 (zoneNumber (lez s)) ≡ true) refl refl s in
       let p22 : (within 5 6 zn || may) ≡ true = ap (λ (b : Bool). b || may) there in
       let p23 : (within 5 6 zn || baseFree f (sideOf zn)) ≡ true = ap (λ (b : Bool). b || baseFree f (sideOf zn)) there in
-      let e = moves-on f S (lez s) F 4 tt (each-side (λ s. startsFrom 4 (zoneNumber (lez s)) ≡ true) refl refl s) (input.none-refused ((22, within 5 6 zn || may) ∷ (23, within 5 6 zn || baseFree f (sideOf zn)) ∷ []) (p22, (p23, tt))) in
+      let e =
+      moves-on f S (lez s) F 4 tt (each-side (λ s. startsFrom 4 (zoneNumber (lez s)) ≡ true) refl refl s)
+      (input.none-refused ((22, within 5 6 zn || may) ∷ (23, within 5 6 zn || baseFree f (sideOf zn)) ∷ []) (p22, (p23, tt))) in
       let side = ap (λ (z : ℕ). sideNamed (sideOf z)) zone ∙ each-side (λ s. sideNamed (sideOf (zoneNumber (lez s))) ≡ s) refl refl s in
       follows f S r 4 refl e t (ap (λ (T : Transition). T State) (if-true _ _ (ap (within 5 6) zone ∙ there)) ∙ ap (λ (p : Side). lateralApproachInitiation p State) side ∙ q)
 
   -- ---- merge
-  merging-on : (s : Side) (t : SCA) → merging s State ≡ t ∷ [] → legFlownOut (aircraftAt f (zoneNumber (base s)) 1) ≡ true → Follows f (moveOf f 5 (base s)) t
+  merging-on : (s : Side) (t : SCA) → merging s State ≡ t ∷ [] → legFlownOut (aircraftAt f (zoneNumber (base s)) 1) ≡ true → LeadsTo f (headRequest f 5 (base s)) t
   unfolding merging startsFrom sideOf
   merging-on s t q flown =
       let F = somebody f (base s) _ t q in
-      let r = moveOf f 5 (base s) in
+      let r = headRequest f 5 (base s) in
       let zone = zone-is f S (base s) F 5 tt in
       let zn = zoneNumber (base s) in
       let u = each-side (λ s. T (within 1 12 (zoneNumber (base s)))) tt tt s in
       let may = mayMerge (f .sequence) (r .number) (zoneAhead f r) in
       let met : may ≡ true = sym (asked.merges f (S .bounds) r (base s) zone (head f S (base s) F 5 tt) u) ∙ tested _ _ t (sym (first-of f (base s) (F .x) (F .rest) (F .here) _) ∙ q) in
-      let e = moves-on f S (base s) F 5 tt (each-side (λ s. startsFrom 5 (zoneNumber (base s)) ≡ true) refl refl s) (input.none-refused ((15, legFlownOut (aircraftAt f zn 1)) ∷ (22, may) ∷ []) (flown, (met, tt))) in
+      let e =
+      moves-on f S (base s) F 5 tt (each-side (λ s. startsFrom 5 (zoneNumber (base s)) ≡ true) refl refl s)
+      (input.none-refused ((15, legFlownOut (aircraftAt f zn 1)) ∷ (22, may) ∷ []) (flown, (met, tt))) in
       let side = ap (λ (z : ℕ). sideNamed (sideOf z)) zone ∙ each-side (λ s. sideNamed (sideOf (zoneNumber (base s))) ≡ s) refl refl s in
       follows f S r 5 refl e t (ap (λ (p : Side). merging p State) side ∙ q)
 
   -- ---- those with no side
-  going-final : (t : SCA) → finalSegment State ≡ t ∷ [] → legFlownOut (aircraftAt f 11 1) ≡ true → Follows f (moveOf f 6 intermediate) t
+  going-final : (t : SCA) → finalSegment State ≡ t ∷ [] → legFlownOut (aircraftAt f 11 1) ≡ true → LeadsTo f (headRequest f 6 intermediate) t
   unfolding finalSegment startsFrom
   going-final t q flown =
       let F = somebody f intermediate _ t q in
-      follows f S (moveOf f 6 intermediate) 6 refl (moves-on f S intermediate F 6 tt refl (input.none-refused ((15, legFlownOut (aircraftAt f 11 1)) ∷ []) (flown, tt))) t q
+      follows f S (headRequest f 6 intermediate) 6 refl (moves-on f S intermediate F 6 tt refl (input.none-refused ((15, legFlownOut (aircraftAt f 11 1)) ∷ []) (flown, tt))) t q
 
-  landing-on : (t : SCA) → landing State ≡ t ∷ [] → legFlownOut (aircraftAt f 12 1) ≡ true → Follows f (moveOf f 7 final) t
+  landing-on : (t : SCA) → landing State ≡ t ∷ [] → legFlownOut (aircraftAt f 12 1) ≡ true → LeadsTo f (headRequest f 7 final) t
   unfolding landing startsFrom
   landing-on t q flown =
       let F = somebody f final _ t q in
       let free = sym (nobody-in f runway) ∙ tested (nobodyIn State runway) _ t (sym (first-of f final (F .x) (F .rest) (F .here) _) ∙ q) in
-      follows f S (moveOf f 7 final) 7 refl (moves-on f S final F 7 tt refl (input.none-refused ((15, legFlownOut (aircraftAt f 12 1)) ∷ (24, isEmpty f 13) ∷ []) (flown, (free, tt)))) t q
+      follows f S (headRequest f 7 final) 7 refl (moves-on f S final F 7 tt refl (input.none-refused ((15, legFlownOut (aircraftAt f 12 1)) ∷ (24, isEmpty f 13) ∷ []) (flown, (free, tt)))) t q
 
-  taxiing : (t : SCA) → taxing State ≡ t ∷ [] → Follows f (moveOf f 8 runway) t
+  taxiing : (t : SCA) → taxing State ≡ t ∷ [] → LeadsTo f (headRequest f 8 runway) t
   unfolding taxing startsFrom
-  taxiing t q = let F = somebody f runway _ t q in follows f S (moveOf f 8 runway) 8 refl (moves-on f S runway F 8 tt refl refl) t q
+  taxiing t q = let F = somebody f runway _ t q in follows f S (headRequest f 8 runway) 8 refl (moves-on f S runway F 8 tt refl refl) t q
 
-  exiting : (t : SCA) → exit State ≡ t ∷ [] → legFlownOut (aircraftAt f 11 1) ≡ true → Follows f (moveOf f 9 intermediate) t
+  exiting : (t : SCA) → exit State ≡ t ∷ [] → legFlownOut (aircraftAt f 11 1) ≡ true → LeadsTo f (headRequest f 9 intermediate) t
   unfolding exit startsFrom
   exiting t q flown =
       let F = somebody f intermediate _ t q in
-      let r = moveOf f 9 intermediate in
+      let r = headRequest f 9 intermediate in
       let zone = zone-is f S intermediate F 9 tt in
-      let met : isFirst (f .sequence) (r .number) ≡ true = sym (asked.first-is f (S .bounds) r intermediate zone (head f S intermediate F 9 tt) tt) ∙ tested (model.isFirst (seen f 11 (F .x))) _ t (sym (first-of f intermediate (F .x) (F .rest) (F .here) _) ∙ q) in
+      let met : isFirst (f .sequence) (r .number) ≡ true =
+      sym (asked.first-is f (S .bounds) r intermediate zone (head f S intermediate F 9 tt) tt)
+      ∙ tested (model.isFirst (seen f 11 (F .x))) _ t (sym (first-of f intermediate (F .x) (F .rest) (F .here) _) ∙ q) in
       follows f S r 9 refl (moves-on f S intermediate F 9 tt refl (input.none-refused ((15, legFlownOut (aircraftAt f 11 1)) ∷ (22, isFirst (f .sequence) (r .number)) ∷ []) (flown, (met, tt)))) t q
 
-  missing : (t : SCA) → missedApproach State ≡ t ∷ [] → Follows f (moveOf f 10 final) t
+  missing : (t : SCA) → missedApproach State ≡ t ∷ [] → LeadsTo f (headRequest f 10 final) t
   unfolding missedApproach startsFrom
-  missing t q = let F = somebody f final _ t q in follows f S (moveOf f 10 final) 10 refl (moves-on f S final F 10 tt refl refl) t q
+  missing t q = let F = somebody f final _ t q in follows f S (headRequest f 10 final) 10 refl (moves-on f S final F 10 tt refl refl) t q
 
   -- ---- lowest available altitude
-  holding : (s : Side) (t : SCA) → lowestAvailableAltitude s State ≡ t ∷ [] → legFlownOut (aircraftAt f (zoneNumber (maz s)) 1) ≡ true → Follows f (moveOf f 11 (maz s)) t
+  holding : (s : Side) (t : SCA) → lowestAvailableAltitude s State ≡ t ∷ [] → legFlownOut (aircraftAt f (zoneNumber (maz s)) 1) ≡ true → LeadsTo f (headRequest f 11 (maz s)) t
   unfolding lowestAvailableAltitude startsFrom sideOf
   holding s t q flown =
       let F = somebody f (maz s) _ t q in
       let zone = zone-is f S (maz s) F 11 tt in
-      let e = moves-on f S (maz s) F 11 tt (each-side (λ s. startsFrom 11 (zoneNumber (maz s)) ≡ true) refl refl s) (input.none-refused ((15, legFlownOut (aircraftAt f (zoneNumber (maz s)) 1)) ∷ []) (flown, tt)) in
+      let e =
+      moves-on f S (maz s) F 11 tt (each-side (λ s. startsFrom 11 (zoneNumber (maz s)) ≡ true) refl refl s)
+      (input.none-refused ((15, legFlownOut (aircraftAt f (zoneNumber (maz s)) 1)) ∷ []) (flown, tt)) in
       let side = ap (λ (z : ℕ). sideNamed (sideOf z)) zone ∙ each-side (λ s. sideNamed (sideOf (zoneNumber (maz s))) ≡ s) refl refl s in
-      follows f S (moveOf f 11 (maz s)) 11 refl e t (ap (λ (p : Side). lowestAvailableAltitude p State) side ∙ q)
+      follows f S (headRequest f 11 (maz s)) 11 refl e t (ap (λ (p : Side). lowestAvailableAltitude p State) side ∙ q)
 
   -- ---- entries
   module _ (new : Entrant) (t : T (mayCome f new)) where
@@ -160,10 +175,10 @@ module _ (f : Field) (S : Sound f) where
     is-unused : unused ≡ true
     is-unused = input.both-right not-0 unused two
 
-    entry-allowed : (k : ℕ) → 1 ≤ k → k ≤ 2 → (s : Side) → inputNumber (entryOf new k s) ≡ 0
+    entry-allowed : (k : ℕ) → 1 ≤ k → k ≤ 2 → (s : Side) → inputNumber (entryRequest new k s) ≡ 0
     entry-allowed k l h s =
-        none-broken (entryOf new k s)
-        (subst (Keeps (entryOf new k s)) (sym (rule-of-entry k l h))
+        none-broken (entryRequest new k s)
+        (subst (Keeps (entryRequest new k s)) (sym (rule-of-entry k l h))
         (record {
           desk = input.both-right (not-0 && unused && fast) desked (passed {b = not-0 && unused && fast && desked} t);
           kind = refl;
@@ -172,18 +187,20 @@ module _ (f : Field) (S : Sound f) where
           amount = input.both-right (not-0 && unused) fast three;
         }))
 
-  coming-laterally : (s : Side) (t : SCA) → lateralEntry s State ≡ t ∷ [] → (new : Entrant) → T (mayCome f new) → Follows f (entryOf new 2 s) t
+  coming-laterally : (s : Side) (t : SCA) → lateralEntry s State ≡ t ∷ [] → (new : Entrant) → T (mayCome f new) → LeadsTo f (entryRequest new 2 s) t
   unfolding lateralEntry
   coming-laterally s t q new m =
-      let r = entryOf new 2 s in
+      let r = entryRequest new 2 s in
       let none : eqb (potentialOf f (num s)) 0 ≡ true = ap (λ (m : ℕ). eqb m 0) (sym (virtual-is f (S .bounds) s)) ∙ tested (eqb (virtual State s) 0) _ t q in
-      let e = accepted-by f S r (entry-allowed new m 2 (omega arith) (omega arith) s) (ap firstRefused (checks-at f r refl) ∙ input.none-refused (absentChecks (placeBefore f r) ++ lateralNeeds f (num s)) (is-unused new m, (none, tt))) in
+      let e =
+      accepted-by f S r (entry-allowed new m 2 (omega arith) (omega arith) s)
+      (ap firstRefused (checks-at f r refl) ∙ input.none-refused (absentChecks (placeBefore f r) ++ lateralNeeds f (num s)) (is-unused new m, (none, tt))) in
       follows f S r 2 refl e t (ap (λ (p : Side). lateralEntry p State) (each-side (λ s. sideNamed (num s) ≡ s) refl refl s) ∙ q)
 
-  coming-vertically : (s : Side) (t : SCA) → verticalEntry s State ≡ t ∷ [] → (new : Entrant) → T (mayCome f new) → Follows f (entryOf new 1 s) t
+  coming-vertically : (s : Side) (t : SCA) → verticalEntry s State ≡ t ∷ [] → (new : Entrant) → T (mayCome f new) → LeadsTo f (entryRequest new 1 s) t
   unfolding verticalEntry
   coming-vertically s t q new m =
-      let r = entryOf new 1 s in
+      let r = entryRequest new 1 s in
       let a = ltb (virtual State s) 2 in
       let b = not (approachAssigned State s) in
       let c = nobodyIn State (maz s) in
@@ -199,8 +216,11 @@ module _ (f : Field) (S : Sound f) where
       let p18 = empty (maz s) (missed (num s)) (each-side (λ s. missed (num s) ≡ zoneNumber (maz s)) refl refl s) (input.both-right (a && b) c three) in
       let p19 = empty (lez s) (lateral (num s)) (each-side (λ s. lateral (num s) ≡ zoneNumber (lez s)) refl refl s) (input.both-right (a && b && c) d four) in
       let free = input.both-right (a && b && c && d) g five in
-      let p20 : (isEmpty f (num s) || isEmpty f (at2000 (num s))) ≡ true = ap (λ (x : Bool). x || isEmpty f (at2000 (num s))) (empty (holding3 s) (num s) (each-side (λ s. num s ≡ zoneNumber (holding3 s)) refl refl s) free) in
-      let e = accepted-by f S r (entry-allowed new m 1 (omega arith) (omega arith) s) (ap firstRefused (checks-at f r refl) ∙ input.none-refused (absentChecks (placeBefore f r) ++ verticalNeeds f (num s)) (is-unused new m, (p16, (p17, (p18, (p19, (p20, tt))))))) in
+      let p20 : (isEmpty f (num s) || isEmpty f (at2000 (num s))) ≡ true =
+      ap (λ (x : Bool). x || isEmpty f (at2000 (num s))) (empty (holding3 s) (num s) (each-side (λ s. num s ≡ zoneNumber (holding3 s)) refl refl s) free) in
+      let e =
+      accepted-by f S r (entry-allowed new m 1 (omega arith) (omega arith) s)
+      (ap firstRefused (checks-at f r refl) ∙ input.none-refused (absentChecks (placeBefore f r) ++ verticalNeeds f (num s)) (is-unused new m, (p16, (p17, (p18, (p19, (p20, tt))))))) in
       follows f S r 1 refl e t (ap (λ (p : Side). entryAbove p State) (each-side (λ s. sideNamed (num s) ≡ s) refl refl s) ∙ if-true _ _ free ∙ q)
 
   -- ---- every transition

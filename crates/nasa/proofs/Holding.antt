@@ -69,7 +69,8 @@ module _ (f : Field) (h : T (hasPlaces f)) (r : Request) (k : r .kind ≡ 11) (e
   lower = ap at2000 own ∙ each-side (λ s. at2000 (num s) ≡ zoneNumber (holding2 s)) refl refl s
 
   -- to 2000 or to 3000, where nobody is at 3000
-  to : (w : Zone) → T (differing (maz s) w) → effectOf f r ≡ moved f z₀ (zoneNumber w) → lowestAvailableAltitude s (stateOf f) ≡ add (put (stateOf f) (maz s) (map (seen f zn) (a .rest))) w (seen f zn (a .x)) ∷ [] → Is f r (lowestAvailableAltitude s)
+  to : (w : Zone) → T (differing (maz s) w) → effectOf f r ≡ moved f z₀ (zoneNumber w)
+      → lowestAvailableAltitude s (stateOf f) ≡ add (put (stateOf f) (maz s) (map (seen f zn) (a .rest))) w (seen f zn (a .x)) ∷ [] → Is f r (lowestAvailableAltitude s)
   to w d p i = leads f r (lowestAvailableAltitude s) (there f h r e (maz s) w at a d) (moved f zn (zoneNumber w)) e (p ∙ ap (λ (y : ℕ). moved f y (zoneNumber w)) at) i (goes f h r e (maz s) w at a d)
 
   -- ---- both move, where x is at 3000
@@ -104,7 +105,9 @@ module _ (f : Field) (h : T (hasPlaces f)) (r : Request) (k : r .kind ≡ 11) (e
 
     g-missed : inZone g zn ≡ a .x ∷ a .rest
     unfolding moved
-    g-missed = put-elsewhere f (shape f h r e) up down (zone-number (holding3 s)) (zone-number (holding2 s)) (apart holding2 holding3 tt tt) x others above b room-below zn (apart maz holding3 tt tt) (apart maz holding2 tt tt) ∙ in-missed
+    g-missed =
+        put-elsewhere f (shape f h r e) up down (zone-number (holding3 s)) (zone-number
+        (holding2 s)) (apart holding2 holding3 tt tt) x others above b room-below zn (apart maz holding3 tt tt) (apart maz holding2 tt tt) ∙ in-missed
 
     g-room : howMany g up < 4
     unfolding moved howMany
@@ -120,9 +123,11 @@ module _ (f : Field) (h : T (hasPlaces f)) (r : Request) (k : r .kind ≡ 11) (e
     both : stateOf (moved g zn up) ≡ add (put between (maz s) (map (seen f zn) (a .rest))) (holding3 s) (seen f zn (a .x))
     unfolding moved tailPut headGone withZone
     both =
-        moved-state g g-shaped (maz s) (holding3 s) (apart holding3 maz tt tt) (a .x) (a .rest) g-missed g-room (each-side (λ s. eqb (zoneNumber (maz s)) 13 ≡ eqb (zoneNumber (holding3 s)) 13) refl refl s)
+        moved-state g g-shaped (maz s) (holding3 s) (apart holding3 maz tt tt) (a .x) (a .rest) g-missed g-room
+        (each-side (λ s. eqb (zoneNumber (maz s)) 13 ≡ eqb (zoneNumber (holding3 s)) 13) refl refl s)
         ∙ ap (λ (t : SCA). add (put t (maz s) (map (seen f zn) (a .rest))) (holding3 s) (seen f zn (a .x)))
-        (moved-state f (shape f h r e) (holding3 s) (holding2 s) (apart holding2 holding3 tt tt) x others above room-below (each-side (λ s. eqb (zoneNumber (holding3 s)) 13 ≡ eqb (zoneNumber (holding2 s)) 13) refl refl s))
+        (moved-state f (shape f h r e) (holding3 s) (holding2 s) (apart holding2 holding3 tt tt) x others above room-below
+        (each-side (λ s. eqb (zoneNumber (holding3 s)) 13 ≡ eqb (zoneNumber (holding2 s)) 13) refl refl s))
 
   hold-from : Is f r (lowestAvailableAltitude s)
   unfolding lowestAvailableAltitude held howMany
@@ -144,7 +149,8 @@ module _ (f : Field) (h : T (hasPlaces f)) (r : Request) (k : r .kind ≡ 11) (e
           let top = begins (inZone f up) p in
           let below : at2000 up ≡ down = each-side (λ s. at2000 (zoneNumber (holding3 s)) ≡ zoneNumber (holding2 s)) refl refl s in
           leads f r (lowestAvailableAltitude s) (add (put (between (top .0) (top .1) (top .2)) (maz s) (map (seen f zn) (a .rest))) (holding3 s) (seen f zn (a .x))) (moved (moved f up down) zn up) e
-          (effect ∙ if-false _ _ (ap (isEmpty f) upper ∙ p) ∙ ap (λ (y : ℕ). moved (descended f y) z₀ y) upper ∙ ap (λ (y : ℕ). moved (moved f up y) z₀ up) below ∙ ap (λ (y : ℕ). moved (moved f up down) y up) at)
+          (effect ∙ if-false _ _ (ap (isEmpty f) upper ∙ p) ∙ ap (λ (y : ℕ). moved (descended f y) z₀ y) upper
+          ∙ ap (λ (y : ℕ). moved (moved f up y) z₀ up) below ∙ ap (λ (y : ℕ). moved (moved f up down) y up) at)
           (first-of f (maz s) (a .x) (a .rest) in-missed _ ∙ if-false _ _ (nobody-in f (holding3 s) ∙ p) ∙ first-of f (holding3 s) (top .0) (top .1) (top .2) _)
           (both (top .0) (top .1) (top .2))
 

@@ -109,7 +109,8 @@ module _ (f : Field) (h : T (hasPlaces f)) (r : Request) (k : r .kind ≡ 7) (e 
       next-number : suc (length (orderOf (g .sequence))) ≡ lowered (suc (length (orderOf (f .sequence))))
       next-number = ap (λ (l : List ℕ). suc (length l)) order-after ∙ one-fewer (x .number) ns ∙ ap (λ (l : List ℕ). lowered (suc (length l))) (sym o)
 
-      off-runway : (y : Zone) → eqb (zoneNumber y) 13 ≡ false → map (seen g (zoneNumber y)) (inZone g (zoneNumber y)) ≡ decrease (cond (eqb (zoneNumber y) 12) R (map (seen f (zoneNumber y)) (inZone f (zoneNumber y))))
+      off-runway : (y : Zone) → eqb (zoneNumber y) 13 ≡ false
+          → map (seen g (zoneNumber y)) (inZone g (zoneNumber y)) ≡ decrease (cond (eqb (zoneNumber y) 12) R (map (seen f (zoneNumber y)) (inZone f (zoneNumber y))))
       off-runway y p = elim (decided (eqb (zoneNumber y) 12)) [
         | inl q ↦
             let at = eqb-true (zoneNumber y) 12 q in
@@ -182,7 +183,8 @@ module _ (f : Field) (h : T (hasPlaces f)) (r : Request) (k : r .kind ≡ 9) (e 
       go (y ∷ ys) q =
           let b = behind (f .sequence) (y .number) (final-first f (bounded f h r e) y ys q) in
           let same-one : y .number ≡ x .number = head-same (sym (b .1) ∙ o) in
-          let there : isIn (x .number) (numbersAt f 12) ≡ true = ap (λ (l : List field.Aircraft). isIn (x .number) (numbers l)) q ∙ ap (λ (c : Bool). c || isIn (x .number) (numbers ys)) (eq-eqb (y .number) (x .number) same-one) in
+          let there : isIn (x .number) (numbersAt f 12) ≡ true =
+          ap (λ (l : List field.Aircraft). isIn (x .number) (numbers l)) q ∙ ap (λ (c : Bool). c || isIn (x .number) (numbers ys)) (eq-eqb (y .number) (x .number) same-one) in
           absurd (true≢false (sym there ∙ elsewhere-apart f (bounded f h r e) 11 (zone-number intermediate) x rest here 12 (zone-number final) (λ w. omega arith)))
         where
           head-same : {m n : ℕ} {ms os : List ℕ} → m ∷ ms ≡ n ∷ os → m ≡ n

@@ -98,5 +98,6 @@ module _ (f : Field) (t : T (withinBounds f)) (z : ℕ) (b : Between 1 13 z) (x 
 pub final-first : (f : Field) → T (withinBounds f) → (x : field.Aircraft) (rest : List field.Aircraft) → inZone f 12 ≡ x ∷ rest → isFirst (f .sequence) (x .number) ≡ true
 unfolding finalFirst howMany aircraftAt
 final-first f t x rest here =
-    sym (ap (λ (l : List field.Aircraft). eqb (length l) 0 || isFirst (f .sequence) (getD (nobody ∷ l) 1 nobody .number)) here ∙ ap (λ (c : Bool). c || isFirst (f .sequence) (x .number)) (ne-eqb (suc (length rest)) 0 (λ e. omega arith)))
+    sym (ap (λ (l : List field.Aircraft). eqb (length l) 0 || isFirst (f .sequence) (getD (nobody ∷ l) 1 nobody .number)) here
+    ∙ ap (λ (c : Bool). c || isFirst (f .sequence) (x .number)) (ne-eqb (suc (length rest)) 0 (λ e. omega arith)))
     ∙ passed (within-e f t .first)

@@ -214,7 +214,8 @@ module _ (f : Field) (h : T (hasPlaces f)) (r : Request) (k : r .kind ≡ 10) (e
           ∙ sym (decrease-append (map (seen f wn) (inZone f wn)) (again ∷ []))
           ∙ ap (λ (l : List Aircraft). decrease (l ++ (again ∷ []))) (sym (if-false R _ (ne-eqb wn 12 apart)))
 
-      off-runway : (y : Zone) → eqb (zoneNumber y) 13 ≡ false → map (seen g (zoneNumber y)) (inZone g (zoneNumber y)) ≡ decrease (cond (eqb (zoneNumber y) wn) (before-it wn ++ (again ∷ [])) (before-it (zoneNumber y)))
+      off-runway : (y : Zone) → eqb (zoneNumber y) 13 ≡ false
+          → map (seen g (zoneNumber y)) (inZone g (zoneNumber y)) ≡ decrease (cond (eqb (zoneNumber y) wn) (before-it wn ++ (again ∷ [])) (before-it (zoneNumber y)))
       off-runway y p = go (decided (eqb (zoneNumber y) wn)) (decided (eqb (zoneNumber y) 12))
         where
           go : (eqb (zoneNumber y) wn ≡ true) ⊎ (eqb (zoneNumber y) wn ≡ false) → (eqb (zoneNumber y) 12 ≡ true) ⊎ (eqb (zoneNumber y) 12 ≡ false)

@@ -109,9 +109,11 @@ module _ (f g : Field) (w : ℕ) where
         ∙ ap (λ (b : ℕ). asSeen b (x .fix)) less
         ∙ ap (λ (b : Bool). asSeen (cond b 1 (suc (before m (orderOf (f .sequence)))) - 1) (x .fix)) (sym not-runway)
 
-    pub seen-lowered : (xs : List field.Aircraft) → isIn n (numbers xs) ≡ false → ((m : ℕ) → isIn m (numbers xs) ≡ true → before m (orderOf (g .sequence)) ≡ before m ns) → map (seen g w) xs ≡ decrease (map (seen f w) xs)
+    pub seen-lowered : (xs : List field.Aircraft) → isIn n (numbers xs) ≡ false → ((m : ℕ) → isIn m (numbers xs) ≡ true → before m (orderOf (g .sequence)) ≡ before m ns)
+        → map (seen g w) xs ≡ decrease (map (seen f w) xs)
     seen-lowered [] a h = refl
     seen-lowered (x ∷ xs) a h =
         let m = x .number in
         ap (λ (c : Aircraft). c ∷ map (seen g w) xs) (one-lowered x (or-false-left (eqb m n) (isIn n (numbers xs)) a) (h m (ap (λ (b : Bool). b || isIn m (numbers xs)) (same m))))
-        ∙ ap (λ (l : List Aircraft). asSeen (seen f w x .seq - 1) (x .fix) ∷ l) (seen-lowered xs (or-false-right (eqb m n) (isIn n (numbers xs)) a) (λ j i. h j (ap (λ (b : Bool). eqb m j || b) i ∙ or-true (eqb m j))))
+        ∙ ap (λ (l : List Aircraft). asSeen (seen f w x .seq - 1) (x .fix) ∷ l)
+        (seen-lowered xs (or-false-right (eqb m n) (isIn n (numbers xs)) a) (λ j i. h j (ap (λ (b : Bool). eqb m j || b) i ∙ or-true (eqb m j))))

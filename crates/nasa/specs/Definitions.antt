@@ -1,5 +1,6 @@
--- NASA/TM-2004-213006, appendix, "Definitions": its landing part, in its terms and its order. Identification numbers and the number of the rule are for
--- printing there, and are left out; so are departures, which document 01 leaves to others.
+-- NASA/TM-2004-213006, appendix, "Definitions": its landing part, in its terms and its order. Left out are departures, which document 01 leaves to others, with
+-- their zones; identification numbers and the number of the rule, which are for printing there; and the functions that only the paper's properties use,
+-- `leader?`, `assigned2fix` and `landing_op`. Speeds, miles, legs and desks it does not have.
 use mathlib.Core.Bool.{Bool, true, false, cond, not, _||_}
 use mathlib.Core.List.{List, [], _∷_}
 use Prim.Native.Nat.{ℕ, _+_, _-_}
@@ -29,6 +30,7 @@ pub record SCA : Type 0 where
 
 -- ---- questions of an aircraft
 
+-- whether two sides are the same
 abbrev pub sameSide : Side → Side → Bool
 sameSide right right = true
 sameSide right left = false

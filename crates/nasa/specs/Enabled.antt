@@ -24,6 +24,7 @@ pub data Name : Type 0 where
   descends initiates initiatesLateral merges holds : Side → Name
   exits goesFinal lands taxies misses : Name
 
+-- the transition of each name
 abbrev pub transition : Name → Transition
 transition (vertically s) = verticalEntry s
 transition (laterally s) = lateralEntry s
@@ -47,29 +48,29 @@ pub record Entrant : Type 0 where
   pub desk : ℕ
 
 -- an entry at a side
-abbrev pub entryOf : Entrant → ℕ → Side → Request
-entryOf new kind s = record { kind = kind; side = num s; number = new .number; amount = new .speed; desk = new .desk }
+abbrev pub entryRequest : Entrant → ℕ → Side → Request
+entryRequest new kind s = record { kind = kind; side = num s; number = new .number; amount = new .speed; desk = new .desk }
 
 -- a move of the first aircraft of a zone, as its own desk asks it (02, 2.10)
-abbrev pub moveOf : Field → ℕ → Zone → Request
-moveOf f kind z =
+abbrev pub headRequest : Field → ℕ → Zone → Request
+headRequest f kind z =
     let a = aircraftAt f (zoneNumber z) 1 in
     record { kind = kind; side = 0; number = a .number; amount = 0; desk = a .desk }
 
 -- an entry, and a move by whoever is first in the zone of the transition
 abbrev pub requestFor : Field → Entrant → Name → Request
-requestFor f new (vertically s) = entryOf new 1 s
-requestFor f new (laterally s) = entryOf new 2 s
-requestFor f new (descends s) = moveOf f 3 (holding3 s)
-requestFor f new (initiates s) = moveOf f 4 (holding2 s)
-requestFor f new (initiatesLateral s) = moveOf f 4 (lez s)
-requestFor f new (merges s) = moveOf f 5 (base s)
-requestFor f new exits = moveOf f 9 intermediate
-requestFor f new goesFinal = moveOf f 6 intermediate
-requestFor f new lands = moveOf f 7 final
-requestFor f new taxies = moveOf f 8 runway
-requestFor f new misses = moveOf f 10 final
-requestFor f new (holds s) = moveOf f 11 (maz s)
+requestFor f new (vertically s) = entryRequest new 1 s
+requestFor f new (laterally s) = entryRequest new 2 s
+requestFor f new (descends s) = headRequest f 3 (holding3 s)
+requestFor f new (initiates s) = headRequest f 4 (holding2 s)
+requestFor f new (initiatesLateral s) = headRequest f 4 (lez s)
+requestFor f new (merges s) = headRequest f 5 (base s)
+requestFor f new exits = headRequest f 9 intermediate
+requestFor f new goesFinal = headRequest f 6 intermediate
+requestFor f new lands = headRequest f 7 final
+requestFor f new taxies = headRequest f 8 runway
+requestFor f new misses = headRequest f 10 final
+requestFor f new (holds s) = headRequest f 11 (maz s)
 
 -- ---- what the rules ask besides
 
@@ -81,7 +82,7 @@ mayCome f new = not (eqb (new .number) 0) && eqb (placeOf f (new .number) .zone)
 abbrev pub flownOutIn : Field → Zone → Bool
 flownOutIn f z = legFlownOut (aircraftAt f (zoneNumber z) 1)
 
--- kinds 5, 6, 7 and 11 need the leg flown out, and (02, 2.3) kind 9
+-- what each transition has to wait for: who enters may come, and who merges, exits (02, 2.3), goes to final, lands or holds has flown its leg out
 abbrev pub ready : Field → Entrant → Name → Bool
 ready f new (vertically s) = mayCome f new
 ready f new (laterally s) = mayCome f new
@@ -99,9 +100,10 @@ ready f new (holds s) = flownOutIn f (maz s)
 -- ---- the statement
 
 -- the request for a transition is accepted, and leads to the state that the transition leads to
-pub record Follows (f : Field) (r : Request) (s : SCA) : Type 0 where
+pub record LeadsTo (f : Field) (r : Request) (s : SCA) : Type 0 where
   pub accepted : stepOf f r .answer .number ≡ 0
   pub leads-to : stateOf (stepOf f r .field) ≡ s
 
+-- every transition that leads on from the state of a field is followed so, by any entrant, as soon as what the rules ask besides is given
 abbrev pub Enabled : Field → Type 0
-Enabled f = (name : Name) (s : SCA) → transition name (stateOf f) ≡ s ∷ [] → (new : Entrant) → T (ready f new name) → Follows f (requestFor f new name) s
+Enabled f = (name : Name) (s : SCA) → transition name (stateOf f) ≡ s ∷ [] → (new : Entrant) → T (ready f new name) → LeadsTo f (requestFor f new name) s

@@ -1,4 +1,4 @@
--- The runs of NASA's model, and those of the rules.
+-- The states that NASA's model comes to, and those of the fields that requests reach.
 use mathlib.Core.Path.{_≡_}
 use mathlib.Core.List.{List, [], _∷_}
 use Rattle.request.specs.declared.Request.{Request}
@@ -14,11 +14,12 @@ use Rattle.nasa.specs.Enabled.{Name, transition}
 abbrev pub emptyState : SCA
 emptyState = record { queue = λ z. []; nextmahf = right; nextseq = first }
 
--- the states that transitions lead to from the empty one
+-- the states that NASA's transitions lead to, one after the other, from the empty one
 pub data Reached : SCA → Type 0 where
   start : Reached emptyState
   onward : {s t : SCA} → Reached s → (name : Name) → transition name s ≡ t ∷ [] → Reached t
 
--- after every list of requests the field stands for a state that NASA's transitions reach
+-- the state of every field that requests reach from the empty one is among them. Of the runs only the states at their ends are compared: `StepsAs` and
+-- `Enabled` compare step by step
 abbrev pub RunsWithin : Legs → Type 0
 RunsWithin legs = (rs : List Request) → Reached (stateOf (fieldAfter (emptyField legs) rs))

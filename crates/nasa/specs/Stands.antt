@@ -1,4 +1,4 @@
--- The state of NASA's model that a field stands for: numbers, speeds and miles left out.
+-- The state of NASA's model that a field stands for: numbers, speeds, miles flown and waited, legs and desks are left out.
 use mathlib.Core.Path.{_≡_}
 use mathlib.Core.Bool.{true, false, cond}
 use mathlib.Core.List.{[], _∷_, map}
@@ -17,7 +17,7 @@ use Rattle.rules.specs.Step.{stepOf}
 use Rattle.nasa.specs.Definitions.{Aircraft, holding3, SCA}
 use Rattle.nasa.specs.Rules.{Transition, inTurn, nobodyIn, zoneNumber, verticalEntry, holdingPatternDescend, verticalApproachInitiation, lateralApproachInitiation}
 
--- "Sides: 1 right, 2 left"
+-- the side with a number, right for 1 and left for 2 (01, "The boxes")
 abbrev pub sideNamed : ℕ → Side
 sideNamed n = elim (eqb n 1) [ true ↦ right | false ↦ left ]
 

@@ -29,6 +29,7 @@ transitionFor kind f r =
     (lowestAvailableAltitude (sideBefore f r))
     stays
 
+-- the transition of a request, by its kind
 abbrev pub transitionOf : Field → Request → Transition
 transitionOf f r = transitionFor (r .kind) f r
 

@@ -22,13 +22,13 @@ use Rattle.questions.specs.Find.{placeOf, aircraftAt}
 use Rattle.bounds.specs.Bounds.{legalLegs}
 use Rattle.tick.specs.Tick.{ticked}
 use Rattle.rules.specs.Step.{numberOf, stepOf}
-use Rattle.rules.specs.Play.{fieldAfter, played}
+use Rattle.rules.specs.Play.{fieldAfter, played, allAccepted}
 use Rattle.rules.specs.Reason.{Sound}
 use Rattle.demand.specs.Demand.{allFlownOut}
 use Rattle.rules.proofs.Checks.{effect-at}
 use Rattle.rules.proofs.StepLaws.{number-is, field-accepted}
 use Rattle.field.proofs.Tests.{pass, passed, every-from}
-use Rattle.reason.proofs.OneStep.{orderly-sound}
+use Rattle.reason.proofs.StaysSound.{orderly-sound}
 use Rattle.reason.proofs.Reason.{after-list, reason-kept}
 use Rattle.press.specs.Press.{longTick}
 use Rattle.press.proofs.Proposals.{tick-accepted}
@@ -43,7 +43,7 @@ use Rattle.nasa.proofs.Steps.{ticked-state}
 use Rattle.nasa.proofs.Enabled.{First, somebody}
 use Rattle.nasa.proofs.Followed.{enabled}
 use Rattle.nasa.proofs.Runs.{empty-state}
-use Rattle.nasa_runs.specs.AllRuns.{allAccepted, Comes, AllRuns}
+use Rattle.nasa_runs.specs.AllRuns.{Comes, AllRuns}
 use Rattle.nasa_runs.proofs.Fresh.{new-number, not-found}
 
 -- one list after another

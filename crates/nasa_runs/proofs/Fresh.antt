@@ -28,7 +28,8 @@ six ms = count ms 1 + count ms 2 + count ms 3 + count ms 4 + count ms 5 + count 
 -- one number is at most one of them
 at-most-one : (m : ℕ) → six (m ∷ []) ≤ 1
 at-most-one m = elim (decided (leb m 6)) [
-  | inl e ↦ let h = leb-true m 6 e in each-from 0 7 (λ m. six (m ∷ []) ≤ 1) (omega arith, (omega arith, (omega arith, (omega arith, (omega arith, (omega arith, (omega arith, tt))))))) m (omega arith) (omega arith)
+  | inl e ↦ let h =
+      leb-true m 6 e in each-from 0 7 (λ m. six (m ∷ []) ≤ 1) (omega arith, (omega arith, (omega arith, (omega arith, (omega arith, (omega arith, (omega arith, tt))))))) m (omega arith) (omega arith)
   | inr e ↦
       let h = leb-false m 6 e in
       let other : (k : ℕ) → k ≤ 6 → _≡_ {A = ℕ} (cond (eqb m k) 1 0) 0 = λ k l. if-false 1 0 (ne-eqb m k (λ q. omega arith)) in

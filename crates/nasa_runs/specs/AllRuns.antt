@@ -1,21 +1,14 @@
--- Every state that NASA's transitions reach is the state of a field that requests reach.
+-- The other direction of `RunsWithin` of `nasa`: every state that NASA's transitions reach is the state of a field that requests reach.
 use mathlib.Core.Path.{_≡_}
-use mathlib.Core.Bool.{Bool}
 use mathlib.Core.List.{List}
-use lib.Dec.{T, eqb}
+use lib.Dec.{T}
 use Rattle.request.specs.declared.Request.{Request}
 use Rattle.field.specs.declared.Legs.{Legs}
 use Rattle.field.specs.Boxes.{emptyField}
-use Rattle.field.specs.Lists.{every}
-use Rattle.rules.specs.declared.Answer.{Answer}
-use Rattle.rules.specs.Play.{fieldAfter, played}
+use Rattle.rules.specs.Play.{fieldAfter, played, allAccepted}
 use Rattle.nasa.specs.Definitions.{SCA}
 use Rattle.nasa.specs.Stands.{stateOf}
 use Rattle.nasa.specs.Runs.{Reached}
-
--- whether every answer accepts its request
-abbrev pub allAccepted : List (Request × Answer) → Bool
-allAccepted ps = every (λ p. eqb (p .1 .number) 0) ps
 
 -- a list of requests, each of them accepted, after which the field, from the empty one, stands for a state
 pub record Comes (legs : Legs) (s : SCA) : Type 0 where
@@ -23,5 +16,6 @@ pub record Comes (legs : Legs) (s : SCA) : Type 0 where
   pub accepted : T (allAccepted (played (emptyField legs) requests))
   pub there : stateOf (fieldAfter (emptyField legs) requests) ≡ s
 
+-- requests come to every state that NASA's transitions reach; as in `RunsWithin`, of a run only the state at its end is compared
 abbrev pub AllRuns : Legs → Type 0
 AllRuns legs = (s : SCA) → Reached s → Comes legs s

@@ -15,11 +15,11 @@ allHold [] = true
 allHold (c ∷ cs) = c && allHold cs
 
 -- test number i of the list holds, counted from 0
-abbrev pub Each : List Bool → Type 0
-Each cs = (i : ℕ) → T (getD cs i true)
+abbrev pub EachHolds : List Bool → Type 0
+EachHolds cs = (i : ℕ) → T (getD cs i true)
 
 -- where all the listed tests hold, each holds
-all-hold-at : (cs : List Bool) → T (allHold cs) → Each cs
+all-hold-at : (cs : List Bool) → T (allHold cs) → EachHolds cs
 all-hold-at [] t i = tt
 all-hold-at (c ∷ cs) t zero = and-l c (allHold cs) t
 all-hold-at (c ∷ cs) t (suc i) = all-hold-at cs (and-r c (allHold cs) t) i
@@ -35,7 +35,7 @@ module _ {Place : Type 0} (c : Claim Place) where
   holds f x = elim (c .given f x) [ true ↦ allHold (c .shown f x) | false ↦ true ]
 
   -- where the test is passed and what is given holds, so does what is shown
-  holds-at : (f : Side) (x : Place) → T (holds f x) → T (c .given f x) → Each (c .shown f x)
+  holds-at : (f : Side) (x : Place) → T (holds f x) → T (c .given f x) → EachHolds (c .shown f x)
   holds-at f x t g = all-hold-at (c .shown f x) (if-at (c .given f x) (allHold (c .shown f x)) t g)
 
 -- ---- the whole sequence
@@ -45,7 +45,7 @@ abbrev pub ofSequences : Claim (List ℕ) → Bool
 ofSequences c = everyOkay (holds c)
 
 -- a claim that passed holds of each
-pub of-sequence : (c : Claim (List ℕ)) → T (ofSequences c) → (f : Side) (zs : List ℕ) → T (okay f zs) → T (c .given f zs) → Each (c .shown f zs)
+pub of-sequence : (c : Claim (List ℕ)) → T (ofSequences c) → (f : Side) (zs : List ℕ) → T (okay f zs) → T (c .given f zs) → EachHolds (c .shown f zs)
 of-sequence c t f zs o g = holds-at c f zs (every-okay-at (holds c) t f zs o) g
 
 -- ---- one in a sequence
@@ -78,7 +78,7 @@ ofOnes c = everyOkay (eachOne c)
 
 -- a claim that passed holds of any one
 pub of-one : (c : Claim One) → T (ofOnes c) → (f : Side) (zs₁ : List ℕ) (z : ℕ) (zs₂ : List ℕ) → T (okay f (zs₁ ++ z ∷ zs₂))
-    → T (c .given f (zs₁, z, zs₂)) → Each (c .shown f (zs₁, z, zs₂))
+    → T (c .given f (zs₁, z, zs₂)) → EachHolds (c .shown f (zs₁, z, zs₂))
 of-one c t f zs₁ z zs₂ o g =
     holds-at c f (zs₁, z, zs₂)
     (every-split-at (λ xs y ys. holds c f (xs, y, ys)) [] zs₁ z zs₂ (every-okay-at (eachOne c) t f (zs₁ ++ z ∷ zs₂) o)) g
@@ -103,7 +103,7 @@ ofTwos c = everyOkay (eachTwo c)
 
 -- a claim that passed holds of any two
 pub of-two : (c : Claim Two) → T (ofTwos c) → (f : Side) (zs₁ : List ℕ) (y : ℕ) (zs₂ : List ℕ) (z : ℕ) (zs₃ : List ℕ)
-    → T (okay f (zs₁ ++ y ∷ (zs₂ ++ z ∷ zs₃))) → T (c .given f (zs₁, y, zs₂, z, zs₃)) → Each (c .shown f (zs₁, y, zs₂, z, zs₃))
+    → T (okay f (zs₁ ++ y ∷ (zs₂ ++ z ∷ zs₃))) → T (c .given f (zs₁, y, zs₂, z, zs₃)) → EachHolds (c .shown f (zs₁, y, zs₂, z, zs₃))
 of-two c t f zs₁ y zs₂ z zs₃ o g =
     let zs = zs₂ ++ z ∷ zs₃ in
     holds-at c f (zs₁, y, zs₂, z, zs₃)

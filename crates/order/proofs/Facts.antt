@@ -14,7 +14,7 @@ use Rattle.questions.specs.Counts.{total}
 use Rattle.field.specs.Lists.{every}
 use Rattle.order.specs.Model.{Side, right, left, opp, num, count, countFix, free, isNil, Kind, descend, approaching, merge, final, hold, needs, target, mayComeIn, mayEnter, mayEnterLateral, firstFix, all, okay, weight, heaviest}
 use Rattle.field.proofs.Tests.{implies, implied}
-use Rattle.order.proofs.Claims.{Each, Claim, One, Two, ofSequences, of-sequence, ofOnes, of-one, ofTwos, of-two}
+use Rattle.order.proofs.Claims.{EachHolds, Claim, One, Two, ofSequences, of-sequence, ofOnes, of-one, ofTwos, of-two}
 
 -- ---- the sequence as a whole
 
@@ -49,13 +49,13 @@ weight-small f zs o = leb→le (weight zs) heaviest (of-sequence fitting fitting
 
 -- bounds b, c and d of document 01, said of the sequence
 pub record Bounds (f : Side) (zs : List ℕ) : Type 0 where
-  -- "At most two in each side's area."
+  -- b
   pub areas : (s : Side) → total (count zs) (area (num s)) ≤ 2
-  -- "At most one in each of zones 1 to 6"
+  -- c: of each zone by itself
   pub single : T (every (λ z. leb (count zs z) 1) (zonesFrom 1 6))
-  -- "if a lateral zone is occupied, its side's holdings and missed zone are empty"
+  -- c: beside one in a lateral zone
   pub lateral-alone : (s : Side) → T (free zs (lateral (num s)) || (free zs (at3000 (num s)) && free zs (at2000 (num s)) && free zs (missed (num s))))
-  -- "At most two in the operation area per fix."
+  -- d
   pub fixes : (s : Side) → total (countFix f zs (num s)) operation ≤ 2
 
 -- the bounds of side s
@@ -85,7 +85,7 @@ fitting-side-holds left = fitting-left
 -- bounds b, c and d hold
 pub okay-bounds : (f : Side) (zs : List ℕ) → T (okay f zs) → Bounds f zs
 okay-bounds f zs o =
-    let of-side : (s : Side) → Each (fittingSide s .shown f zs) = λ s. of-sequence (fittingSide s) (fitting-side-holds s) f zs o tt in
+    let of-side : (s : Side) → EachHolds (fittingSide s .shown f zs) = λ s. of-sequence (fittingSide s) (fitting-side-holds s) f zs o tt in
     record {
       areas = λ s. leb→le (total (count zs) (area (num s))) 2 (of-side s 0);
       single = of-sequence fitting fitting-holds f zs o tt 3;

@@ -11,7 +11,7 @@ use lib.Dec.{T, leb, leb→le}
 use lib.ListN.{length}
 use lib.Ieee.Fits.{and-l, and-r}
 use Rattle.request.specs.Input.{within}
-use Rattle.order.specs.Model.{Side, right, left, opp, all, number, sameArea, mayLead, mayHead, chain, roomToMiss, okay}
+use Rattle.order.specs.Model.{Side, right, left, opp, all, number, sameArea, mayLead, mayHead, chain, roomInOrder, okay}
 
 -- the test of every number below n
 abbrev below : ℕ → (ℕ → Bool) → Bool
@@ -81,7 +81,7 @@ module _ (test : Side → List ℕ → Bool) where
 
 -- the test of zs where there is room to miss
 abbrev ifRoom : (Side → List ℕ → Bool) → Side → List ℕ → Bool
-ifRoom test f zs = elim (roomToMiss 0 f zs) [ true ↦ test f zs | false ↦ true ]
+ifRoom test f zs = elim (roomInOrder 0 f zs) [ true ↦ test f zs | false ↦ true ]
 
 -- the test of every okay sequence
 abbrev pub everyOkay : (Side → List ℕ → Bool) → Bool
@@ -92,9 +92,9 @@ pub every-okay-at : (test : Side → List ℕ → Bool) → T (everyOkay test) �
 unfolding okay
 every-okay-at test t f zs o =
     let short = leb (length zs) 4 in
-    let short-chain = and-l (short && chain f zs) (roomToMiss 0 f zs) o in
+    let short-chain = and-l (short && chain f zs) (roomInOrder 0 f zs) o in
     let from : Side → Bool = λ g. sweep (ifRoom test) 4 g [] in
     let passed : (g : Side) → T (from g) = elim [ right ↦ and-l (from right) (from left) t | left ↦ and-r (from right) (from left) t ] in
-    if-at (roomToMiss 0 f zs) (test f zs)
+    if-at (roomInOrder 0 f zs) (test f zs)
     (swept (ifRoom test) 4 passed f zs (leb→le (length zs) 4 (and-l short (chain f zs) short-chain)) (and-r short (chain f zs) short-chain))
-    (and-r (short && chain f zs) (roomToMiss 0 f zs) o)
+    (and-r (short && chain f zs) (roomInOrder 0 f zs) o)

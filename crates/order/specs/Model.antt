@@ -11,15 +11,16 @@ use Rattle.field.specs.Boxes.{opposite, sideOf, at3000, at2000, lateral, missed
 use Rattle.field.specs.Lists.{isIn}
 use Rattle.questions.specs.Counts.{total}
 
--- ---- sides
+-- ---- sides, right and left as a type of their own
 pub data Side : Type 0 where
   right left : Side
 
+-- the opposite side
 abbrev pub opp : Side → Side
 opp right = left
 opp left = right
 
--- "Sides: 1 right, 2 left"
+-- the number of a side (01, "The boxes")
 abbrev pub num : Side → ℕ
 num right = 1
 num left = 2
@@ -49,6 +50,7 @@ potential f zs s = total (λ z. cond (isIn z (area s)) (count zs z) (countFix f 
 abbrev pub free : List ℕ → ℕ → Bool
 free zs z = eqb (count zs z) 0
 
+-- whether a list is empty
 abbrev pub isNil : List ℕ → Bool
 isNil [] = true
 isNil (z ∷ zs) = false
@@ -64,15 +66,15 @@ lastOr d (z ∷ zs) = lastOr z zs
 pub data Kind : Type 0 where
   descend approaching merge final hold : Kind
 
--- "first in sequence or leader on the approach; then at most one aircraft on the opposite base"
-abbrev pub mayApproach : List ℕ → ℕ → List ℕ → Bool
-mayApproach zs₁ z zs₂ =
+-- what an approach needs of the order: nobody is ahead, or the nearest ahead, the leader, is on the approach; and no more than one is on the opposite base
+abbrev pub mayComeToBase : List ℕ → ℕ → List ℕ → Bool
+mayComeToBase zs₁ z zs₂ =
     (isNil zs₁ || within 9 12 (lastOr 0 zs₁)) && leb (count (zs₁ ++ z ∷ zs₂) (base (opposite (sideOf z)))) 1
 
 -- what the kind needs
 abbrev pub needs : Kind → List ℕ → ℕ → List ℕ → Bool
 needs descend zs₁ z zs₂ = within 1 2 z && free (zs₁ ++ z ∷ zs₂) (at2000 z)
-needs approaching zs₁ z zs₂ = within 3 6 z && (within 5 6 z || mayApproach zs₁ z zs₂)
+needs approaching zs₁ z zs₂ = within 3 6 z && (within 5 6 z || mayComeToBase zs₁ z zs₂)
 needs merge zs₁ z zs₂ = within 9 10 z && (isNil zs₁ || within 11 12 (lastOr 0 zs₁))
 needs final zs₁ z zs₂ = eqb z 11
 needs hold zs₁ z zs₂ = within 7 8 z && free (zs₁ ++ z ∷ zs₂) (at3000 (sideOf z))
@@ -80,7 +82,7 @@ needs hold zs₁ z zs₂ = within 7 8 z && free (zs₁ ++ z ∷ zs₂) (at3000 (
 -- where the kind leads
 abbrev pub target : Kind → List ℕ → ℕ → List ℕ → ℕ
 target descend zs₁ z zs₂ = at2000 z
-target approaching zs₁ z zs₂ = cond (mayApproach zs₁ z zs₂) (base (sideOf z)) (at2000 (sideOf z))
+target approaching zs₁ z zs₂ = cond (mayComeToBase zs₁ z zs₂) (base (sideOf z)) (at2000 (sideOf z))
 target merge zs₁ z zs₂ = 11
 target final zs₁ z zs₂ = 12
 target hold zs₁ z zs₂ = cond (free (zs₁ ++ z ∷ zs₂) (at2000 (sideOf z))) (at2000 (sideOf z)) (at3000 (sideOf z))
@@ -114,6 +116,7 @@ sameArea z w = leb z 8 && leb w 8 && eqb (z % 2) (w % 2)
 abbrev pub ofArea : Side → ℕ → Bool
 ofArea s w = leb w 8 && eqb (w % 2) (num s % 2)
 
+-- whether a zone is a lateral one
 abbrev pub isLateral : ℕ → Bool
 isLateral z = within 5 6 z
 
@@ -134,6 +137,7 @@ abbrev pub number : (ℕ → Bool) → List ℕ → ℕ
 number p [] = 0
 number p (z ∷ zs) = one (p z) + number p zs
 
+-- whether everyone passes the test
 abbrev pub all : (ℕ → Bool) → List ℕ → Bool
 all p [] = true
 all p (z ∷ zs) = p z && all p zs
@@ -158,13 +162,13 @@ chain f (z ∷ zs) = mayHead f z zs && chain (opp f) zs
 
 -- room to miss: of each one, with k ahead of it, those behind it in the area of its fix and those ahead of it with the same fix are one
 -- at most
-abbrev pub roomToMiss : ℕ → Side → List ℕ → Bool
-roomToMiss k f [] = true
-roomToMiss k f (z ∷ zs) = leb (number (ofArea f) zs + k / 2) 1 && roomToMiss (suc k) (opp f) zs
+abbrev pub roomInOrder : ℕ → Side → List ℕ → Bool
+roomInOrder k f [] = true
+roomInOrder k f (z ∷ zs) = leb (number (ofArea f) zs + k / 2) 1 && roomInOrder (suc k) (opp f) zs
 
 -- the invariant of the landing order
 unfoldable pub okay : Side → List ℕ → Bool
-okay f zs = leb (length zs) 4 && chain f zs && roomToMiss 0 f zs
+okay f zs = leb (length zs) 4 && chain f zs && roomInOrder 0 f zs
 
 -- ---- the weight
 

@@ -16,6 +16,7 @@ use Rattle.field.specs.declared.Sequence.{Sequence}
 use Rattle.field.specs.declared.Field.{Field}
 use Rattle.field.specs.Boxes.{opposite, sideOf, at3000, at2000, lateral, missed, base, intermediate, finalApproach, runway, isFlyingZone, nobody, emptyZone, zoneOf, queueOf, inZone, entering, onLeg, arrived, turnedAway, withFix}
 use Rattle.field.specs.Edits.{withoutHead, withTail, appended, removed, withZone, withSequence}
+use Rattle.field.specs.Lists.{Each}
 use Rattle.field.proofs.Tests.{decided, either-way}
 use Rattle.questions.specs.Counts.{isEmpty}
 use Rattle.questions.specs.Find.{aircraftAt}
@@ -24,7 +25,6 @@ use Rattle.rules.specs.Kinds.{zoneBefore, zoneAhead, headGone, tailPut, moved, 
 use Rattle.rules.specs.Step.{effectFor, effectOf, numberOf, stepOf}
 use Rattle.rules.proofs.Checks.{by-kind}
 use Rattle.rules.proofs.StepLaws.{field-accepted, field-refused}
-use Rattle.owners.specs.Owners.{Each}
 use Rattle.owners.proofs.Lists.{each-drop, each-take, each-append, each-set, each-set-one, each-at, each-map}
 
 module _ (P : ℕ → ℕ → Type 0) where

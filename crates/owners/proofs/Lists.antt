@@ -5,7 +5,7 @@ use Prim.Native.Nat.{ℕ, zero, suc, _<_}
 use native.Mathlib.Omega.{arith}
 use lib.ListN.{length, getD, take, drop, set}
 use Rattle.field.specs.Edits.{setFromOne}
-use Rattle.owners.specs.Owners.{Each}
+use Rattle.field.specs.Lists.{Each}
 
 module _ {A : Type 0} (P : A → Type 0) where
   pub each-drop : (n : ℕ) (l : List A) → Each P l → Each P (drop n l)

@@ -17,7 +17,7 @@ use Rattle.field.specs.declared.Aircraft.{Aircraft}
 use Rattle.field.specs.declared.Legs.{Legs}
 use Rattle.field.specs.declared.Field.{Field}
 use Rattle.field.specs.Boxes.{nobody, emptyZone, emptyField, everywhere, inZone}
-use Rattle.field.specs.Lists.{isIn, every}
+use Rattle.field.specs.Lists.{isIn, every, Each}
 use Rattle.questions.specs.declared.Place.{Place}
 use Rattle.questions.specs.Counts.{howMany}
 use Rattle.questions.specs.Find.{placeOf, aircraftAt, numbersIn}
@@ -32,7 +32,7 @@ use Rattle.rules.specs.Step.{checksOf, effectOf, numberOf, stepOf}
 use Rattle.rules.specs.Play.{played}
 use Rattle.rules.proofs.Checks.{Never, never-without, never-append, owned, besides, inputNumbers, refused-append, by-kind, presence-refuses, checks-refuse, input-numbered, needNumbers, refused-by, checks-numbered}
 use Rattle.rules.proofs.StepLaws.{number-is}
-use Rattle.owners.specs.Owners.{Each, AllAskedBy, NoDeskRefuses, OneDesk}
+use Rattle.owners.specs.Owners.{AllAskedBy, NoDeskRefuses, OneDesk}
 use Rattle.owners.proofs.Everyone.{HoldsIn, Everyone, at-stays, step-stays}
 
 -- ---- everyone is desk 1's, or a place that is nobody's
@@ -84,7 +84,8 @@ module _ (f : Field) (r : Request) (one : r .desk ≡ 1) (all : Everyone AtMost1
       (either-way (Never 26) (isEntry (r .kind)) (absentChecks at) (cond (isTick (r .kind)) [] all) (λ e. never-without 26 (omega arith) (absentChecks at) tt)
       (λ e. either-way (Never 26) (isTick (r .kind)) [] all (λ u. never-without 26 (omega arith) [] tt) (λ u. head-26 w)))
       (never-without 26 (omega arith) (besides f r (r .kind))
-      (by-kind (λ (cs : List (ℕ × Bool)). T (every (λ c. not (eqb (c .0) 26)) cs)) (r .kind) ((λ e. tt), (λ e. tt), (λ e. tt), (λ e. tt), (λ e. tt), (λ e. tt), (λ e. tt), (λ e. tt), (λ e. tt), (λ e. tt), (λ e. tt), tt)))
+      (by-kind (λ (cs : List (ℕ × Bool)). T (every (λ c. not (eqb (c .0) 26)) cs)) (r .kind)
+      ((λ e. tt), (λ e. tt), (λ e. tt), (λ e. tt), (λ e. tt), (λ e. tt), (λ e. tt), (λ e. tt), (λ e. tt), (λ e. tt), (λ e. tt), tt)))
 
   -- the number of the request is neither
   number-26 : numberOf f r ≡ 26 → ⊥
@@ -93,7 +94,8 @@ module _ (f : Field) (r : Request) (one : r .desk ≡ 1) (all : Everyone AtMost1
       let P : ℕ → Type 0 = λ n. n ≡ 26 → ⊥ in
       let last : List (ℕ × Bool) = (25, withinBounds (effectOf f r)) ∷ [] in
       either-way P (eqb (inputNumber r) 0) (firstRefused ((10, withinBounds f) ∷ checksOf f r ++ last)) (inputNumber r)
-      (λ i. either-way P (withinBounds f) (firstRefused (checksOf f r ++ last)) 10 (λ w. never-append 26 (checksOf f r) last (checks-refuse f r) (checks-26 (pass w)) (never-without 26 (omega arith) last tt)) (λ w e. omega arith))
+      (λ i. either-way P (withinBounds f) (firstRefused (checksOf f r ++ last)) 10
+      (λ w. never-append 26 (checksOf f r) last (checks-refuse f r) (checks-26 (pass w)) (never-without 26 (omega arith) last tt)) (λ w e. omega arith))
       (λ i e. elim (input-numbered r) [ inl z ↦ (let n = sym z ∙ e in omega arith) | inr t ↦ subst (λ (n : ℕ). T (inputNumbers n)) e t ])
 
   input-31 : inputNumber r ≡ 31 → ⊥
@@ -108,7 +110,8 @@ module _ (f : Field) (r : Request) (one : r .desk ≡ 1) (all : Everyone AtMost1
       let P : ℕ → Type 0 = λ n. n ≡ 31 → ⊥ in
       let last : List (ℕ × Bool) = (25, withinBounds (effectOf f r)) ∷ [] in
       either-way P (eqb (inputNumber r) 0) (firstRefused ((10, withinBounds f) ∷ checksOf f r ++ last)) (inputNumber r)
-      (λ i. either-way P (withinBounds f) (firstRefused (checksOf f r ++ last)) 10 (λ w. never-append 31 (checksOf f r) last (checks-refuse f r) checks-31 (never-without 31 (omega arith) last tt)) (λ w e. omega arith))
+      (λ i. either-way P (withinBounds f) (firstRefused (checksOf f r ++ last)) 10
+      (λ w. never-append 31 (checksOf f r) last (checks-refuse f r) checks-31 (never-without 31 (omega arith) last tt)) (λ w e. omega arith))
       (λ i. input-31)
     where
       checks-31 : Never 31 (checksOf f r)

@@ -1,17 +1,13 @@
 -- Two desks (02, 2.10): what holds of everyone on a field, and a list of requests that one desk asks. Definitions only.
 use mathlib.Core.Path.{_≡_}
-use mathlib.Core.List.{List, [], _∷_}
+use mathlib.Core.List.{List}
 use Prim.Native.Nat.{ℕ}
 use Rattle.request.specs.declared.Request.{Request}
 use Rattle.field.specs.declared.Legs.{Legs}
 use Rattle.field.specs.Boxes.{emptyField}
+use Rattle.field.specs.Lists.{Each}
 use Rattle.rules.specs.declared.Answer.{Answer}
 use Rattle.rules.specs.Play.{played}
-
--- what holds of each one in a list
-abbrev pub Each : {A : Type 0} → (A → Type 0) → List A → Type 0
-Each P [] = Unit
-Each P (x ∷ xs) = P x × Each P xs
 
 -- every request of the list is the desk's, as those of a practice file are desk 1's
 abbrev pub AllAskedBy : ℕ → List Request → Type 0

@@ -50,7 +50,8 @@ module _ (file : List ℕ) where
 
     pub played-held : playedOf file ≡ record { number = 0; requests = length requestsInside; present = presentFrom legsHeld requestsInside; field = fieldFrom legsHeld requestsInside }
     unfolding playedOf requestsOfFile fieldOfFile
-    played-held = ap playedBy practice-holds ∙ ap (λ (n : ℕ). record { number = n; requests = length requestsInside; present = presentFrom legsHeld requestsInside; field = fieldFrom legsHeld requestsInside }) e
+    played-held =
+        ap playedBy practice-holds ∙ ap (λ (n : ℕ). record { number = n; requests = length requestsInside; present = presentFrom legsHeld requestsInside; field = fieldFrom legsHeld requestsInside }) e
 
   module _ (n : fileNumber file ≡ 0 → ⊥) where
     pub practice-refused : practiceOf file ≡ refused (fileNumber file)

@@ -7,7 +7,7 @@ use lib.ListN.{length, set, getD, drop, length-append, length-drop, List·getD-a
 use lib.Seq.{sets, sets-eq}
 use Rattle.request.specs.declared.Request.{Request}
 use Rattle.rules.specs.declared.Answer.{Answer}
-use Rattle.playing.specs.Log.{entryOf, logOf, kindAt}
+use Rattle.playing.specs.Log.{logEntry, logOf, kindAt}
 
 -- seven stores, one after the other
 pub seven-stores : (l : List ℕ) (at a b c d e f g : ℕ)
@@ -49,7 +49,7 @@ log-kept log ps n e h =
 pub record Here (ps : List (Request × Answer)) (log : List ℕ) (i : ℕ) : Type 0 where
   pub pair : Request × Answer
   pub rest : drop i ps ≡ pair ∷ drop (suc i) ps
-  pub entry : (k : ℕ) → k < 7 → getD log (7 * i + k) 0 ≡ getD (entryOf pair) k 0
+  pub entry : (k : ℕ) → k < 7 → getD log (7 * i + k) 0 ≡ getD (logEntry pair) k 0
 
 pub here-in : (ps : List (Request × Answer)) (rest : List ℕ) (i : ℕ) → i < length ps → Here ps (logOf ps ++ rest) i
 here-in [] rest i h = absurd (omega arith)
@@ -57,14 +57,14 @@ here-in (p ∷ ps) rest zero h =
     record {
       pair = p;
       rest = refl;
-      entry = λ k g. ap (λ (n : ℕ). getD (entryOf p ++ logOf ps ++ rest) n 0) {x = 7 * 0 + k} {y = k} (omega arith) ∙ List·getD-append (entryOf p) (logOf ps ++ rest) 0 k g;
+      entry = λ k g. ap (λ (n : ℕ). getD (logEntry p ++ logOf ps ++ rest) n 0) {x = 7 * 0 + k} {y = k} (omega arith) ∙ List·getD-append (logEntry p) (logOf ps ++ rest) 0 k g;
     }
 here-in (p ∷ ps) rest (suc i) h =
     let t = here-in ps rest i (omega arith) in
     record {
       pair = t .pair;
       rest = t .rest;
-      entry = λ k g. ap (λ (n : ℕ). getD (entryOf p ++ logOf ps ++ rest) n 0) {x = 7 * suc i + k} {y = suc (suc (suc (suc (suc (suc (suc (7 * i + k)))))))} (omega arith) ∙ t .entry k g;
+      entry = λ k g. ap (λ (n : ℕ). getD (logEntry p ++ logOf ps ++ rest) n 0) {x = 7 * suc i + k} {y = suc (suc (suc (suc (suc (suc (suc (7 * i + k)))))))} (omega arith) ∙ t .entry k g;
     }
 
 -- its kind

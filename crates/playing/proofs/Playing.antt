@@ -22,7 +22,7 @@ use Rattle.rules.specs.Play.{fieldAfter, played}
 use Rattle.rules.specs.Reason.{Sound}
 use Rattle.reason.proofs.Reason.{reason-kept, neither-10-nor-25}
 use Rattle.playing.specs.Playing.{answersFrom}
-use Rattle.playing.specs.Log.{entryOf, logOf}
+use Rattle.playing.specs.Log.{logEntry, logOf}
 use Rattle.playing.proofs.Logs.{sets-append}
 
 -- ---- the i-th request of a list
@@ -84,22 +84,22 @@ module _ (rs : List Request) {x₀ : Indexed} {log₀ log : List ℕ} {x : Index
       ((λ h. n .0 (sym e ∙ h)), (λ h. n .1 (sym e ∙ h)))
 
   -- one request more
-  pub playing-more : (r : Request) (s : SteppedIndexed) {log' : List ℕ} → readingAt rs i ≡ One r → s ≡ stepIndexed x r → log' ≡ sets log (7 * i) (entryOf (r, s .answer))
+  pub playing-more : (r : Request) (s : SteppedIndexed) {log' : List ℕ} → readingAt rs i ≡ One r → s ≡ stepIndexed x r → log' ≡ sets log (7 * i) (logEntry (r, s .answer))
       → Playing rs x₀ log₀ log' (s .after) (i + 1)
   unfolding withIndex
   playing-more r s {log'} e q' w =
       let q : s ≡ record { answer = stepOf f r .answer; after = withIndex (stepOf f r .field) } = q' ∙ stepped-own r in
       let d : drop i rs ≡ r ∷ drop (i + 1) rs = rw (add-one) (rest-here rs i r e) in
       let rest = logOf (played (s .after .field) (drop (i + 1) rs)) in
-      let ps : logOf (played f (drop i rs)) ≡ entryOf (r, s .answer) ++ rest =
-      ap (λ (l : List Request). logOf (played f l)) d ∙ ap (λ (t : SteppedIndexed). entryOf (r, t .answer) ++ logOf (played (t .after .field) (drop (i + 1) rs))) (sym q) in
+      let ps : logOf (played f (drop i rs)) ≡ logEntry (r, s .answer) ++ rest =
+      ap (λ (l : List Request). logOf (played f l)) d ∙ ap (λ (t : SteppedIndexed). logEntry (r, t .answer) ++ logOf (played (t .after .field) (drop (i + 1) rs))) (sym q) in
       let n : 7 * (i + 1) ≡ 7 * i + 7 = omega arith in
       let h = here rs i r e in
       record {
         within = omega arith;
-        same = ap length w ∙ length-sets log (7 * i) (entryOf (r, s .answer)) ∙ p .same;
-        logged = ap (λ (l : List ℕ). sets l (7 * (i + 1)) rest) w ∙ ap (λ (k : ℕ). sets (sets log (7 * i) (entryOf (r, s .answer))) k rest) n
-            ∙ sym (sets-append log (7 * i) (entryOf (r, s .answer)) rest) ∙ sym (ap (sets log (7 * i)) ps) ∙ p .logged;
+        same = ap length w ∙ length-sets log (7 * i) (logEntry (r, s .answer)) ∙ p .same;
+        logged = ap (λ (l : List ℕ). sets l (7 * (i + 1)) rest) w ∙ ap (λ (k : ℕ). sets (sets log (7 * i) (logEntry (r, s .answer))) k rest) n
+            ∙ sym (sets-append log (7 * i) (logEntry (r, s .answer)) rest) ∙ sym (ap (sets log (7 * i)) ps) ∙ p .logged;
         fields = ap (λ (t : SteppedIndexed). fieldAfter (t .after .field) (drop (i + 1) rs)) q ∙ sym (ap (fieldAfter f) d) ∙ p .fields;
         sound = subst⁻¹ (λ (t : SteppedIndexed). Sound (t .after .field)) q (reason-kept f (p .sound) r .sound);
         own = subst⁻¹ (λ (t : SteppedIndexed). t .after ≡ withIndex (t .after .field)) q refl;

@@ -15,11 +15,11 @@ use Rattle.rules.specs.declared.Answer.{Answer}
 use Rattle.rules.specs.Play.{fieldAfter, played}
 use Rattle.playing.specs.declared.Played.{Played}
 
--- the legs of a file, "in 64ths of a mile", as the field holds them
+-- the legs of a file, which are in 64ths of a mile there, as the field holds them
 abbrev pub legsInMiles : FileLegs → Legs
 legsInMiles legs = legsIn64ths (legs .missed) (legs .base) (legs .intermediate) (legs .last)
 
--- each request of a list with its answer, played from the empty field with these legs: "starts empty"
+-- each request of a list with its answer, played from the empty field with these legs
 unfoldable pub answersFrom : Legs → List Request → List (Request × Answer)
 answersFrom legs requests = played (emptyField legs) requests
 
@@ -55,13 +55,15 @@ abbrev pub fieldHeld : Practice → Field
 fieldHeld (refused number) = emptyField (legsInMiles noLegs)
 fieldHeld (holds legs requests) = fieldFrom (legsInMiles legs) requests
 
--- the same, of the bytes of a file
+-- the requests that a file of these bytes plays
 unfoldable pub requestsOfFile : List ℕ → List Request
 requestsOfFile file = requestsHeld (practiceOf file)
 
+-- each of them with its answer
 unfoldable pub answersOf : List ℕ → List (Request × Answer)
 answersOf file = answersHeld (practiceOf file)
 
+-- the field after the last of them
 unfoldable pub fieldOfFile : List ℕ → Field
 fieldOfFile file = fieldHeld (practiceOf file)
 

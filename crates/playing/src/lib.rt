@@ -29,7 +29,7 @@ ghost use Rattle.field.specs.Boxes.{emptyField};
 ghost use Rattle.bounds.specs.Bounds.{legalLegs};
 ghost use Rattle.indexed.specs.Indexed.{numberIndexed, stepIndexed};
 ghost use Rattle.playing.specs.Playing.{legsInMiles, noLegs, answersFrom, presentFrom, fieldFrom, answersOf, playedOf};
-ghost use Rattle.playing.specs.Log.{entryOf, logOf};
+ghost use Rattle.playing.specs.Log.{logEntry, logOf};
 
 // The caller's log, long enough for the requests of every file.
 pub type Log = [u16; 28672];
@@ -70,7 +70,7 @@ fn stepped(x: Indexed, r: Request, judged: bool) -> SteppedIndexed
 fn put_entry(log: &mut [u16], at: usize, r: Request, a: Answer)
     requires { ⌜ at + 7 ≤ length (now log) ⌝ }
     requires { ⌜ a .zone < 65536 ⌝ }
-    ensures { λ _. ⌜ now (log .exit) ≡ sets (now (log .entry)) at (entryOf (r, a)) ⌝ }
+    ensures { λ _. ⌜ now (log .exit) ≡ sets (now (log .entry)) at (logEntry (r, a)) ⌝ }
 {
     log[at] = r.kind as u16;
     log[at + 1] = a.number;

@@ -5,4 +5,3 @@ pub mod Sections
 pub mod Requests
 pub mod ReadBack
 pub mod Meaning
-pub mod Encoded

@@ -9,12 +9,12 @@ use lib.ListN.{length}
 use borrow.Author.Tests.{eq-eqb}
 use Rattle.limits.specs.Limits.{mostRequests}
 use Rattle.request.specs.declared.Request.{Request}
-use Rattle.request.specs.Input.{word, requestOf}
+use Rattle.request.specs.Input.{word, requestOf, fromDesk}
 use Rattle.request.proofs.Tests.{within-yes, none-refused}
 use Rattle.practice.specs.declared.FileLegs.{FileLegs}
 use Rattle.practice.specs.File.{bodyLength, opens, contentsAllowed, legsOf, legsBody, requestsBody, legsAllowed, fileNumber}
 use Rattle.practice.specs.Requests.{requestsOf}
-use Rattle.practice.specs.Practice.{refused, holds, practiceOf, requestBytes, fromFile, encoded}
+use Rattle.practice.specs.Practice.{refused, holds, practiceOf, requestBytes, encoded}
 use Rattle.practice.proofs.Accepted.{Whole, contents-of}
 
 -- ---- numbers from their bytes
@@ -32,12 +32,12 @@ requests-size : (rs : List Request) → length (requestBytes rs) ≡ 6 * length 
 requests-size [] = refl
 requests-size (r ∷ rest) = let e = requests-size rest in omega arith
 
-requests-back : (rs : List Request) → requestsOf (requestBytes rs) ≡ map fromFile rs
+requests-back : (rs : List Request) → requestsOf (requestBytes rs) ≡ map (fromDesk 1) rs
 requests-back [] = refl
 requests-back (r ∷ rest) = λ i. record { kind = r .kind; side = r .side; number = word-back (r .number) i; amount = word-back (r .amount) i; desk = 1 } ∷ requests-back rest i
 
 -- what bytes hold is asked by desk 1
-pub from-bytes : (bytes : List ℕ) → map fromFile (requestsOf bytes) ≡ requestsOf bytes
+pub from-bytes : (bytes : List ℕ) → map (fromDesk 1) (requestsOf bytes) ≡ requestsOf bytes
 from-bytes [] = refl
 from-bytes (a ∷ []) = refl
 from-bytes (a ∷ b ∷ []) = refl
@@ -60,7 +60,7 @@ module _ (legs : FileLegs) (rs : List Request) where
   unfolding encoded
   legs-back i = record { base = word-back (legs .base) i; intermediate = word-back (legs .intermediate) i; last = word-back (legs .last) i; missed = word-back (legs .missed) i }
 
-  body-back : requestsOf (requestsBody (encoded legs rs)) ≡ map fromFile rs
+  body-back : requestsOf (requestsBody (encoded legs rs)) ≡ map (fromDesk 1) rs
   unfolding encoded
   body-back = requests-back rs
 
@@ -86,7 +86,7 @@ module _ (legs : FileLegs) (rs : List Request) where
       none-refused ((5, opens (encoded legs rs)) ∷ (6, contentsAllowed (encoded legs rs)) ∷ (7, legsAllowed (legsOf (legsBody (encoded legs rs)))) ∷ [])
       (opening h, (contents h, (ap legsAllowed legs-back ∙ l, tt)))
 
-  pub read-back : length rs ≤ mostRequests → legsAllowed legs ≡ true → practiceOf (encoded legs rs) ≡ holds legs (map fromFile rs)
+  pub read-back : length rs ≤ mostRequests → legsAllowed legs ≡ true → practiceOf (encoded legs rs) ≡ holds legs (map (fromDesk 1) rs)
   unfolding practiceOf
   read-back h l =
       ap (λ (n : ℕ). cond (eqb n 0) (holds (legsOf (legsBody (encoded legs rs))) (requestsOf (requestsBody (encoded legs rs)))) (refused n)) (number h l)

@@ -1,4 +1,5 @@
--- The number of a practice file: document 01's refusals 5 to 7, in this order. Definitions only.
+-- The number of a practice file: refusals 5 to 7 of document 01 ("Turned away by the request or the file"), in this order, and what they ask of its bytes
+-- ("The practice file"). Definitions only.
 use Prim.Native.Nat.{ℕ, _+_, _*_, _%_}
 use mathlib.Core.List.{List, [], _∷_}
 use mathlib.Core.Bool.{Bool, true, false, _&&_}
@@ -8,7 +9,7 @@ use Rattle.limits.specs.Limits.{longestLeg}
 use Rattle.request.specs.Input.{word, within, firstRefused}
 use Rattle.practice.specs.declared.FileLegs.{FileLegs}
 
--- "numbers little-endian": the number of 16 bits at a place of the file
+-- the number of 16 bits at a place of the file, the low byte first
 abbrev pub number16 : List ℕ → ℕ → ℕ
 number16 file at = word (getD file at 0) (getD file (at + 1) 0)
 
@@ -23,15 +24,15 @@ same [] (y ∷ ys) = false
 same (x ∷ xs) [] = false
 same (x ∷ xs) (y ∷ ys) = eqb x y && same xs ys
 
--- "the ASCII letters SCAP"
+-- SCAP, in ASCII
 abbrev pub letters : List ℕ
 letters = 83 ∷ 67 ∷ 65 ∷ 80 ∷ []
 
--- "5 practice file under 26 or over 24,610 bytes, or its first four bytes are not the ASCII letters SCAP"
+-- what 5 asks of a file: 26 to 24,610 bytes, and those letters at its beginning
 unfoldable pub opens : List ℕ → Bool
 opens file = within 26 24610 (length file) && same (take 4 file) letters
 
--- whether the entry at a place of the contents is this: "kind (16 bits), offset and length (32 bits each)"
+-- whether the entry at a place of the contents is this: two bytes for the kind, four for the offset and four for the length
 abbrev pub entryIs : List ℕ → ℕ → ℕ → ℕ → ℕ → Bool
 entryIs file at kind offset size = eqb (number16 file at) kind && eqb (number32 file (at + 2)) offset && eqb (number32 file (at + 6)) size
 
@@ -39,7 +40,8 @@ entryIs file at kind offset size = eqb (number16 file at) kind && eqb (number32 
 abbrev pub bodyLength : List ℕ → ℕ
 bodyLength file = number32 file 22
 
--- "16-bit count 2; two entries ..: (1, 26, 8) and (2, 34, n), n a multiple of 6 up to 24,576, and 34 + n the file's length"
+-- what 6 asks of the contents: they count two entries; body 1 is the eight bytes from 26 on, and body 2 the rest of the file from 34 on, whole requests of six
+-- bytes and no more than 24,576 bytes
 unfoldable pub contentsAllowed : List ℕ → Bool
 contentsAllowed file =
     eqb (number16 file 4) 2
@@ -49,7 +51,7 @@ contentsAllowed file =
     && leb (bodyLength file) 24576
     && eqb (34 + bodyLength file) (length file)
 
--- "Body 1: legs base, intermediate, final, missed, 16 bits each, in 64ths of a mile"
+-- the legs that body 1 holds, two bytes for each, in 64ths of a mile
 abbrev pub legsOf : List ℕ → FileLegs
 legsOf body = record {
   base = number16 body 0;
@@ -58,18 +60,18 @@ legsOf body = record {
   missed = number16 body 6;
 }
 
--- "7 a leg not 1 to 4096 64ths"
+-- what 7 asks of the legs: each is from 1 to `longestLeg`
 unfoldable pub legsAllowed : FileLegs → Bool
 legsAllowed legs = within 1 longestLeg (legs .base) && within 1 longestLeg (legs .intermediate) && within 1 longestLeg (legs .last) && within 1 longestLeg (legs .missed)
 
--- body 1, by its entry "(1, 26, 8)"
+-- body 1, where its entry says it is
 abbrev pub legsBody : List ℕ → List ℕ
 legsBody file = take 8 (drop 26 file)
 
--- body 2, by its entry "(2, 34, n) .. and 34 + n the file's length"
+-- body 2, where its entry says it is: up to the end of the file
 abbrev pub requestsBody : List ℕ → List ℕ
 requestsBody file = drop 34 file
 
--- "Turned away by .. the file": 0, or the first of 5 to 7 that applies
+-- 0 where the file is played, else the first of 5 to 7 that refuses it
 unfoldable pub fileNumber : List ℕ → ℕ
 fileNumber file = firstRefused ((5, opens file) ∷ (6, contentsAllowed file) ∷ (7, legsAllowed (legsOf (legsBody file))) ∷ [])

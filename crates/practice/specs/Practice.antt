@@ -1,4 +1,4 @@
--- What a practice file means as a whole, and the bytes that a practice file of given legs and requests has. Definitions only.
+-- What a practice file means as a whole, and the bytes that a practice file of given legs and requests has (01, "The practice file"). Definitions only.
 use Prim.Native.Nat.{ℕ, _*_, _/_, _%_}
 use mathlib.Core.List.{List, [], _∷_, _++_}
 use mathlib.Core.Bool.{cond}
@@ -18,33 +18,30 @@ pub data Practice : Type 0 where
 unfoldable pub practiceOf : List ℕ → Practice
 practiceOf file = cond (eqb (fileNumber file) 0) (holds (legsOf (legsBody file)) (requestsOf (requestsBody file))) (refused (fileNumber file))
 
--- ---- the bytes of a file: "Contents first, then bodies; numbers little-endian"
--- a number of 16 bits
+-- ---- the bytes of a file
+
+-- a number of 16 bits, the low byte first
 abbrev pub bytes16 : ℕ → List ℕ
 bytes16 n = n % 256 ∷ n / 256 ∷ []
 
--- a number of 32 bits
+-- a number of 32 bits, the low byte first
 abbrev pub bytes32 : ℕ → List ℕ
 bytes32 n = bytes16 (n % 65536) ++ bytes16 (n / 65536)
 
--- "kind (16 bits), offset and length (32 bits each)"
+-- an entry of the contents: kind, offset and length
 abbrev pub entryBytes : ℕ → ℕ → ℕ → List ℕ
 entryBytes kind offset size = bytes16 kind ++ bytes32 offset ++ bytes32 size
 
--- "Body 1: legs base, intermediate, final, missed, 16 bits each"
+-- body 1: the four legs
 abbrev pub legBytes : FileLegs → List ℕ
 legBytes legs = bytes16 (legs .base) ++ bytes16 (legs .intermediate) ++ bytes16 (legs .last) ++ bytes16 (legs .missed)
 
--- "Body 2: requests, 6 bytes each"
+-- body 2: the requests, six bytes for each; a file has no desk, and is read as one of desk 1 (02, 2.10 and 2.11)
 abbrev pub requestBytes : List Request → List ℕ
 requestBytes [] = []
 requestBytes (r ∷ rest) = r .kind ∷ r .side ∷ bytes16 (r .number) ++ bytes16 (r .amount) ++ requestBytes rest
 
--- a request as a practice file holds it, where it has no desk: it is asked by desk 1 (02, 2.10 and 2.11)
-abbrev pub fromFile : Request → Request
-fromFile r = record { kind = r .kind; side = r .side; number = r .number; amount = r .amount; desk = 1 }
-
--- "Letters SCAP; 16-bit count 2; two entries", and the bodies
+-- the whole file: the letters, how many entries the contents have, the two entries, and the two bodies
 unfoldable pub encoded : FileLegs → List Request → List ℕ
 encoded legs requests =
     letters ++ bytes16 2 ++ entryBytes 1 26 8 ++ entryBytes 2 34 (6 * length requests) ++ legBytes legs ++ requestBytes requests

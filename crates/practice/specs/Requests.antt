@@ -1,4 +1,4 @@
--- "Body 2: requests, 6 bytes each". Definitions only.
+-- The requests that body 2 of a practice file holds (01, "The practice file"). Definitions only.
 use Prim.Native.Nat.{ℕ, zero, suc}
 use mathlib.Core.List.{List, [], _∷_}
 use Rattle.request.specs.declared.Request.{Request}
@@ -22,6 +22,6 @@ readingAt [] i = End
 readingAt (r ∷ rest) zero = One r
 readingAt (r ∷ rest) (suc i) = readingAt rest i
 
--- "The reader of requests is lent the file from the body's first byte on"
+-- the i-th request of the bytes that the reader is lent, which begin with body 2
 abbrev pub requestAt : List ℕ → ℕ → Reading
 requestAt body i = readingAt (requestsOf body) i

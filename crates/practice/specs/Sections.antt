@@ -1,4 +1,4 @@
--- "A section asked for by its kind is handed back as that stretch of the lent file, not a copy". Definitions only.
+-- The sections of a practice file, as stretches of the lent bytes: where each is in memory, and what it holds (01, "The practice file"). Definitions only.
 use Prim.Native.Nat.{ℕ, _+_, _-_}
 use mathlib.Core.List.{List}
 use mathlib.Core.Bool.{cond}
@@ -16,11 +16,11 @@ placeAt file offset = (ptr file .0, offset + ptr file .1)
 abbrev pub stretch : List ℕ → ℕ → ℕ → List ℕ
 stretch file offset size = take size (drop offset file)
 
--- what body 1 and body 2 have, by the kind asked for; "an unknown kind or refused file gives an empty stretch"
+-- a number of body 1 or of body 2, by the kind that is asked for; 0 for any other kind, and for a refused file
 abbrev pub byKind : List ℕ → ℕ → ℕ → ℕ → ℕ
 byKind file kind one two = cond (eqb (fileNumber file) 0) (cond (eqb kind 1) one (cond (eqb kind 2) two 0)) 0
 
--- where the section starts in the file: (1, 26, 8) and (2, 34, n); an empty one is at its first byte
+-- where the section starts in the file; an empty one is at its first byte
 abbrev pub sectionOffset : List ℕ → ℕ → ℕ
 sectionOffset file kind = byKind file kind 26 34
 
@@ -28,7 +28,7 @@ sectionOffset file kind = byKind file kind 26 34
 abbrev pub sectionLength : List ℕ → ℕ → ℕ
 sectionLength file kind = byKind file kind 8 (length file - 34)
 
--- "that stretch of the lent file"
+-- the bytes of the section
 abbrev pub sectionBytes : List ℕ → ℕ → List ℕ
 sectionBytes file kind = stretch file (sectionOffset file kind) (sectionLength file kind)
 

@@ -64,8 +64,8 @@ proposalOf f = cond (withinBounds f) (firstAccepted f candidates) Refused
 
 -- ---- one press
 
--- what a press does by its proposal: a refusal answers 10 and zeros, a press that says none plays nothing and answers zeros, and both leave
--- the field as it is; any other press is the step of the request that it proposes
+-- what a press does by its proposal: where it refuses the field it answers 10 and zeros, where it says none it answers zeros, and both leave the field as it
+-- is; any other press is the step of the request that it proposes
 abbrev pub playedBy : Field → Proposal → Stepped
 playedBy f Refused = record { answer = numberAndZeros 10; field = f }
 playedBy f None = record { answer = numberAndZeros 0; field = f }
@@ -75,5 +75,6 @@ playedBy f (Play r) = stepOf f r
 abbrev pub pressedBy : Field → Proposal → Pressed
 pressedBy f p = record { proposal = p; stepped = playedBy f p }
 
+-- one press on a field
 unfoldable pub pressOf : Field → Pressed
 pressOf f = pressedBy f (proposalOf f)

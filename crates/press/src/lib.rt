@@ -79,7 +79,7 @@ pub fn press(f: Field) -> Pressed
 }
 
 // How the button ends on a field within the bounds.
-fn ending_on(f: Field) -> Ending
+pub fn ending_on(f: Field) -> Ending
     ensures { λ e. ⌜ e ≡ endingOn f ⌝ }
 {
     if present_on(f) == 0 {

@@ -36,7 +36,7 @@ isEmpty f z = eqb (howMany f z) 0
 unfoldable pub howManyWithFix : Field → ℕ → ℕ → ℕ
 howManyWithFix f side z = haveFix side (inZone f z)
 
--- "Present: the aircraft within the lengths of all thirteen zones."
+-- how many are present, in any of the thirteen zones (01, "Any list of requests")
 unfoldable pub presentOn : Field → ℕ
 presentOn f = total (howMany f) everywhere
 
@@ -52,7 +52,7 @@ inOperation f = total (howMany f) operation
 unfoldable pub inArea : Field → ℕ → ℕ
 inArea f side = total (howMany f) (area side)
 
--- "Per missed approach side means those in the operation area with that side as fix."
+-- how many in the operation area have the side as fix (01, "Any list of requests")
 unfoldable pub perFix : Field → ℕ → ℕ
 perFix f side = total (howManyWithFix f side) operation
 
@@ -60,10 +60,10 @@ perFix f side = total (howManyWithFix f side) operation
 unfoldable pub approachHolds : Field → ℕ → Bool
 approachHolds f side = not (eqb (total (howManyWithFix f side) approach) 0)
 
--- "The potential number of a side counts everyone in its area, plus everyone elsewhere in the operation area whose fix is that
--- side. Nobody is counted twice": for each zone of the operation area, all in it or those in it with that fix
+-- how many in zone z the side must keep room for: all of them where z is in its area, else those with the side as fix
 unfoldable pub countedFor : Field → ℕ → ℕ → ℕ
 countedFor f side z = cond (isIn z (area side)) (howMany f z) (howManyWithFix f side z)
 
+-- the potential number of a side: those of the operation area together, each in its one zone (01, "The boxes")
 unfoldable pub potentialOf : Field → ℕ → ℕ
 potentialOf f side = total (countedFor f side) operation

@@ -20,7 +20,7 @@ abbrev pub placeFrom : ℕ → ℕ → List Aircraft → ℕ
 placeFrom k number [] = 0
 placeFrom k number (a ∷ rest) = cond (eqb (a .number) number) k (placeFrom (suc k) number rest)
 
--- "12 number not on the field": zone 0 and place 0
+-- where a number is that is not on the field: zone 0 and place 0
 abbrev pub nowhere : Place
 nowhere = record { zone = 0; place = 0 }
 
@@ -44,19 +44,21 @@ aircraftAt f z place = getD (nobody ∷ inZone f z) place nobody
 unfoldable pub fixOf : Field → ℕ → ℕ
 fixOf f number = let at = placeOf f number in aircraftAt f (at .zone) (at .place) .fix
 
--- whether a number is first in the sequence
+-- whether a number is the first of a list
 abbrev pub isHead : ℕ → List ℕ → Bool
 isHead number [] = false
 isHead number (n ∷ ns) = eqb n number
 
+-- whether a number is first in the landing sequence
 unfoldable pub isFirst : Sequence → ℕ → Bool
 isFirst s number = isHead number (orderOf s)
 
--- "the leader is the one just ahead": the number before this one in the sequence; 0 for the first, and for one that is not in it
+-- the number before this one in a list: `ahead` where this is its first, and 0 where it is not in it
 abbrev pub aheadOf : ℕ → ℕ → List ℕ → ℕ
 aheadOf ahead number [] = 0
 aheadOf ahead number (n ∷ ns) = cond (eqb n number) ahead (aheadOf n number ns)
 
+-- the leader of a number: the one before it in the landing sequence; 0 for the first, and for one that is not in it (01, "The boxes")
 unfoldable pub leaderOf : Sequence → ℕ → ℕ
 leaderOf s number = aheadOf 0 number (orderOf s)
 

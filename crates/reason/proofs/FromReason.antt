@@ -18,7 +18,7 @@ use Rattle.field.proofs.Tests.{each-operation, passed, pass, fail, decided, if-
 use Rattle.line.proofs.Line.{Placed, zonesIn}
 use Rattle.line.proofs.Counted.{Alternates}
 use Rattle.line.proofs.Members.{absent-count}
-use Rattle.reason.proofs.AlongLine.{seen, landing-rank, area-is, height-is}
+use Rattle.reason.proofs.AlongLine.{asListed, landing-rank, area-is, height-is}
 
 -- ---- those of a list of zones
 all-in : (p : ℕ → Bool) (zs : List ℕ) → ((w : ℕ) → isIn w zs ≡ true → T (p w)) → T (all p zs)
@@ -38,7 +38,8 @@ in-all p (z ∷ zs) t w i = go (decided (eqb z w)) (in-all p zs (and-r (p z) (al
     go (inr b) later = later (sym (ap (λ (c : Bool). c || isIn w zs) b) ∙ i)
 
 pub count-in : (zs : List ℕ) (w : ℕ) → isIn w zs ≡ true → 1 ≤ count zs w
-count-in zs w i = elim (decided (leb 1 (count zs w))) [ inl e ↦ leb→le 1 (count zs w) (pass e) | inr e ↦ absurd (true≢false (sym i ∙ absent-count zs w (let k = leb-false 1 (count zs w) e in omega arith))) ]
+count-in zs w i =
+    elim (decided (leb 1 (count zs w))) [ inl e ↦ leb→le 1 (count zs w) (pass e) | inr e ↦ absurd (true≢false (sym i ∙ absent-count zs w (let k = leb-false 1 (count zs w) e in omega arith))) ]
 
 number-in : (p : ℕ → Bool) (zs : List ℕ) (w : ℕ) → isIn w zs ≡ true → T (p w) → 1 ≤ number p zs
 number-in p [] w i t = absurd (false≢true i)
@@ -63,10 +64,10 @@ number-none [] = refl
 number-none (z ∷ zs) = let e = number-none zs in omega arith
 
 -- a test of the zones of all that are listed
-every-in-zones : (q : ℕ → Bool) (l : List Placed) → T (every (λ (a : Listed). q (a .zone)) (map seen l)) → T (all q (zonesIn l))
+every-in-zones : (q : ℕ → Bool) (l : List Placed) → T (every (λ (a : Listed). q (a .zone)) (map asListed l)) → T (all q (zonesIn l))
 every-in-zones q [] t = tt
 every-in-zones q (e ∷ l) t =
-    let later = every (λ (a : Listed). q (a .zone)) (map seen l) in
+    let later = every (λ (a : Listed). q (a .zone)) (map asListed l) in
     and-i (q (e .zone)) (all q (zonesIn l)) (and-l (q (e .zone)) later t) (every-in-zones q l (and-r (q (e .zone)) later t))
 
 unmapped : (q : ℕ → Bool) (g : Listed → ℕ) (xs : List Listed) → T (every q (map g xs)) → T (every (λ a. q (g a)) xs)
@@ -83,16 +84,26 @@ unfiltered p q (x ∷ xs) t = go (p x) t (unfiltered p q xs)
 
 -- ---- sides of zones
 area-side : (z : ℕ) → T (within 1 12 z) → T (leb z 8) → (s : Side) × T (ofArea s z)
-area-side = each-operation (λ z. T (leb z 8) → (s : Side) × T (ofArea s z)) ((λ t. (right, tt)), (λ t. (left, tt)), (λ t. (right, tt)), (λ t. (left, tt)), (λ t. (right, tt)), (λ t. (left, tt)), (λ t. (right, tt)), (λ t. (left, tt)), (λ t. absurd t), (λ t. absurd t), (λ t. absurd t), (λ t. absurd t))
+area-side =
+    each-operation (λ z. T (leb z 8) → (s : Side) × T (ofArea s z))
+    ((λ t. (right, tt)), (λ t. (left, tt)), (λ t. (right, tt)), (λ t. (left, tt)), (λ t. (right, tt)), (λ t. (left, tt)), (λ t. (right, tt)), (λ t. (left, tt)), (λ t. absurd t), (λ t. absurd t), (λ t. absurd t), (λ t. absurd t))
 
 lateral-is : (s : Side) (z : ℕ) → T (within 1 12 z) → T (isLateral z) → T (ofArea s z) → z ≡ lateral (num s)
-lateral-is right = each-operation (λ z. T (isLateral z) → T (ofArea right z) → z ≡ 5) ((λ t u. absurd t), (λ t u. absurd t), (λ t u. absurd t), (λ t u. absurd t), (λ t u. refl), (λ t u. absurd u), (λ t u. absurd t), (λ t u. absurd t), (λ t u. absurd t), (λ t u. absurd t), (λ t u. absurd t), (λ t u. absurd t))
-lateral-is left = each-operation (λ z. T (isLateral z) → T (ofArea left z) → z ≡ 6) ((λ t u. absurd t), (λ t u. absurd t), (λ t u. absurd t), (λ t u. absurd t), (λ t u. absurd u), (λ t u. refl), (λ t u. absurd t), (λ t u. absurd t), (λ t u. absurd t), (λ t u. absurd t), (λ t u. absurd t), (λ t u. absurd t))
+lateral-is right =
+    each-operation (λ z. T (isLateral z) → T (ofArea right z) → z ≡ 5)
+    ((λ t u. absurd t), (λ t u. absurd t), (λ t u. absurd t), (λ t u. absurd t), (λ t u. refl), (λ t u. absurd u), (λ t u. absurd t), (λ t u. absurd t), (λ t u. absurd t), (λ t u. absurd t), (λ t u. absurd t), (λ t u. absurd t))
+lateral-is left =
+    each-operation (λ z. T (isLateral z) → T (ofArea left z) → z ≡ 6)
+    ((λ t u. absurd t), (λ t u. absurd t), (λ t u. absurd t), (λ t u. absurd t), (λ t u. absurd u), (λ t u. refl), (λ t u. absurd t), (λ t u. absurd t), (λ t u. absurd t), (λ t u. absurd t), (λ t u. absurd t), (λ t u. absurd t))
 
 lateral-other : (s : Side) (z : ℕ) → T (within 1 12 z) → T (isLateral z) → eqb (num s) (sideOf z) ≡ false → ofArea s z ≡ false
 unfolding sideOf
-lateral-other right = each-operation (λ z. T (isLateral z) → eqb 1 (sideOf z) ≡ false → ofArea right z ≡ false) ((λ t e. absurd t), (λ t e. absurd t), (λ t e. absurd t), (λ t e. absurd t), (λ t e. e), (λ t e. refl), (λ t e. absurd t), (λ t e. absurd t), (λ t e. absurd t), (λ t e. absurd t), (λ t e. absurd t), (λ t e. absurd t))
-lateral-other left = each-operation (λ z. T (isLateral z) → eqb 2 (sideOf z) ≡ false → ofArea left z ≡ false) ((λ t e. absurd t), (λ t e. absurd t), (λ t e. absurd t), (λ t e. absurd t), (λ t e. refl), (λ t e. e), (λ t e. absurd t), (λ t e. absurd t), (λ t e. absurd t), (λ t e. absurd t), (λ t e. absurd t), (λ t e. absurd t))
+lateral-other right =
+    each-operation (λ z. T (isLateral z) → eqb 1 (sideOf z) ≡ false → ofArea right z ≡ false)
+    ((λ t e. absurd t), (λ t e. absurd t), (λ t e. absurd t), (λ t e. absurd t), (λ t e. e), (λ t e. refl), (λ t e. absurd t), (λ t e. absurd t), (λ t e. absurd t), (λ t e. absurd t), (λ t e. absurd t), (λ t e. absurd t))
+lateral-other left =
+    each-operation (λ z. T (isLateral z) → eqb 2 (sideOf z) ≡ false → ofArea left z ≡ false)
+    ((λ t e. absurd t), (λ t e. absurd t), (λ t e. absurd t), (λ t e. absurd t), (λ t e. refl), (λ t e. e), (λ t e. absurd t), (λ t e. absurd t), (λ t e. absurd t), (λ t e. absurd t), (λ t e. absurd t), (λ t e. absurd t))
 
 -- in the area of z's side
 same-area : (s : Side) (z w : ℕ) → T (ofArea s z) → T (sameArea z w) → T (ofArea s w)
@@ -103,9 +114,9 @@ same-area s z w u t =
 
 -- ---- the facts, of any end of the line
 pub record Facts (f : Side) (ahead : List Listed) (l : List Placed) : Type 0 where
-  pub approach : T (neverFalls (map (λ (a : Listed). fromLanding (a .zone)) (map seen l)))
-  pub areas : (s : Side) → T (neverFalls (map (λ (a : Listed). heightIn (num s) (a .zone)) (those (isInArea (num s)) (map seen l))))
-  pub laterals : T (eachAmong lateralFree ahead (map seen l))
+  pub approach : T (neverFalls (map (λ (a : Listed). fromLanding (a .zone)) (map asListed l)))
+  pub areas : (s : Side) → T (neverFalls (map (λ (a : Listed). heightIn (num s) (a .zone)) (those (isInArea (num s)) (map asListed l))))
+  pub laterals : T (eachAmong lateralFree ahead (map asListed l))
   pub alternates : Alternates f l
   pub ins : T (all (within 1 12) (zonesIn l))
   pub singles : (z : ℕ) → T (within 1 6 z) → count (zonesIn l) z ≤ 1
@@ -113,12 +124,13 @@ pub record Facts (f : Side) (ahead : List Listed) (l : List Placed) : Type 0 whe
   pub lateral-alone : (s : Side) → 1 ≤ count (zonesIn l) (lateral (num s)) → number (ofArea s) (zonesIn l) ≤ 1
 
 -- nobody ahead of a lateral zone has its side as fix
-lateral-behind : (x : Listed) (pre ahead : List Listed) (l : List Placed) → T (eachAmong lateralFree (pre ++ x ∷ ahead) (map seen l)) → (w : ℕ) → isIn w (zonesIn l) ≡ true → T (isLateral w) → eqb (x .fix) (sideOf w) ≡ false
+lateral-behind : (x : Listed) (pre ahead : List Listed) (l : List Placed) → T (eachAmong lateralFree (pre ++ x ∷ ahead) (map asListed l)) → (w : ℕ)
+    → isIn w (zonesIn l) ≡ true → T (isLateral w) → eqb (x .fix) (sideOf w) ≡ false
 lateral-behind x pre ahead [] t w i v = absurd (false≢true i)
 lateral-behind x pre ahead (e ∷ l) t w i v =
-    let here = lateralFree (pre ++ x ∷ ahead) (seen e) (map seen l) in
-    let later = eachAmong lateralFree (seen e ∷ pre ++ x ∷ ahead) (map seen l) in
-    go (decided (eqb (e .zone) w)) (and-l here later t) (λ j. lateral-behind x (seen e ∷ pre) ahead l (and-r here later t) w j v)
+    let here = lateralFree (pre ++ x ∷ ahead) (asListed e) (map asListed l) in
+    let later = eachAmong lateralFree (asListed e ∷ pre ++ x ∷ ahead) (map asListed l) in
+    go (decided (eqb (e .zone) w)) (and-l here later t) (λ j. lateral-behind x (asListed e ∷ pre) ahead l (and-r here later t) w j v)
   where
     without : (p : Listed → Bool) (ys : List Listed) → length (those p (ys ++ x ∷ ahead)) ≡ 0 → p x ≡ false
     without p [] e = head (p x) e
@@ -133,9 +145,12 @@ lateral-behind x pre ahead (e ∷ l) t w i v =
         rest false e = e
 
     none : (z : ℕ) → T (isLateral z) → T (not (within 5 6 z) || eqb (length (those (hasFix (sideOf z)) (pre ++ x ∷ ahead))) 0) → eqb (x .fix) (sideOf z) ≡ false
-    none z v t = without (hasFix (sideOf z)) pre (eqb→eq (length (those (hasFix (sideOf z)) (pre ++ x ∷ ahead))) 0 (subst (λ (b : Bool). T (not b || eqb (length (those (hasFix (sideOf z)) (pre ++ x ∷ ahead))) 0)) (passed {b = within 5 6 z} v) t))
+    none z v t =
+        without (hasFix (sideOf z)) pre (eqb→eq (length (those (hasFix (sideOf z)) (pre ++ x ∷ ahead))) 0
+        (subst (λ (b : Bool). T (not b || eqb (length (those (hasFix (sideOf z)) (pre ++ x ∷ ahead))) 0)) (passed {b = within 5 6 z} v) t))
 
-    go : (eqb (e .zone) w ≡ true) ⊎ (eqb (e .zone) w ≡ false) → T (lateralFree (pre ++ x ∷ ahead) (seen e) (map seen l)) → (isIn w (zonesIn l) ≡ true → eqb (x .fix) (sideOf w) ≡ false) → eqb (x .fix) (sideOf w) ≡ false
+    go : (eqb (e .zone) w ≡ true) ⊎ (eqb (e .zone) w ≡ false) → T (lateralFree (pre ++ x ∷ ahead) (asListed e) (map asListed l))
+        → (isIn w (zonesIn l) ≡ true → eqb (x .fix) (sideOf w) ≡ false) → eqb (x .fix) (sideOf w) ≡ false
     go (inl b) t later = none w v (subst (λ (z : ℕ). T (not (within 5 6 z) || eqb (length (those (hasFix (sideOf z)) (pre ++ x ∷ ahead))) 0)) (eqb-true (e .zone) w b) t)
     go (inr b) t later = later (sym (ap (λ (c : Bool). c || isIn w (zonesIn l)) b) ∙ i)
 
@@ -153,26 +168,29 @@ module _ (f : Side) (ahead : List Listed) (e : Placed) (l : List Placed) (k : Fa
   zs-in = and-r (within 1 12 z) (all (within 1 12) zs) (k .ins)
 
   -- the heights in a side's area: of z and those behind it, and of those behind it alone
-  heights : (s : Side) → (b : Bool) → isIn z (area (num s)) ≡ b → T (neverFalls (map (λ (a : Listed). heightIn (num s) (a .zone)) (cond b (seen e ∷ those (isInArea (num s)) (map seen l)) (those (isInArea (num s)) (map seen l)))))
-  heights s b h = subst (λ (c : Bool). T (neverFalls (map (λ (a : Listed). heightIn (num s) (a .zone)) (cond c (seen e ∷ those (isInArea (num s)) (map seen l)) (those (isInArea (num s)) (map seen l)))))) h (k .areas s)
+  heights : (s : Side) → (b : Bool) → isIn z (area (num s)) ≡ b
+      → T (neverFalls (map (λ (a : Listed). heightIn (num s) (a .zone)) (cond b (asListed e ∷ those (isInArea (num s)) (map asListed l)) (those (isInArea (num s)) (map asListed l)))))
+  heights s b h =
+      subst (λ (c : Bool). T (neverFalls (map (λ (a : Listed). heightIn (num s) (a .zone))
+      (cond c (asListed e ∷ those (isInArea (num s)) (map asListed l)) (those (isInArea (num s)) (map asListed l)))))) h (k .areas s)
 
-  rest-heights : (s : Side) → T (neverFalls (map (λ (a : Listed). heightIn (num s) (a .zone)) (those (isInArea (num s)) (map seen l))))
+  rest-heights : (s : Side) → T (neverFalls (map (λ (a : Listed). heightIn (num s) (a .zone)) (those (isInArea (num s)) (map asListed l))))
   rest-heights s = go (decided (isIn z (area (num s))))
     where
       later : List ℕ
-      later = map (λ (a : Listed). heightIn (num s) (a .zone)) (those (isInArea (num s)) (map seen l))
+      later = map (λ (a : Listed). heightIn (num s) (a .zone)) (those (isInArea (num s)) (map asListed l))
 
       go : (isIn z (area (num s)) ≡ true) ⊎ (isIn z (area (num s)) ≡ false) → T (neverFalls later)
       go (inl b) = and-r (every (leb (heightIn (num s) z)) later) (neverFalls later) (heights s true b)
       go (inr b) = heights s false b
 
-  pub facts-behind : Facts (opp f) (seen e ∷ ahead) l
+  pub facts-behind : Facts (opp f) (asListed e ∷ ahead) l
   facts-behind =
       let g : Listed → ℕ = λ a. fromLanding (a .zone) in
       record {
-        approach = and-r (every (leb (g (seen e))) (map g (map seen l))) (neverFalls (map g (map seen l))) (k .approach);
+        approach = and-r (every (leb (g (asListed e))) (map g (map asListed l))) (neverFalls (map g (map asListed l))) (k .approach);
         areas = rest-heights;
-        laterals = and-r (lateralFree ahead (seen e) (map seen l)) (eachAmong lateralFree (seen e ∷ ahead) (map seen l)) (k .laterals);
+        laterals = and-r (lateralFree ahead (asListed e) (map asListed l)) (eachAmong lateralFree (asListed e ∷ ahead) (map asListed l)) (k .laterals);
         alternates = k .alternates .1;
         ins = zs-in;
         singles = λ y t. let h = k .singles y t in omega arith;
@@ -187,8 +205,8 @@ module _ (f : Side) (ahead : List Listed) (e : Placed) (l : List Placed) (k : Fa
     rank-behind : rank w ≤ rank z
     rank-behind =
         let g : Listed → ℕ = λ a. fromLanding (a .zone) in
-        let t = and-l (every (leb (fromLanding z)) (map g (map seen l))) (neverFalls (map g (map seen l))) (k .approach) in
-        let u = every-in-zones (λ y. leb (fromLanding z) (fromLanding y)) l (unmapped (leb (fromLanding z)) g (map seen l) t) in
+        let t = and-l (every (leb (fromLanding z)) (map g (map asListed l))) (neverFalls (map g (map asListed l))) (k .approach) in
+        let u = every-in-zones (λ y. leb (fromLanding z) (fromLanding y)) l (unmapped (leb (fromLanding z)) g (map asListed l) t) in
         let h = leb→le (fromLanding z) (fromLanding w) (in-all (λ y. leb (fromLanding z) (fromLanding y)) zs u w i) in
         let a = landing-rank z z-in in
         let b = landing-rank w w-in in
@@ -211,10 +229,10 @@ module _ (f : Side) (ahead : List Listed) (e : Placed) (l : List Placed) (k : Fa
       height-behind =
           let p = isInArea (num s) in
           let g : Listed → ℕ = λ a. heightIn (num s) (a .zone) in
-          let later = map g (those p (map seen l)) in
+          let later = map g (those p (map asListed l)) in
           let t = and-l (every (leb (heightIn (num s) z)) later) (neverFalls later) (heights s true (area-is s z z-in ∙ passed u)) in
           let r = every-in-zones (λ y. not (isIn y (area (num s))) || leb (heightIn (num s) z) (heightIn (num s) y)) l
-          (unfiltered p (λ a. leb (heightIn (num s) z) (g a)) (map seen l) (unmapped (leb (heightIn (num s) z)) g (those p (map seen l)) t)) in
+          (unfiltered p (λ a. leb (heightIn (num s) z) (g a)) (map asListed l) (unmapped (leb (heightIn (num s) z)) g (those p (map asListed l)) t)) in
           let q = in-all (λ y. not (isIn y (area (num s))) || leb (heightIn (num s) z) (heightIn (num s) y)) zs r w i in
           let h = leb→le (heightIn (num s) z) (heightIn (num s) w) (subst (λ (b : Bool). T (not b || leb (heightIn (num s) z) (heightIn (num s) w))) (area-is s w w-in ∙ passed v) q) in
           let a = height-is s z z-in u in
@@ -270,7 +288,7 @@ module _ (f : Side) (ahead : List Listed) (e : Placed) (l : List Placed) (k : Fa
         lateral-clear =
             together (isLateral w) (ofArea f w)
             (λ t.
-            let other : eqb (e .aircraft .fix) (sideOf w) ≡ false = lateral-behind (seen e) [] ahead l (facts-behind .laterals) w i t in
+            let other : eqb (e .aircraft .fix) (sideOf w) ≡ false = lateral-behind (asListed e) [] ahead l (facts-behind .laterals) w i t in
             lateral-other f w w-in t (ap (λ (n : ℕ). eqb n (sideOf w)) (sym (k .alternates .0)) ∙ other))
 
   -- at most one behind z is in its area
@@ -298,4 +316,4 @@ chain-from f ahead (e ∷ l) k =
     (and-i (within 1 12 z && all (mayLead f z) zs) (leb (number (sameArea z) zs) 1)
     (and-i (within 1 12 z) (all (mayLead f z) zs) (and-l (within 1 12 z) (all (within 1 12) zs) (k .ins)) (all-in (mayLead f z) zs (may-lead f ahead e l k)))
     (le→leb (number (sameArea z) zs) 1 (few-behind f ahead e l k)))
-    (chain-from (opp f) (seen e ∷ ahead) l (facts-behind f ahead e l k))
+    (chain-from (opp f) (asListed e ∷ ahead) l (facts-behind f ahead e l k))

@@ -21,7 +21,7 @@ use Rattle.bounds.specs.Bounds.{boundA, boundB, lateralRule, boundC, finalFirst
 use Rattle.numbers.specs.Numbers.{numbersDiffer, sequenceExact}
 use Rattle.order.specs.Model.{Side, right, left, opp, num, nextFix, count, one, ofArea, number, all, chain, okay}
 use Rattle.order.specs.Model as model
-use Rattle.rules.specs.Reason.{Listed, along, those, isInArea, neverFalls, eachAmong, fromLanding, approachOrder, heightIn, areaOrder, hasRoom, roomToMiss, lateralFree, lateralEntry, Reason, hasPlaces, Sound}
+use Rattle.rules.specs.Reason.{Listed, along, those, isInArea, neverFalls, eachAmong, fromLanding, approachOrder, heightIn, areaOrder, hasRoom, roomToMiss, lateralFree, lateralOrder, Reason, hasPlaces, Sound}
 use Rattle.field.proofs.Lists.{every-listed}
 use Rattle.laws.proofs.BoundLaws.{Within, within-each}
 use Rattle.field.proofs.Tests.{each-operation, passed, pass, decided}
@@ -32,7 +32,7 @@ use Rattle.questions.proofs.FindLaws.{numbers}
 use Rattle.line.proofs.Leaders.{nonzero}
 use Rattle.line.proofs.Members.{numbers-total, count-append, count-absent, different-count, count-different, nonzero-count, count-nonzero}
 use Rattle.line.proofs.Orderly.{Orderly, opposite-num}
-use Rattle.reason.proofs.AlongLine.{seen, room-same}
+use Rattle.reason.proofs.AlongLine.{asListed, room-same}
 use Rattle.reason.proofs.Stands.{sequence-is, lookedUp, lineOf, found-one, line-all, line-numbers, line-seen, queue-is, stands-for}
 use Rattle.reason.proofs.FromReason.{count-in, Facts, chain-from}
 
@@ -131,7 +131,9 @@ places-parts f h =
     let n = eqb (length (f .sequence .numbers)) 4 in
     record {
       thirteen = eqb→eq (length (f .zones)) 13 (and-l z a (and-l (z && a) n h));
-      four = λ z t. eqb→eq (length (zoneOf f z .aircraft)) 4 (every-listed (λ z. eqb (length (zoneOf f z .aircraft)) 4) everywhere z (and-r (eqb (length (f .zones)) 13) a (and-l (eqb (length (f .zones)) 13 && a) n h)) (in-everywhere z t));
+      four =
+          λ z t. eqb→eq (length (zoneOf f z .aircraft)) 4 (every-listed (λ z. eqb (length (zoneOf f z .aircraft)) 4) everywhere z
+          (and-r (eqb (length (f .zones)) 13) a (and-l (eqb (length (f .zones)) 13 && a) n h)) (in-everywhere z t));
       numbers = eqb→eq (length (f .sequence .numbers)) 4 (and-r (z && a) n h);
     }
 
@@ -233,12 +235,16 @@ module _ (f : Field) (h : Places f) (s : Within f) (p : Parts f) (c : Reason f) 
       let l = leb→le 1 z (and-l (leb 1 z) (leb z 6) t) in
       let u = leb→le z 6 (and-r (leb 1 z) (leb z 6) t) in
       let v : T (within 1 12 z) = and-i (leb 1 z) (leb z 12) (and-l (leb 1 z) (leb z 6) t) (le→leb z 12 (omega arith)) in
-      let k = leb→le (howMany f z) 1 (every-listed (λ z. leb (howMany f z) 1) (zonesFrom 1 6) z (and-l q (lateralRule f 1) (and-l (q && lateralRule f 1) (lateralRule f 2) (s .bound-c))) (low-six z v (and-r (leb 1 z) (leb z 6) t))) in
+      let k =
+      leb→le (howMany f z) 1 (every-listed (λ z. leb (howMany f z) 1) (zonesFrom 1 6) z
+      (and-l q (lateralRule f 1) (and-l (q && lateralRule f 1) (lateralRule f 2) (s .bound-c))) (low-six z v (and-r (leb 1 z) (leb z 6) t))) in
       let e = counts z v in
       omega arith
     where
       low-six : (z : ℕ) → T (within 1 12 z) → T (leb z 6) → isIn z (zonesFrom 1 6) ≡ true
-      low-six = each-operation (λ z. T (leb z 6) → isIn z (zonesFrom 1 6) ≡ true) ((λ t. refl), (λ t. refl), (λ t. refl), (λ t. refl), (λ t. refl), (λ t. refl), (λ t. absurd t), (λ t. absurd t), (λ t. absurd t), (λ t. absurd t), (λ t. absurd t), (λ t. absurd t))
+      low-six =
+          each-operation (λ z. T (leb z 6) → isIn z (zonesFrom 1 6) ≡ true)
+          ((λ t. refl), (λ t. refl), (λ t. refl), (λ t. refl), (λ t. refl), (λ t. refl), (λ t. absurd t), (λ t. absurd t), (λ t. absurd t), (λ t. absurd t), (λ t. absurd t), (λ t. absurd t))
 
   ins : T (all (within 1 12) (zonesIn line))
   ins = zones-in ns (p .named)
@@ -256,7 +262,8 @@ module _ (f : Field) (h : Places f) (s : Within f) (p : Parts f) (c : Reason f) 
       two left = leb→le (inArea f 2) 2 (and-r (leb (inArea f 1) 2) (leb (inArea f 2) 2) (s .bound-b))
 
   -- with an occupied lateral zone the area has nobody else
-  alone-of : (d : Side) → T (lateralRule f (num d)) → T (within 1 12 (lateral (num d))) → T (within 1 6 (lateral (num d))) → 1 ≤ count (zonesIn line) (lateral (num d)) → number (ofArea d) (zonesIn line) ≤ 1
+  alone-of : (d : Side) → T (lateralRule f (num d)) → T (within 1 12 (lateral (num d))) → T (within 1 6 (lateral (num d))) → 1 ≤ count (zonesIn line) (lateral (num d))
+      → number (ofArea d) (zonesIn line) ≤ 1
   unfolding inArea lateralRule
   alone-of d t u v k =
       let m = howMany f (lateral (num d)) in
@@ -279,12 +286,12 @@ module _ (f : Field) (h : Places f) (s : Within f) (p : Parts f) (c : Reason f) 
   alone left = alone-of left (let q = every (λ z. leb (howMany f z) 1) (zonesFrom 1 6) in and-r (q && lateralRule f 1) (lateralRule f 2) (s .bound-c)) tt tt
 
   -- ---- the reason, of the line
-  seen-line : along f ≡ map seen line
+  seen-line : along f ≡ map asListed line
   unfolding along
   seen-line = line-seen f ns (p .named)
 
   facts : Facts firstSide [] line
-  unfolding approachOrder areaOrder lateralEntry
+  unfolding approachOrder areaOrder lateralOrder
   facts =
       record {
         approach = subst (λ (l : List Listed). T (neverFalls (map (λ (a : Listed). fromLanding (a .zone)) l))) seen-line (c .approach-order);
@@ -306,7 +313,7 @@ module _ (f : Field) (h : Places f) (s : Within f) (p : Parts f) (c : Reason f) 
   okay-is =
       let zs = zonesIn line in
       let len : length zs ≤ 4 = let e = length-map line (λ (e : Placed). e .zone) in let e₂ = length-map ns (lookedUp f) in let k = four-in-order in omega arith in
-      and-i (leb (length zs) 4 && chain firstSide zs) (model.roomToMiss 0 firstSide zs)
+      and-i (leb (length zs) 4 && chain firstSide zs) (model.roomInOrder 0 firstSide zs)
       (and-i (leb (length zs) 4) (chain firstSide zs) (le→leb (length zs) 4 len) (chain-from firstSide [] line facts))
       (subst T (ap (eachAmong hasRoom []) seen-line ∙ room-same 0 firstSide [] line refl refl (turns .0) ins) (c .room-to-miss))
 
@@ -319,7 +326,9 @@ module _ (f : Field) (h : Places f) (s : Within f) (p : Parts f) (c : Reason f) 
         okay-line = okay-is;
         alternates = turns .0;
         nonzeros = subst (λ (l : List ℕ). T (every nonzero l)) same-numbers (nonzero-count (ns ++ rw) (let a = fewer 0 in let b = count-nonzero (numbersIn f everywhere) (p .nonzeros) in omega arith));
-        different = subst (λ (l : List ℕ). T (allDifferent l)) same-numbers (different-count (ns ++ rw) (λ n. let a = fewer n in let b = count-different (numbersIn f everywhere) (p .different) n in omega arith));
+        different =
+            subst (λ (l : List ℕ). T (allDifferent l)) same-numbers
+            (different-count (ns ++ rw) (λ n. let a = fewer n in let b = count-different (numbersIn f everywhere) (p .different) n in omega arith));
         fit-line = line-all f (λ (e : Placed). fitsZone (f .legs) (e .zone) (e .aircraft)) fits-one ns (p .named);
         fit-runway = every-listed (λ z. every (fitsZone (f .legs) z) (inZone f z)) everywhere 13 (p .fit) refl;
         one-landed = leb→le (length (inZone f 13)) 1 (and-r (leb (inOperation f) 4) (leb (howMany f 13) 1) (s .bound-a));

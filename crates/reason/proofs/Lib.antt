@@ -3,7 +3,7 @@ pub mod Room
 pub mod Stands
 pub mod FromReason
 pub mod Invariant
-pub mod OneStep
+pub mod StaysSound
 pub mod SameStep
 pub mod Tidied
 pub mod Reason

@@ -36,14 +36,15 @@ use Rattle.reason.proofs.AlongLine.{orderly-reason}
 use Rattle.rules.proofs.Cases.{bounds-not-enough}
 use Rattle.reason.proofs.Room.{reason-gives-room}
 use Rattle.reason.proofs.Invariant.{reason-orderly}
-use Rattle.reason.proofs.OneStep.{orderly-sound, orderly-kept}
+use Rattle.reason.proofs.StaysSound.{orderly-sound, orderly-kept}
 use Rattle.reason.proofs.SameStep.{sound-same, kept-same}
 use Rattle.reason.proofs.Tidied.{tidied, tidied-zone, tidied-same}
 
 -- ---- after every list
 module _ (legs : Legs) (l : T (legalLegs legs)) where
   -- what holds of every field that an orderly line stands for holds after every list
-  pub after-list : (P : Field → Type 0) → ((f : Side) (line : List Placed) (runway : List Aircraft) → Orderly f line runway legs → P (fieldOf f line runway legs)) → (rs : List Request) → P (fieldAfter (emptyField legs) rs)
+  pub after-list : (P : Field → Type 0) → ((f : Side) (line : List Placed) (runway : List Aircraft) → Orderly f line runway legs → P (fieldOf f line runway legs))
+      → (rs : List Request) → P (fieldAfter (emptyField legs) rs)
   after-list P h rs = let run = from-empty legs l rs in subst P (sym (run .stands)) (h (run .first-then) (run .line-then) (run .runway-then) (run .orderly))
 
   -- the reason holds after every list of requests
@@ -93,7 +94,8 @@ missing f r k e =
       | inl b ↦ sym (if-true (firstRefused checks) (inputNumber r) b) ∙ e
       | inr b ↦ absurd (eqb-false (inputNumber r) 0 b (sym (if-false (firstRefused checks) (inputNumber r) b) ∙ e))
     ] in
-    let q : firstRefused ((10, withinBounds f) ∷ headChecks 10 (placeBefore f r) (owned f r) ++ ((25, withinBounds (effectOf f r)) ∷ [])) ≡ 0 = ap (λ (l : List (ℕ × Bool)). firstRefused ((10, withinBounds f) ∷ l ++ ((25, withinBounds (effectOf f r)) ∷ []))) (sym (checks-at f r k)) ∙ p in
+    let q : firstRefused ((10, withinBounds f) ∷ headChecks 10 (placeBefore f r) (owned f r) ++ ((25, withinBounds (effectOf f r)) ∷ [])) ≡ 0 =
+    ap (λ (l : List (ℕ × Bool)). firstRefused ((10, withinBounds f) ∷ l ++ ((25, withinBounds (effectOf f r)) ∷ []))) (sym (checks-at f r k)) ∙ p in
     let known = input.passed ((10, withinBounds f) ∷ headChecks 10 (placeBefore f r) (owned f r) ++ ((25, withinBounds (effectOf f r)) ∷ [])) (tt, (tt, (tt, (tt, (tt, (tt, tt)))))) q in
     record { bounds = known .0; starts = known .1 .1 .1 .0; heads = known .1 .1 .1 .1 .0 }
 

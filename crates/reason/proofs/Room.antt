@@ -137,11 +137,13 @@ in-one w zs t = elim (decided (isIn w zs)) [
 in-zones : (zs : List ℕ) → T (allDifferent zs) → (xs : List Listed) → total (λ z. length (those (isInZone z) xs)) zs ≤ length (those (λ a. isIn (a .zone) zs) xs)
 in-zones zs t [] = let n = total-none zs in omega arith
 in-zones zs t (x ∷ xs) =
-    let e : total (λ z. length (those (isInZone z) (x ∷ xs))) zs ≡ total (λ z. one (eqb (x .zone) z) + length (those (isInZone z) xs)) zs = λ i. total (λ z. split (isInZone z) (eqb (x .zone) z) i) zs in
+    let e : total (λ z. length (those (isInZone z) (x ∷ xs))) zs ≡ total (λ z. one (eqb (x .zone) z) + length (those (isInZone z) xs)) zs =
+    λ i. total (λ z. split (isInZone z) (eqb (x .zone) z) i) zs in
     let a = total-add (λ z. one (eqb (x .zone) z)) (λ z. length (those (isInZone z) xs)) zs in
     let b = in-one (x .zone) zs t in
     let c = in-zones zs t xs in
-    let d : length (those (λ (y : Listed). isIn (y .zone) zs) (x ∷ xs)) ≡ one (isIn (x .zone) zs) + length (those (λ (y : Listed). isIn (y .zone) zs) xs) = split (λ (y : Listed). isIn (y .zone) zs) (isIn (x .zone) zs) in
+    let d : length (those (λ (y : Listed). isIn (y .zone) zs) (x ∷ xs)) ≡ one (isIn (x .zone) zs) + length (those (λ (y : Listed). isIn (y .zone) zs) xs) =
+    split (λ (y : Listed). isIn (y .zone) zs) (isIn (x .zone) zs) in
     omega arith
   where
     split : (p : Listed → Bool) (b : Bool) → length (cond b (x ∷ those p xs) (those p xs)) ≡ one b + length (those p xs)
@@ -195,7 +197,8 @@ module _ (f : Field) (c : Reason f) where
       let rooms = subst (λ (l : List Listed). T (eachAmong hasRoom [] l)) is (c .room-to-miss) in
       let room = leb→le (length (those (isInArea s) behind) + 0) 1 (and-l (hasRoom [] (listed f n) behind) (eachAmong hasRoom (listed f n ∷ []) behind) rooms) in
       let outside : isInArea s (listed f n) ≡ false = ap (λ (z : ℕ). isIn z (area s)) (b .final) ∙ side-is (λ s. isIn 12 (area s) ≡ false) refl refl s t in
-      let same : length (those (isInArea s) (along f)) ≡ length (those (isInArea s) behind) = ap (λ (l : List Listed). length (those (isInArea s) l)) is ∙ ap length (if-false (listed f n ∷ those (isInArea s) behind) (those (isInArea s) behind) outside) in
+      let same : length (those (isInArea s) (along f)) ≡ length (those (isInArea s) behind) =
+      ap (λ (l : List Listed). length (those (isInArea s) l)) is ∙ ap length (if-false (listed f n ∷ those (isInArea s) behind) (those (isInArea s) behind) outside) in
       let a = area-along s t in
       omega arith
 
@@ -211,5 +214,6 @@ module _ (f : Field) (c : Reason f) where
       ] in
       let begins = final-begins f n (map (λ (a : Aircraft). a .number) (q .rest)) (orderOf (f .sequence)) (c .approach-order)
       (ap (λ (m : ℕ). m ∷ map (λ (a : Aircraft). a .number) (q .rest)) (sym (q .named)) ∙ sym (ap (map (λ (a : Aircraft). a .number)) (q .is)) ∙ c .queues-agree 12 tt) in
-      let fix : fixOf f n ≡ q .head .fix = ap (λ (w : ℕ). aircraftAt f w (placeOf f n .place) .fix) z ∙ ap (λ (i : ℕ). aircraftAt f 12 i .fix) k ∙ ap (λ (l : List Aircraft). getD (nobody ∷ l) 1 nobody .fix) (q .is) in
+      let fix : fixOf f n ≡ q .head .fix =
+      ap (λ (w : ℕ). aircraftAt f w (placeOf f n .place) .fix) z ∙ ap (λ (i : ℕ). aircraftAt f 12 i .fix) k ∙ ap (λ (l : List Aircraft). getD (nobody ∷ l) 1 nobody .fix) (q .is) in
       room-first n begins (subst (λ (s : ℕ). T (isSide s)) (sym fix) (fix-side f t (q .head) (q .rest) (q .is)))

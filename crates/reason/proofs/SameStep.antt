@@ -24,7 +24,7 @@ use Rattle.questions.specs.Find.{placeOf, aircraftAt, fixOf, isFirst, leaderOf,
 use Rattle.bounds.specs.Bounds.{withinBounds}
 use Rattle.rules.specs.Kinds.{placeBefore, zoneBefore, zoneAhead, presenceChecks, belongsTo, mayApproach, baseFree, mayMerge, verticalNeeds, approachNeeds, mergeNeeds, flownOutCheck, landNeeds, headGone, tailPut, moved, outOfSequence, fixTaken, entered, madeRoom, enteredAbove, approached, landed, exited, fixAfterMiss, missedApproach, held}
 use Rattle.rules.specs.Step.{byKind, needsFor, effectFor, checksFor, checksOf, effectOf, numberOf, stepOf}
-use Rattle.rules.specs.Reason.{Listed, listed, along, those, isInZone, isInArea, neverFalls, eachAmong, fromLanding, heightIn, hasRoom, lateralFree, approachOrder, areaOrder, roomToMiss, lateralEntry, Reason, hasPlaces, Sound, KeptBy}
+use Rattle.rules.specs.Reason.{Listed, listed, along, those, isInZone, isInArea, neverFalls, eachAmong, fromLanding, heightIn, hasRoom, lateralFree, approachOrder, areaOrder, roomToMiss, lateralOrder, Reason, hasPlaces, Sound, KeptBy}
 use Rattle.field.proofs.Tests.{pass, passed, decided}
 use Rattle.line.proofs.Orderly.{every-zone}
 use Rattle.laws.proofs.SameQueues.{Same, same-head, same-tail, same-with, same-sequence, same-ticked, queues-same, alike, within-same}
@@ -36,7 +36,8 @@ by-kinds {ℓ} : {A : Type ℓ} (P : A → A → Type 0) (kind : ℕ) {k1 k2 k3 
     → P k1 j1 × P k2 j2 × P k3 j3 × P k4 j4 × P k5 j5 × P k6 j6 × P k7 j7 × P k8 j8 × P k9 j9 × P k10 j10 × P k11 j11 × P k12 j12
     → P (byKind kind k1 k2 k3 k4 k5 k6 k7 k8 k9 k10 k11 k12) (byKind kind j1 j2 j3 j4 j5 j6 j7 j8 j9 j10 j11 j12)
 by-kinds {A = A} P kind (p1, p2, p3, p4, p5, p6, p7, p8, p9, p10, p11, p12) =
-    pick (eqb kind 1) p1 (pick (eqb kind 2) p2 (pick (eqb kind 3) p3 (pick (eqb kind 4) p4 (pick (eqb kind 5) p5 (pick (eqb kind 6) p6 (pick (eqb kind 7) p7 (pick (eqb kind 8) p8 (pick (eqb kind 9) p9 (pick (eqb kind 10) p10 (pick (eqb kind 11) p11 p12))))))))))
+    pick (eqb kind 1) p1 (pick (eqb kind 2) p2 (pick (eqb kind 3) p3
+    (pick (eqb kind 4) p4 (pick (eqb kind 5) p5 (pick (eqb kind 6) p6 (pick (eqb kind 7) p7 (pick (eqb kind 8) p8 (pick (eqb kind 9) p9 (pick (eqb kind 10) p10 (pick (eqb kind 11) p11 p12))))))))))
   where
     pick : (b : Bool) {x y u v : A} → P x u → P y v → P (cond b x y) (cond b u v)
     pick true p q = p
@@ -129,7 +130,8 @@ module _ (f g : Field) (s : Same f g) where
         ap (λ (c : ℕ × Bool). c ∷ []) (flown-same (at .zone)),
         landing (at .zone),
         refl,
-        ap (λ (c : ℕ × Bool). c ∷ (22, isFirst (f .sequence) (r .number)) ∷ []) (flown-same (at .zone)) ∙ ap (λ (q : Sequence). flownOutCheck g (at .zone) ∷ (22, isFirst q (r .number)) ∷ []) (s .sequence),
+        ap (λ (c : ℕ × Bool). c ∷ (22, isFirst (f .sequence) (r .number)) ∷ []) (flown-same (at .zone))
+            ∙ ap (λ (q : Sequence). flownOutCheck g (at .zone) ∷ (22, isFirst q (r .number)) ∷ []) (s .sequence),
         refl,
         ap (λ (c : ℕ × Bool). c ∷ []) (flown-same (at .zone)),
         refl,
@@ -183,7 +185,8 @@ moved-same f g s z w = put-same (headGone f z) (headGone g z) (gone-same f g s z
 entered-same : (f g : Field) (s : Same f g) (r : Request) (z : ℕ) → Same (entered f r z) (entered g r z)
 unfolding entered fixTaken
 entered-same f g s r z =
-    let fix : fixTaken f (r .side) ≡ fixTaken g (r .side) = ap (λ (q : Sequence). cond (eqb (length (orderOf q)) 0) (r .side) (f .next)) (s .sequence) ∙ ap (λ (n : ℕ). cond (eqb (length (orderOf (g .sequence))) 0) (r .side) n) (s .next) in
+    let fix : fixTaken f (r .side) ≡ fixTaken g (r .side) =
+    ap (λ (q : Sequence). cond (eqb (length (orderOf q)) 0) (r .side) (f .next)) (s .sequence) ∙ ap (λ (n : ℕ). cond (eqb (length (orderOf (g .sequence))) 0) (r .side) n) (s .next) in
     same-sequence _ _ (put-same f g s z (ap (λ (n : ℕ). entering (r .number) n (r .amount) (r .desk)) fix)) (ap (λ (q : Sequence). appended q (r .number)) (s .sequence)) (ap opposite fix)
 
 module _ (f g : Field) (s : Same f g) (r : Request) where
@@ -217,9 +220,12 @@ module _ (f g : Field) (s : Same f g) (r : Request) where
       let a = at-same f g s finalApproach 1 in
       let x = aircraftAt f finalApproach 1 in
       let y = aircraftAt g finalApproach 1 in
-      let fix : fixAfterMiss f x ≡ fixAfterMiss g y = ap (λ (q : Sequence). cond (eqb (length (orderOf q)) 1) (x .fix) (f .next)) (s .sequence) ∙ ap (λ (n : ℕ). cond (eqb (length (orderOf (g .sequence))) 1) (x .fix) n) (s .next) ∙ ap (λ (b : Aircraft). cond (eqb (length (orderOf (g .sequence))) 1) (b .fix) (g .next)) a in
+      let fix : fixAfterMiss f x ≡ fixAfterMiss g y =
+      ap (λ (q : Sequence). cond (eqb (length (orderOf q)) 1) (x .fix) (f .next)) (s .sequence) ∙ ap (λ (n : ℕ). cond (eqb (length (orderOf (g .sequence))) 1) (x .fix) n) (s .next)
+      ∙ ap (λ (b : Aircraft). cond (eqb (length (orderOf (g .sequence))) 1) (b .fix) (g .next)) a in
       let w : missed (x .fix) ≡ missed (y .fix) = ap (λ (b : Aircraft). missed (b .fix)) a in
-      let away : turnedAway (f .legs) (missed (x .fix)) x ≡ turnedAway (g .legs) (missed (y .fix)) y = ap (λ (l : Legs). turnedAway l (missed (x .fix)) x) (s .legs) ∙ ap (λ (b : Aircraft). turnedAway (g .legs) (missed (b .fix)) b) a in
+      let away : turnedAway (f .legs) (missed (x .fix)) x ≡ turnedAway (g .legs) (missed (y .fix)) y =
+      ap (λ (l : Legs). turnedAway l (missed (x .fix)) x) (s .legs) ∙ ap (λ (b : Aircraft). turnedAway (g .legs) (missed (b .fix)) b) a in
       let before = withFix (turnedAway (f .legs) (missed (x .fix)) x) (fixAfterMiss f x) in
       let after = withFix (turnedAway (g .legs) (missed (y .fix)) y) (fixAfterMiss g y) in
       let went : before ≡ after = ap (λ (b : Aircraft). withFix b (fixAfterMiss f x)) away ∙ ap (withFix (turnedAway (g .legs) (missed (y .fix)) y)) fix in
@@ -239,7 +245,8 @@ module _ (f g : Field) (s : Same f g) (r : Request) where
   unfolding effectOf
   effect-same =
       subst (λ (z : ℕ). Same (effectFor (r .kind) f r (zoneBefore f r) (zoneAhead f r)) (effectFor (r .kind) g r z (zoneAhead g r))) (ap (λ (p : Place). p .zone) (place-same f g s (r .number)))
-      (subst (λ (l : ℕ). Same (effectFor (r .kind) f r (zoneBefore f r) (zoneAhead f r)) (effectFor (r .kind) g r (zoneBefore f r) l)) (leader-same f g s (r .number)) (each (zoneBefore f r) (zoneAhead f r)))
+      (subst (λ (l : ℕ). Same (effectFor (r .kind) f r (zoneBefore f r) (zoneAhead f r)) (effectFor (r .kind) g r (zoneBefore f r) l))
+      (leader-same f g s (r .number)) (each (zoneBefore f r) (zoneAhead f r)))
     where
       each : (z ahead : ℕ) → Same (effectFor (r .kind) f r z ahead) (effectFor (r .kind) g r z ahead)
       each z ahead =
@@ -265,7 +272,7 @@ number-same f g s r =
 
 -- ---- places, bounds and reason of the one are those of the other
 reason-same : (f g : Field) → Same f g → Reason f → Reason g
-unfolding along approachOrder areaOrder roomToMiss lateralEntry
+unfolding along approachOrder areaOrder roomToMiss lateralOrder
 reason-same f g s c =
     record {
       approach-order = subst T (ap (λ (l : List Listed). neverFalls (map (λ a. fromLanding (a .zone)) l)) same) (c .approach-order);
@@ -274,7 +281,8 @@ reason-same f g s c =
       lateral-entry = subst T (ap (λ (l : List Listed). eachAmong lateralFree [] l) same) (c .lateral-entry);
       queues-agree =
           λ z t.
-          ap (λ (h : ℕ → List Aircraft). map (λ (a : Aircraft). a .number) (h z)) (sym (queues-same f g s)) ∙ c .queues-agree z t ∙ ap (λ (l : List Listed). map (λ (a : Listed). a .number) (those (isInZone z) l)) same;
+          ap (λ (h : ℕ → List Aircraft). map (λ (a : Aircraft). a .number) (h z)) (sym (queues-same f g s))
+          ∙ c .queues-agree z t ∙ ap (λ (l : List Listed). map (λ (a : Listed). a .number) (those (isInZone z) l)) same;
     }
   where
     ordered : List Listed → ℕ → Bool

@@ -32,7 +32,7 @@ use Rattle.line.proofs.Counted.{lower, not-13, in-everywhere}
 use Rattle.questions.proofs.FindLaws.{numbers, no-place, place-at, at}
 use Rattle.line.proofs.Located.{find-at, zone-split}
 use Rattle.line.proofs.Members.{numbers-total, count-append, absent-count, count-different}
-use Rattle.reason.proofs.AlongLine.{seen}
+use Rattle.reason.proofs.AlongLine.{asListed}
 
 -- ---- arrays of four places
 
@@ -51,7 +51,9 @@ zeros (x ∷ xs) t = ap (λ (n : ℕ). n ∷ xs) (eqb→eq x 0 (and-l (eqb x 0) 
 pub sequence-is : (s : Sequence) → length (s .numbers) ≡ 4 → T (sequenceKept s) → s ≡ sequenceFor (orderOf s)
 unfolding sequenceKept orderOf
 sequence-is s e t =
-    let r = filled 0 (s .numbers) (s .length) e (leb→le (s .length) 4 (and-l (leb (s .length) 4) (every (λ n. eqb n 0) (drop (s .length) (s .numbers))) t)) (zeros (drop (s .length) (s .numbers)) (and-r (leb (s .length) 4) (every (λ n. eqb n 0) (drop (s .length) (s .numbers))) t)) in
+    let r =
+    filled 0 (s .numbers) (s .length) e (leb→le (s .length) 4 (and-l (leb (s .length) 4) (every (λ n. eqb n 0) (drop (s .length) (s .numbers))) t))
+    (zeros (drop (s .length) (s .numbers)) (and-r (leb (s .length) 4) (every (λ n. eqb n 0) (drop (s .length) (s .numbers))) t)) in
     λ i. record { numbers = r .0 i; length = r .1 i }
 
 -- thirteen zones by their numbers
@@ -63,7 +65,8 @@ zones-by d (q ∷ zs) pre =
     let r = zones-by d zs (pre ++ (q ∷ [])) in
     ap (λ (p : Zone). p ∷ zs) (sym e)
     ∙ ap (λ (l : List Zone). getD (pre ++ q ∷ zs) (length pre) d ∷ l)
-    (r ∙ ap (λ (l : List Zone). map (λ z. getD l z d) (zonesFrom (length (pre ++ (q ∷ []))) (length zs))) (append-assoc pre (q ∷ []) zs) ∙ ap (λ (k : ℕ). map (λ z. getD (pre ++ q ∷ zs) z d) (zonesFrom k (length zs))) m)
+    (r ∙ ap (λ (l : List Zone). map (λ z. getD l z d) (zonesFrom (length (pre ++ (q ∷ []))) (length zs))) (append-assoc pre (q ∷ []) zs)
+    ∙ ap (λ (k : ℕ). map (λ z. getD (pre ++ q ∷ zs) z d) (zonesFrom k (length zs))) m)
 
 pub zones-are : (f : Field) → length (f .zones) ≡ 13 → f .zones ≡ map (zoneOf f) everywhere
 unfolding zoneOf
@@ -82,7 +85,8 @@ got n pre (x ∷ xs) k i e p h =
   where
     go : (eqb (x .number) n ≡ true) ⊎ (eqb (x .number) n ≡ false) → (placeFrom (suc k) n xs ≡ i → Got n xs (getD ((pre ++ (x ∷ [])) ++ xs) i nobody)) → Got n (x ∷ xs) (getD (pre ++ x ∷ xs) i nobody)
     go (inl b) later =
-        let here : x ≡ getD (pre ++ x ∷ xs) i nobody = sym (getD-append-seam pre x xs nobody) ∙ ap (λ (j : ℕ). getD (pre ++ x ∷ xs) j nobody) (sym e ∙ sym (if-true k (placeFrom (suc k) n xs) b) ∙ p) in
+        let here : x ≡ getD (pre ++ x ∷ xs) i nobody =
+        sym (getD-append-seam pre x xs nobody) ∙ ap (λ (j : ℕ). getD (pre ++ x ∷ xs) j nobody) (sym e ∙ sym (if-true k (placeFrom (suc k) n xs) b) ∙ p) in
         subst (Got n (x ∷ xs)) here (record { named = eqb-true (x .number) n b; has = λ p t. and-l (p x) (every p xs) t })
     go (inr b) later =
         let g = later (sym (if-false k (placeFrom (suc k) n xs) b) ∙ p) in
@@ -111,7 +115,8 @@ found f n (z ∷ zs) ws e = go (decided (eqb (placeFrom 1 n (inZone f z)) 0)) (f
     here : Place
     here = at z (placeFrom 1 n (inZone f z))
 
-    go : (eqb (placeFrom 1 n (inZone f z)) 0 ≡ true) ⊎ (eqb (placeFrom 1 n (inZone f z)) 0 ≡ false) → (isIn n (numbersIn f zs) ≡ true → Found f n zs (findIn f n (zs ++ ws))) → Found f n (z ∷ zs) (cond (eqb (placeFrom 1 n (inZone f z)) 0) (findIn f n (zs ++ ws)) here)
+    go : (eqb (placeFrom 1 n (inZone f z)) 0 ≡ true) ⊎ (eqb (placeFrom 1 n (inZone f z)) 0 ≡ false)
+        → (isIn n (numbersIn f zs) ≡ true → Found f n zs (findIn f n (zs ++ ws))) → Found f n (z ∷ zs) (cond (eqb (placeFrom 1 n (inZone f z)) 0) (findIn f n (zs ++ ws)) here)
     go (inl b) later =
         let none = no-number 1 n (inZone f z) (omega arith) (eqb-true (placeFrom 1 n (inZone f z)) 0 b) in
         let i : isIn n (numbersIn f zs) ≡ true = sym (ap (λ (c : Bool). c || isIn n (numbersIn f zs)) none) ∙ sym (in-append n (numbers (inZone f z)) (numbersIn f zs)) ∙ e in
@@ -172,16 +177,17 @@ module _ (f : Field) where
   line-numbers [] t = refl
   line-numbers (n ∷ ns) t =
       let later = every (λ n. isIn n (numbersIn f operation)) ns in
-      ap (λ (m : ℕ). m ∷ numbersOf (map (lookedUp f) ns)) (found-one n (and-l (isIn n (numbersIn f operation)) later t) .named) ∙ ap (λ (l : List ℕ). n ∷ l) (line-numbers ns (and-r (isIn n (numbersIn f operation)) later t))
+      ap (λ (m : ℕ). m ∷ numbersOf (map (lookedUp f) ns)) (found-one n (and-l (isIn n (numbersIn f operation)) later t) .named)
+      ∙ ap (λ (l : List ℕ). n ∷ l) (line-numbers ns (and-r (isIn n (numbersIn f operation)) later t))
 
-  pub line-seen : (ns : List ℕ) → Named ns → map (listed f) ns ≡ map seen (map (lookedUp f) ns)
+  pub line-seen : (ns : List ℕ) → Named ns → map (listed f) ns ≡ map asListed (map (lookedUp f) ns)
   unfolding fixOf
   line-seen [] t = refl
   line-seen (n ∷ ns) t =
       let later = every (λ n. isIn n (numbersIn f operation)) ns in
       let e = found-one n (and-l (isIn n (numbersIn f operation)) later t) .named in
-      let h : listed f n ≡ seen (lookedUp f n) = λ i. record { number = sym e i; zone = placeOf f n .zone; fix = fixOf f n } in
-      ap (λ (y : Listed). y ∷ map (listed f) ns) h ∙ ap (λ (l : List Listed). seen (lookedUp f n) ∷ l) (line-seen ns (and-r (isIn n (numbersIn f operation)) later t))
+      let h : listed f n ≡ asListed (lookedUp f n) = λ i. record { number = sym e i; zone = placeOf f n .zone; fix = fixOf f n } in
+      ap (λ (y : Listed). y ∷ map (listed f) ns) h ∙ ap (λ (l : List Listed). asListed (lookedUp f n) ∷ l) (line-seen ns (and-r (isIn n (numbersIn f operation)) later t))
 
   -- ---- who stands in a queue is found there
   module _ (d : T (allDifferent (numbersIn f everywhere))) where
@@ -194,7 +200,8 @@ module _ (f : Field) where
         let n = x .number in
         let g : ℕ → ℕ = λ y. count (numbers (inZone f y)) n in
         let here : g z ≡ count (numbers pre) n + count (n ∷ numbers post) n =
-        ap (λ (q : List Aircraft). count (numbers q) n) e ∙ ap (λ (l : List ℕ). count l n) (map-append (λ (a : Aircraft). a .number) pre (x ∷ post)) ∙ count-append (numbers pre) (n ∷ numbers post) n in
+        ap (λ (q : List Aircraft). count (numbers q) n) e ∙ ap (λ (l : List ℕ). count l n) (map-append (λ (a : Aircraft). a .number) pre (x ∷ post))
+        ∙ count-append (numbers pre) (n ∷ numbers post) n in
         let one-here : one (eqb n n) ≡ 1 = if-true 1 0 (same n) in
         let all-once = once n in
         let upper = one-in-total g everywhere z (in-everywhere z t) in
@@ -237,7 +244,8 @@ module _ (f : Field) where
             go false h = h
 
 -- ---- the field is that of its line
-pub stands-for : (f : Field) (first : Side) → length (f .zones) ≡ 13 → ((z : ℕ) → T (within 1 13 z) → zoneOf f z ≡ zoneFor (inZone f z)) → ((z : ℕ) → T (within 1 12 z) → inZone f z ≡ inside z (lineOf f))
+pub stands-for : (f : Field) (first : Side) → length (f .zones) ≡ 13 → ((z : ℕ) → T (within 1 13 z) → zoneOf f z ≡ zoneFor (inZone f z))
+    → ((z : ℕ) → T (within 1 12 z) → inZone f z ≡ inside z (lineOf f))
     → f .sequence ≡ sequenceFor (numbersOf (lineOf f)) → f .next ≡ num (nextFix first (zonesIn (lineOf f))) → f ≡ fieldOf first (lineOf f) (inZone f 13) (f .legs)
 unfolding fieldOf
 stands-for f first e q i s n =

@@ -24,7 +24,7 @@ use Rattle.laws.proofs.SameQueues.{SameZone, Same, kept-empty, same-zone}
 use Rattle.line.proofs.Line.{zoneFor, queue-for, fieldBy, zone-by}
 use Rattle.line.proofs.Counted.{in-everywhere}
 use Rattle.line.proofs.Orderly.{kept-for}
-use Rattle.reason.proofs.OneStep.{four-places}
+use Rattle.reason.proofs.StaysSound.{four-places}
 use Rattle.reason.proofs.Invariant.{parts, Places, places-parts}
 
 -- the field with the same queues and with nobody past them

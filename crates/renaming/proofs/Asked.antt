@@ -105,7 +105,8 @@ module _ {π : ℕ → ℕ} (p : Renaming π) where
 
       pub leader-renamed : leaderOf (F .sequence) (π n) ≡ π (leaderOf (f .sequence) n)
       unfolding leaderOf
-      leader-renamed = ap (aheadOf 0 (π n)) (order-renamed (f .sequence)) ∙ ap (λ (k : ℕ). aheadOf k (π n) (map π (orderOf (f .sequence)))) (sym (p .zero)) ∙ ahead-renamed p 0 n (orderOf (f .sequence))
+      leader-renamed =
+          ap (aheadOf 0 (π n)) (order-renamed (f .sequence)) ∙ ap (λ (k : ℕ). aheadOf k (π n) (map π (orderOf (f .sequence)))) (sym (p .zero)) ∙ ahead-renamed p 0 n (orderOf (f .sequence))
 
     -- the leader, by its new name, is found where it was
     pub leader-zone-renamed : (n : ℕ) → leaderZone F (π n) ≡ leaderZone f n

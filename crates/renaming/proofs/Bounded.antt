@@ -76,7 +76,8 @@ module _ {π : ℕ → ℕ} (p : Renaming π) where
     exact-renamed =
         let s = orderOf (f .sequence) in
         let l = numbersIn f operation in
-        let within : (xs ys : List ℕ) → every (λ n. isIn n (map π xs)) (map π ys) ≡ every (λ n. isIn n xs) ys = λ xs ys. every-map π (λ n. isIn n (map π xs)) (λ n. isIn n xs) (λ n. in-renamed p n xs) ys in
+        let within : (xs ys : List ℕ) → every (λ n. isIn n (map π xs)) (map π ys) ≡ every (λ n. isIn n xs) ys =
+        λ xs ys. every-map π (λ n. isIn n (map π xs)) (λ n. isIn n xs) (λ n. in-renamed p n xs) ys in
         ap (λ (ns : List ℕ). exact ns (numbersIn F operation)) (order-renamed p (f .sequence))
         ∙ ap (exact (map π s)) (numbers-renamed p f operation)
         ∙ ap (λ (b : Bool). b && every (λ n. isIn n (map π l)) (map π s) && every (λ n. isIn n (map π s)) (map π l)) (different-renamed p s)

@@ -102,7 +102,8 @@ module _ {π : ℕ → ℕ} (p : Renaming π) where
     approached-renamed z ahead =
         let may : (mayApproach (G .sequence) (π (r .number)) ahead && baseFree G (sideOf z)) ≡ (mayApproach (f .sequence) (r .number) ahead && baseFree f (sideOf z)) =
         λ i. may-approach-renamed p f (r .number) ahead i && base-renamed p f (sideOf z) i in
-        by-test (renamedField π) {b = within 5 6 z} refl (by-test (renamedField π) may (moved-renamed f z (base (sideOf z))) (moved-renamed f z (at2000 (sideOf z)))) (moved-renamed f z (base (sideOf z)))
+        by-test (renamedField π) {b = within 5 6 z} refl (by-test (renamedField π) may (moved-renamed f z (base (sideOf z))) (moved-renamed f z (at2000 (sideOf z))))
+        (moved-renamed f z (base (sideOf z)))
 
     landed-renamed : landed G R ≡ renamedField π (landed f r)
     unfolding landed
@@ -120,7 +121,8 @@ module _ {π : ℕ → ℕ} (p : Renaming π) where
         let w = missed (a .fix) in
         let fix = fixAfterMiss f a in
         let b = withFix (turnedAway (f .legs) w a) fix in
-        let s : appended (removed (G .sequence) (π n)) (π n) ≡ renamedSequence π (appended (removed (f .sequence) n) n) = ap (λ (t : Sequence). appended t (π n)) (removed-renamed p (f .sequence) n) ∙ appended-renamed p (removed (f .sequence) n) n in
+        let s : appended (removed (G .sequence) (π n)) (π n) ≡ renamedSequence π (appended (removed (f .sequence) n) n) =
+        ap (λ (t : Sequence). appended t (π n)) (removed-renamed p (f .sequence) n) ∙ appended-renamed p (removed (f .sequence) n) n in
         ap (λ (x : Aircraft). missing x (fixAfterMiss G x)) (at-renamed p f finalApproach 1)
         ∙ ap (missing (renamedAircraft π a)) (after-miss-renamed f a)
         ∙ ap (λ (g : Field). withSequence (tailPut g w (renamedAircraft π b)) (appended (removed (G .sequence) (π n)) (π n)) (opposite fix)) (gone-renamed f finalApproach)

@@ -79,7 +79,8 @@ module _ {π : ℕ → ℕ} (p : Renaming π) where
 
   ticked-from-renamed : (amount z : ℕ) (qs : List Zone) → tickedFrom amount z (map (renamedZone π) qs) ≡ map (renamedZone π) (tickedFrom amount z qs)
   ticked-from-renamed amount z [] = refl
-  ticked-from-renamed amount z (q ∷ qs) = λ i. either-made (renamedZone π) (isFlyingZone z) {x = tickedZone amount q} {y = q} (ticked-zone-renamed amount q) refl i ∷ ticked-from-renamed amount (suc z) qs i
+  ticked-from-renamed amount z (q ∷ qs) =
+      λ i. either-made (renamedZone π) (isFlyingZone z) {x = tickedZone amount q} {y = q} (ticked-zone-renamed amount q) refl i ∷ ticked-from-renamed amount (suc z) qs i
 
   pub ticked-renamed : (f : Field) (amount : ℕ) → ticked (renamedField π f) amount ≡ renamedField π (ticked f amount)
   unfolding ticked

@@ -42,7 +42,8 @@ module _ {π : ℕ → ℕ} (p : Renaming π) where
   shown-at-renamed : (f : Field) (desk z place : ℕ) → shownTo desk (aircraftAt (renamedField π f) z place) ≡ π (shownTo desk (aircraftAt f z place))
   shown-at-renamed f desk z place = ap (shownTo desk) (at-renamed p f z place) ∙ shown-renamed desk (aircraftAt f z place)
 
-  acceptance-renamed : (f : Field) (at ahead : Place) (r : Request) (along : ℕ) → acceptance (renamedField π f) at ahead (renamedRequest π r) (π along) ≡ renamedAnswer π (acceptance f at ahead r along)
+  acceptance-renamed : (f : Field) (at ahead : Place) (r : Request) (along : ℕ)
+      → acceptance (renamedField π f) at ahead (renamedRequest π r) (π along) ≡ renamedAnswer π (acceptance f at ahead r along)
   unfolding acceptance
   acceptance-renamed f at ahead r along = rw (at-renamed p f (at .zone) (at .place), shown-at-renamed f (r .desk) (ahead .zone) (ahead .place)) refl
 

@@ -1,5 +1,5 @@
--- What the contracts of `src/` cite: a request's parts from its bytes, the rule of each kind, and refusals 31 and 1 to 4.
--- Definitions only.
+-- What the contracts of `src/` cite: a request's parts from its bytes, the rule of each kind (01, "The requests"), and refusals 31 (02, 2.10) and 1 to 4
+-- (01, "Turned away by the request or the file"). Definitions only.
 use Prim.Native.Nat.{ℕ, _+_, _*_}
 use mathlib.Core.List.{List, [], _∷_}
 use mathlib.Core.Bool.{Bool, cond, not, _&&_, _||_}
@@ -10,11 +10,12 @@ use Rattle.request.specs.declared.Request.{Request}
 use Rattle.request.specs.declared.Range.{Range}
 use Rattle.request.specs.declared.KindRule.{KindRule}
 
--- "numbers little-endian": a number of 16 bits
+-- a number of 16 bits by its two bytes, the low one first (01, "The practice file")
 abbrev pub word : ℕ → ℕ → ℕ
 word low high = low + 256 * high
 
--- "A request is a kind byte, a side byte, a number and an amount (16 bits each)"; what a practice file holds is asked by desk 1 (02, 2.10)
+-- the request that six bytes hold: one for the kind, one for the side, two for the number and two for the amount; what a practice file holds is asked by
+-- desk 1 (02, 2.10)
 abbrev pub requestOf : List ℕ → Request
 requestOf bytes = record {
   kind = getD bytes 0 0;
@@ -24,11 +25,15 @@ requestOf bytes = record {
   desk = 1;
 }
 
+-- a request as a desk asks it
+abbrev pub fromDesk : ℕ → Request → Request
+fromDesk desk r = record { kind = r .kind; side = r .side; number = r .number; amount = r .amount; desk = desk }
+
 -- n is from low to high
 abbrev pub within : ℕ → ℕ → ℕ → Bool
 within low high n = leb low n && leb n high
 
--- "Checked in this order": the first number whose test fails, or 0
+-- the first number whose test fails, or 0 where none does
 abbrev pub firstRefused : List (ℕ × Bool) → ℕ
 firstRefused [] = 0
 firstRefused ((number, test) ∷ rest) = cond test (firstRefused rest) number
@@ -49,38 +54,37 @@ range low high = (low, high)
 abbrev pub inRange : Range → ℕ → Bool
 inRange r n = within (r .0) (r .1) n
 
--- the zones that each kind starts from: "1, 2 holding at 3000 feet (right, left); 3, 4 holding at 2000 feet; 5, 6 lateral entry;
--- 7, 8 missed approach; 9, 10 base; 11 intermediate; 12 final; 13 runway"; none for an entry and a tick
+-- the zones that each kind starts from (01, "The boxes" and "The requests"); none for an entry and a tick
 abbrev pub startingZones : ℕ → Range
 startingZones kind =
-    -- "3 descend, 3000 to 2000"
+    -- descend: the holdings at 3000
     cond (eqb kind 3) (range 1 2)
-    -- "4 approach, from 2000 or lateral"
+    -- approach: the holdings at 2000 and the lateral zones
     (cond (eqb kind 4) (range 3 6)
-    -- "5 merge, base to intermediate"
+    -- merge: the bases
     (cond (eqb kind 5) (range 9 10)
-    -- "6 intermediate to final", "9 exit, intermediate to 0"
+    -- to final, and exit: intermediate
     (cond (eqb kind 6 || eqb kind 9) (range 11 11)
-    -- "7 land, final to an empty runway", "10 miss, from final"
+    -- land and miss: final
     (cond (eqb kind 7 || eqb kind 10) (range 12 12)
-    -- "8 taxi, runway to 0"
+    -- taxi: the runway
     (cond (eqb kind 8) (range 13 13)
-    -- "11 hold, from the missed zone"
+    -- hold: the missed zones
     (cond (eqb kind 11) (range 7 8) (range 1 0)))))))
 
 -- the rule of each kind: what refusals 1 to 4 and 13 ask of a request of this kind
 abbrev pub ruleOf : ℕ → KindRule
 ruleOf kind =
     record {
-      -- "1 kind not 1 to 12"
+      -- 1: it is one of the twelve kinds
       known = within 1 12 kind;
-      -- "2 side: kinds 1, 2 need 1 or 2, others 0"
+      -- 2: an entry names a side, any other kind 0
       sides = cond (isEntry kind) (range 1 2) (range 0 0);
-      -- "an aircraft is meant (kinds 1 to 11)"
+      -- 3: every kind but a tick names an aircraft
       aircraft = not (isTick kind);
-      -- "4 amount: speed 1 to 512 for kinds 1, 2; 1 to 64 for a tick; else 0"
+      -- 4: an entry has a speed, a tick its 64ths of a minute, any other kind 0
       amounts = cond (isEntry kind) (range 1 fastest) (cond (isTick kind) (range 1 longestTick) (range 0 0));
-      -- "13 not in a zone the kind starts from"
+      -- 13: the zones that the kind starts from
       zones = startingZones kind;
     }
 
@@ -96,7 +100,7 @@ kindAllowed r = ruleOf (r .kind) .known
 unfoldable pub sideAllowed : Request → Bool
 sideAllowed r = inRange (ruleOf (r .kind) .sides) (r .side)
 
--- "3 number: 0 where an aircraft is meant (kinds 1 to 11), or not 0 in a tick"
+-- 3: a number that is not 0 where the kind names an aircraft, and that is 0 where it does not
 unfoldable pub numberAllowed : Request → Bool
 numberAllowed r = cond (ruleOf (r .kind) .aircraft) (not (eqb (r .number) 0)) (eqb (r .number) 0)
 
@@ -104,6 +108,6 @@ numberAllowed r = cond (ruleOf (r .kind) .aircraft) (not (eqb (r .number) 0)) (e
 unfoldable pub amountAllowed : Request → Bool
 amountAllowed r = inRange (ruleOf (r .kind) .amounts) (r .amount)
 
--- "Turned away by the request": 0, or the first of 31, "first of all" (02, 2.10), and of 1 to 4 that applies
+-- the number that refuses a request by itself: 31 before the others (02, 2.10), then 1 to 4 in order; 0 where none does
 unfoldable pub inputNumber : Request → ℕ
 inputNumber r = firstRefused ((31, deskAllowed r) ∷ (1, kindAllowed r) ∷ (2, sideAllowed r) ∷ (3, numberAllowed r) ∷ (4, amountAllowed r) ∷ [])

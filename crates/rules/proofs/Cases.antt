@@ -1,4 +1,5 @@
--- The marked cases of "Played by hand", the examples of docs/WHY-SAFE.md, the exits, the entries, the holds after a miss and the two desks hold of the definitions, by one computation. Assumes nothing.
+-- The marked cases of document 01, "Played by hand", the examples of docs/WHY-SAFE.md, the exits, the entries, the holds after a miss and the two desks hold
+-- of the definitions, by one computation. Assumes nothing.
 use mathlib.Core.Path.{refl}
 use lib.Dec.{T}
 use lib.Ieee.{neg, add, sub, mul, div, ofInt, round, lt, le, eq}
@@ -14,7 +15,7 @@ use Rattle.field.specs.Edits.{withoutHead, withTail, appended, removed, withZon
 use Rattle.tick.specs.Tick.{tickedAircraft, tickedZone, ticked}
 use Rattle.rules.specs.Kinds.{startsFrom, mayApproach, baseFree, mayMerge, headGone, tailPut, moved, outOfSequence, fixTaken, entered, madeRoom, enteredAbove, approached, landed, exited, fixAfterMiss, missedApproach, held, belongsTo, shownTo, shownAt3000}
 use Rattle.rules.specs.Step.{checksOf, effectOf, numberOf, numberAndZeros, acceptance, answerOf, stepOf}
-use Rattle.rules.specs.Reason.{along, approachOrder, areaOrder, roomToMiss, lateralEntry, QueueAgrees}
+use Rattle.rules.specs.Reason.{along, approachOrder, areaOrder, roomToMiss, lateralOrder, QueueAgrees}
 use Rattle.rules.specs.Cases.{marked, caseHolds}
 use Rattle.rules.specs.Examples.{examples, exits, entries, earlyMisses, twoDesks, onePlace, entryOfEight, JudgedAfterBoth, crowded, missOfSeven, BoundsNotEnough, stuck, NobodyMoves}
 use Rattle.field.proofs.Tests.{each-operation}
@@ -29,7 +30,7 @@ unfolding
     startsFrom mayApproach baseFree mayMerge headGone tailPut moved
     outOfSequence fixTaken entered madeRoom enteredAbove approached landed exited fixAfterMiss missedApproach held belongsTo shownTo shownAt3000 checksOf effectOf numberOf numberAndZeros acceptance
     answerOf stepOf
-    neg add sub mul div ofInt round lt le eq along approachOrder areaOrder roomToMiss lateralEntry
+    neg add sub mul div ofInt round lt le eq along approachOrder areaOrder roomToMiss lateralOrder
 computed = (
   tt,
   tt,
@@ -72,7 +73,7 @@ early-misses-hold = computed .4
 pub two-desks-hold : T (every caseHolds twoDesks)
 two-desks-hold = computed .5
 
--- 25 is judged on the field after both moves of an entry
+-- 25 judges the field after the second move of an entry
 pub judged-after-both : JudgedAfterBoth onePlace entryOfEight
 judged-after-both = computed .6
 

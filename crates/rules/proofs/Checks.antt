@@ -163,7 +163,8 @@ pub checks-numbered : (f : Field) (r : Request) → T (numberedBy needNumbers (c
 unfolding checksOf
 checks-numbered f r =
     numbered-append needNumbers (presenceChecks (r .kind) (placeBefore f r) (owned f r)) (besides f r (r .kind)) (presence-numbered (r .kind) (placeBefore f r) (owned f r))
-    (by-kind (λ (cs : List (ℕ × Bool)). T (numberedBy needNumbers cs)) (r .kind) ((λ e. tt), (λ e. tt), (λ e. tt), (λ e. tt), (λ e. tt), (λ e. tt), (λ e. tt), (λ e. tt), (λ e. tt), (λ e. tt), (λ e. tt), tt))
+    (by-kind (λ (cs : List (ℕ × Bool)). T (numberedBy needNumbers cs)) (r .kind)
+    ((λ e. tt), (λ e. tt), (λ e. tt), (λ e. tt), (λ e. tt), (λ e. tt), (λ e. tt), (λ e. tt), (λ e. tt), (λ e. tt), (λ e. tt), tt))
 
 -- so each of them refuses
 numbered-refuses : (cs : List (ℕ × Bool)) → T (numberedBy needNumbers cs) → Numbered cs

@@ -16,7 +16,7 @@ use Rattle.field.proofs.Tests.{pass, if-true, if-false}
 use Rattle.rules.proofs.Checks.{first-passes, both-pass, refused-append, checks-refuse}
 use Rattle.rules.proofs.StepLaws.{number-is, input-of, field-accepted, field-refused}
 
--- a refusal answers its number and zeros, and the field is the one handed in
+-- a refusal has no answer but its number, and leaves the field as it was
 pub refused-unchanged : (f : Field) (r : Request) → (stepOf f r .answer .number ≡ 0 → ⊥) → Unchanged f r
 unfolding stepOf
 refused-unchanged f r h =

@@ -23,21 +23,25 @@ answer-number f r = either-way (λ (a : Answer). a .number ≡ 0) (eqb (r .kind)
 pub number-is : (f : Field) (r : Request) → stepOf f r .answer .number ≡ numberOf f r
 unfolding stepOf numberAndZeros
 number-is f r =
-    either-way (λ (s : Stepped). s .answer .number ≡ numberOf f r) (eqb (numberOf f r) 0) (record { answer = answerOf f r; field = effectOf f r }) (record { answer = numberAndZeros (numberOf f r); field = f })
+    either-way (λ (s : Stepped). s .answer .number ≡ numberOf f r) (eqb (numberOf f r) 0)
+    (record { answer = answerOf f r; field = effectOf f r }) (record { answer = numberAndZeros (numberOf f r); field = f })
     (λ e. answer-number f r ∙ sym (eqb-true (numberOf f r) 0 e))
     (λ e. refl)
 
 pub field-accepted : (f : Field) (r : Request) → numberOf f r ≡ 0 → stepOf f r .field ≡ effectOf f r
 unfolding stepOf
-field-accepted f r e = ap (λ (s : Stepped). s .field) (if-true (record { answer = answerOf f r; field = effectOf f r }) (record { answer = numberAndZeros (numberOf f r); field = f }) (eq-eqb (numberOf f r) 0 e))
+field-accepted f r e =
+    ap (λ (s : Stepped). s .field) (if-true (record { answer = answerOf f r; field = effectOf f r }) (record { answer = numberAndZeros (numberOf f r); field = f }) (eq-eqb (numberOf f r) 0 e))
 
 pub answer-accepted : (f : Field) (r : Request) → numberOf f r ≡ 0 → stepOf f r .answer ≡ answerOf f r
 unfolding stepOf
-answer-accepted f r e = ap (λ (s : Stepped). s .answer) (if-true (record { answer = answerOf f r; field = effectOf f r }) (record { answer = numberAndZeros (numberOf f r); field = f }) (eq-eqb (numberOf f r) 0 e))
+answer-accepted f r e =
+    ap (λ (s : Stepped). s .answer) (if-true (record { answer = answerOf f r; field = effectOf f r }) (record { answer = numberAndZeros (numberOf f r); field = f }) (eq-eqb (numberOf f r) 0 e))
 
 pub field-refused : (f : Field) (r : Request) → (numberOf f r ≡ 0 → ⊥) → stepOf f r .field ≡ f
 unfolding stepOf
-field-refused f r e = ap (λ (s : Stepped). s .field) (if-false (record { answer = answerOf f r; field = effectOf f r }) (record { answer = numberAndZeros (numberOf f r); field = f }) (ne-eqb (numberOf f r) 0 e))
+field-refused f r e =
+    ap (λ (s : Stepped). s .field) (if-false (record { answer = answerOf f r; field = effectOf f r }) (record { answer = numberAndZeros (numberOf f r); field = f }) (ne-eqb (numberOf f r) 0 e))
 
 -- the zone that an accepted request but a tick answers: where its aircraft is afterwards
 pub zone-answered : (f : Field) (r : Request) → numberOf f r ≡ 0 → (r .kind ≡ 12 → ⊥) → stepOf f r .answer .zone ≡ placeOf (effectOf f r) (r .number) .zone
@@ -48,4 +52,5 @@ zone-answered f r e k =
 -- an accepted request passes the input rules
 pub input-of : (f : Field) (r : Request) → numberOf f r ≡ 0 → inputNumber r ≡ 0
 unfolding numberOf
-input-of f r h = elim (decided (eqb (inputNumber r) 0)) [ inl e ↦ eqb-true (inputNumber r) 0 e | inr e ↦ sym (if-false (firstRefused ((10, withinBounds f) ∷ checksOf f r ++ ((25, withinBounds (effectOf f r)) ∷ []))) (inputNumber r) e) ∙ h ]
+input-of f r h =
+    elim (decided (eqb (inputNumber r) 0)) [ inl e ↦ eqb-true (inputNumber r) 0 e | inr e ↦ sym (if-false (firstRefused ((10, withinBounds f) ∷ checksOf f r ++ ((25, withinBounds (effectOf f r)) ∷ []))) (inputNumber r) e) ∙ h ]

@@ -1,5 +1,5 @@
 -- Document 01, "Played by hand": the marked cases, each a list of requests from the empty field, with the answer to the last of them
--- and, where the paper says more, a test of the field after it.
+-- and, where the document says more, a test of the field after it.
 use mathlib.Core.Bool.{Bool, true, false, _&&_}
 use mathlib.Core.List.{List, [], _∷_}
 use Prim.Native.Nat.{ℕ}
@@ -26,6 +26,7 @@ says aircraft zone fix leader along = record { number = 0; aircraft = aircraft; 
 abbrev pub allLegs : ℕ → Legs
 allLegs k = legsIn64ths k k k k
 
+-- a case: the length of all four legs in 64ths of a mile, the requests, the answer to the last of them, and a test of the field after it
 pub record Case : Type 0 where
   pub leg : ℕ
   pub requests : List Request
@@ -33,21 +34,27 @@ pub record Case : Type 0 where
   pub after : Field → Bool
 
 -- ---- tests of the field
+
+-- none
 abbrev pub anyField : Field → Bool
 anyField f = true
 
+-- whether two lists of numbers are the same
 abbrev pub sameNumbers : List ℕ → List ℕ → Bool
 sameNumbers [] [] = true
 sameNumbers [] (n ∷ ns) = false
 sameNumbers (m ∷ ms) [] = false
 sameNumbers (m ∷ ms) (n ∷ ns) = eqb m n && sameNumbers ms ns
 
+-- whether the landing sequence is this list
 abbrev pub inOrder : List ℕ → Field → Bool
 inOrder ns f = sameNumbers (orderOf (f .sequence)) ns
 
-abbrev pub stands : ℕ → ℕ → Field → Bool
-stands number zone f = eqb (placeOf f number .zone) zone
+-- whether the one with a number is in a zone
+abbrev pub standsIn : ℕ → ℕ → Field → Bool
+standsIn number zone f = eqb (placeOf f number .zone) zone
 
+-- whether the head of a zone has flown so many miles
 abbrev pub hasFlown : ℕ → ℕ → Field → Bool
 hasFlown zone miles f = flownOut (aircraftAt f zone 1 .progress) (whole miles)
 
@@ -61,52 +68,53 @@ toBase n rest = ask 3 0 n 0 ∷ ask 4 0 n 0 ∷ rest
 abbrev pub toFinal : ℕ → List Request → List Request
 toFinal n rest = ask 12 0 0 64 ∷ ask 5 0 n 0 ∷ ask 12 0 0 64 ∷ ask 6 0 n 0 ∷ rest
 
+-- the marked cases, in the order of the document
 abbrev pub marked : List Case
 marked =
-    -- "Empty field, vertical right: zone 1, fix 1."
+    -- a vertical entry on the empty field takes its own side as fix
     record { leg = 64; requests = ask 1 1 7 64 ∷ []; answer = says 7 1 1 0 0; after = anyField }
-    -- "A second aircraft to the right", accepted since (02, 2.5): the first descends, in `along`
-    ∷ record { leg = 64; requests = ask 1 1 7 64 ∷ ask 1 1 8 64 ∷ []; answer = says 8 1 2 7 7; after = λ f. inOrder (7 ∷ 8 ∷ []) f && stands 7 3 f }
-    -- "Left instead: zone 2, fix 2, leader the first."
+    -- another on that side is let in since 2.5 (02): the first descends, and is in `along`
+    ∷ record { leg = 64; requests = ask 1 1 7 64 ∷ ask 1 1 8 64 ∷ []; answer = says 8 1 2 7 7; after = λ f. inOrder (7 ∷ 8 ∷ []) f && standsIn 7 3 f }
+    -- another on the left takes the next fix, and has the first as its leader
     ∷ record { leg = 64; requests = ask 1 1 7 64 ∷ ask 1 2 8 64 ∷ []; answer = says 8 2 2 7 0; after = anyField }
-    -- "Same number again: 11."
+    -- another with the number of the first: 11
     ∷ record { leg = 64; requests = ask 1 1 7 64 ∷ ask 1 2 7 64 ∷ []; answer = numberAndZeros 11; after = anyField }
-    -- "Lateral right on empty: zone 5."
+    -- a lateral entry on the empty field
     ∷ record { leg = 64; requests = ask 2 1 7 64 ∷ []; answer = says 7 5 1 0 0; after = anyField }
-    -- "Vertical right after it: 19; lateral right after it: 16."
+    -- beside it, a vertical entry on that side is answered 19, and a lateral one 16
     ∷ record { leg = 64; requests = ask 2 1 7 64 ∷ ask 1 1 8 64 ∷ []; answer = numberAndZeros 19; after = anyField }
     ∷ record { leg = 64; requests = ask 2 1 7 64 ∷ ask 2 1 8 64 ∷ []; answer = numberAndZeros 16; after = anyField }
-    -- "Its approach when alone: zone 9."
+    -- the approach of one that entered laterally and has nobody ahead
     ∷ record { leg = 64; requests = ask 2 1 7 64 ∷ ask 4 0 7 0 ∷ []; answer = says 7 9 1 0 0; after = anyField }
-    -- "Alone on final, fix 1, miss: zone 7, fix 1."
+    -- one that is alone and misses keeps its fix
     ∷ record {
       leg = 64;
       requests = ask 1 1 7 64 ∷ toBase 7 (toFinal 7 (ask 10 0 7 0 ∷ []));
       answer = says 7 7 1 0 0;
       after = anyField;
     }
-    -- "Two in sequence, fixes 1, 2, the first misses: zone 7, fix 1 and last."
+    -- the first of two misses: it goes to the right, its old fix, takes the next fix, which is right again, and is last
     ∷ record {
       leg = 64;
       requests = ask 1 1 7 64 ∷ ask 1 2 8 64 ∷ toBase 7 (toFinal 7 (ask 10 0 7 0 ∷ []));
       answer = says 7 7 1 8 0;
       after = inOrder (8 ∷ 7 ∷ []);
     }
-    -- "Hold with 3000 taken and 2000 free: both move, `along` set.": 7 misses at the start of final, and has both legs ahead (02, 2.7)
+    -- a hold where somebody is at 3000 moves both: 7 misses at the start of final, and has both legs ahead (02, 2.7)
     ∷ record {
       leg = 64;
       requests = ask 1 1 7 64 ∷ ask 3 0 7 0 ∷ ask 1 1 8 64 ∷ ask 4 0 7 0 ∷ toFinal 7 (ask 10 0 7 0 ∷ ask 12 0 0 64 ∷ ask 12 0 0 64 ∷ ask 11 0 7 0 ∷ []);
       answer = says 7 1 1 8 8;
-      after = λ f. stands 7 1 f && stands 8 3 f;
+      after = λ f. standsIn 7 1 f && standsIn 8 3 f;
     }
-    -- "Three in sequence: first and second on base left, third at 2000 right, approach: 23."
+    -- an approach from the right where two are on base left: 23
     ∷ record {
       leg = 64;
       requests = ask 1 2 7 64 ∷ ask 3 0 7 0 ∷ ask 1 2 8 64 ∷ ask 4 0 7 0 ∷ ask 1 1 9 64 ∷ toBase 8 (toBase 9 []);
       answer = numberAndZeros 23;
-      after = λ f. inOrder (7 ∷ 8 ∷ 9 ∷ []) f && stands 7 10 f && stands 8 10 f && stands 9 3 f;
+      after = λ f. inOrder (7 ∷ 8 ∷ 9 ∷ []) f && standsIn 7 10 f && standsIn 8 10 f && standsIn 9 3 f;
     }
-    -- "Speed 512, tick 64, leg 4096: 8 miles."
+    -- the highest speed and the longest tick give 8 miles on the longest leg
     ∷ record {
       leg = 4096;
       requests = ask 1 1 7 512 ∷ toBase 7 (ask 12 0 0 64 ∷ []);
@@ -117,6 +125,7 @@ marked =
 
 -- ---- the test of the table
 
+-- whether two answers are the same
 abbrev pub sameAnswer : Answer → Answer → Bool
 sameAnswer a b =
     eqb (a .number) (b .number) && eqb (a .aircraft) (b .aircraft) && eqb (a .zone) (b .zone) && eqb (a .fix) (b .fix)
@@ -128,6 +137,7 @@ endsWith a [] = false
 endsWith a (p ∷ []) = sameAnswer (p .1) a
 endsWith a (p ∷ q ∷ ps) = endsWith a (q ∷ ps)
 
+-- whether the requests of a case are answered so, and its field passes the test
 abbrev pub caseHolds : Case → Bool
 caseHolds c =
     endsWith (c .answer) (played (emptyField (allLegs (c .leg))) (c .requests))

@@ -7,7 +7,7 @@ use mathlib.Core.List.{List, [], _∷_}
 use Prim.Native.Nat.{ℕ}
 use lib.Dec.{T, eqb}
 use lib.ListN.{replicate}
-use Rattle.request.specs.Input.{within}
+use Rattle.request.specs.Input.{within, fromDesk}
 use Rattle.request.specs.declared.Request.{Request}
 use Rattle.field.specs.declared.Aircraft.{Aircraft}
 use Rattle.field.specs.declared.Zone.{Zone}
@@ -19,8 +19,8 @@ use Rattle.questions.specs.Find.{aircraftAt}
 use Rattle.bounds.specs.Bounds.{withinBounds}
 use Rattle.rules.specs.Kinds.{madeRoom}
 use Rattle.rules.specs.Step.{numberAndZeros, stepOf}
-use Rattle.rules.specs.Cases.{ask, says, allLegs, Case, anyField, inOrder, stands, hasFlown, toBase, toFinal}
-use Rattle.rules.specs.Reason.{approachOrder, areaOrder, roomToMiss, lateralEntry, QueueAgrees}
+use Rattle.rules.specs.Cases.{ask, says, allLegs, Case, anyField, inOrder, standsIn, hasFlown, toBase, toFinal}
+use Rattle.rules.specs.Reason.{approachOrder, areaOrder, roomToMiss, lateralOrder, QueueAgrees}
 
 -- ---- three aircraft
 
@@ -36,6 +36,7 @@ oneEach rest = ask 1 1 7 64 ∷ ask 1 2 8 64 ∷ rest
 abbrev pub bothToBase : List Request → List Request
 bothToBase rest = oneEach (toBase 7 (toBase 8 rest))
 
+-- what becomes of the three: a miss, an entry before it, a landing, and a merge that must wait
 abbrev pub examples : List Case
 examples =
     -- 7 misses: to the right, its old fix, with the next fix, 2, and last; now each of the three has one behind it in the area of its fix,
@@ -44,7 +45,7 @@ examples =
       leg = 64;
       requests = sevenOnFinal (ask 10 0 7 0 ∷ []);
       answer = says 7 7 2 9 0;
-      after = λ f. inOrder (8 ∷ 9 ∷ 7 ∷ []) f && stands 8 4 f && stands 9 2 f && roomToMiss f;
+      after = λ f. inOrder (8 ∷ 9 ∷ 7 ∷ []) f && standsIn 8 4 f && standsIn 9 2 f && roomToMiss f;
     }
     -- before that nobody may enter right: 7 and 9 have that fix
     ∷ record { leg = 64; requests = sevenOnFinal (ask 1 1 10 64 ∷ []); answer = numberAndZeros 16; after = anyField }
@@ -64,10 +65,11 @@ toIntermediate rest = ask 1 1 7 64 ∷ toBase 7 (ask 5 0 7 0 ∷ ask 12 0 0 64 �
 abbrev pub eightBehind : List Request → List Request
 eightBehind rest = bothToBase (toFinal 7 (ask 5 0 8 0 ∷ rest))
 
+-- exits, in the order of their refusals
 abbrev pub exits : List Case
 exits =
     -- at the start of the leg: 15, which ends the session as (02, 2.3) gives it
-    record { leg = 64; requests = toIntermediate (ask 9 0 7 0 ∷ []); answer = numberAndZeros 15; after = stands 7 11 }
+    record { leg = 64; requests = toIntermediate (ask 9 0 7 0 ∷ []); answer = numberAndZeros 15; after = standsIn 7 11 }
     -- at its end: gone
     ∷ record { leg = 64; requests = toIntermediate (ask 12 0 0 64 ∷ ask 9 0 7 0 ∷ []); answer = says 7 0 0 0 0; after = inOrder [] }
     -- behind another on intermediate, where nobody has flown the leg out: 14 comes before 15
@@ -84,6 +86,7 @@ exits =
 
 -- ---- entries beside an occupied 3000
 
+-- the entry in one step and in two, and one that is refused
 abbrev pub entries : List Case
 entries =
     -- 9 to the right: 7 descends and keeps its place in the sequence
@@ -91,17 +94,17 @@ entries =
       leg = 64;
       requests = oneEach (ask 1 1 9 64 ∷ []);
       answer = says 9 1 1 8 7;
-      after = λ f. inOrder (7 ∷ 8 ∷ 9 ∷ []) f && stands 7 3 f && stands 9 1 f;
+      after = λ f. inOrder (7 ∷ 8 ∷ 9 ∷ []) f && standsIn 7 3 f && standsIn 9 1 f;
     }
     -- the same in two steps, 7 having descended: nobody in `along`
     ∷ record {
       leg = 64;
       requests = oneEach (ask 3 0 7 0 ∷ ask 1 1 9 64 ∷ []);
       answer = says 9 1 1 8 0;
-      after = λ f. inOrder (7 ∷ 8 ∷ 9 ∷ []) f && stands 7 3 f && stands 9 1 f;
+      after = λ f. inOrder (7 ∷ 8 ∷ 9 ∷ []) f && standsIn 7 3 f && standsIn 9 1 f;
     }
     -- with both holdings of the side occupied 16 comes before 20
-    ∷ record { leg = 64; requests = oneEach (ask 1 1 9 64 ∷ ask 1 1 10 64 ∷ []); answer = numberAndZeros 16; after = stands 7 3 }
+    ∷ record { leg = 64; requests = oneEach (ask 1 1 9 64 ∷ ask 1 1 10 64 ∷ []); answer = numberAndZeros 16; after = standsIn 7 3 }
     ∷ []
 
 -- ---- holds after a miss on the way
@@ -110,27 +113,25 @@ entries =
 abbrev pub missAfter : ℕ → List Request → List Request
 missAfter amount rest = ask 1 1 7 64 ∷ toBase 7 (toFinal 7 (ask 12 0 0 amount ∷ ask 10 0 7 0 ∷ rest))
 
+-- how long a hold must wait after a miss, by what was left of final
 abbrev pub earlyMisses : List Case
 earlyMisses =
     -- half a mile of final is left: with the missed leg a mile and a half is ahead, and after a mile a hold is too early
     record { leg = 64; requests = missAfter 32 (ask 12 0 0 64 ∷ ask 11 0 7 0 ∷ []); answer = numberAndZeros 15; after = hasFlown 7 1 }
-    ∷ record { leg = 64; requests = missAfter 32 (ask 12 0 0 64 ∷ ask 12 0 0 32 ∷ ask 11 0 7 0 ∷ []); answer = says 7 3 1 0 0; after = stands 7 3 }
+    ∷ record { leg = 64; requests = missAfter 32 (ask 12 0 0 64 ∷ ask 12 0 0 32 ∷ ask 11 0 7 0 ∷ []); answer = says 7 3 1 0 0; after = standsIn 7 3 }
     -- three quarters of it are left
     ∷ record { leg = 64; requests = missAfter 16 (ask 12 0 0 64 ∷ ask 12 0 0 32 ∷ ask 11 0 7 0 ∷ []); answer = numberAndZeros 15; after = anyField }
     -- at its end nothing is left: the missed leg alone is ahead
-    ∷ record { leg = 64; requests = missAfter 64 (ask 12 0 0 64 ∷ ask 11 0 7 0 ∷ []); answer = says 7 3 1 0 0; after = stands 7 3 }
+    ∷ record { leg = 64; requests = missAfter 64 (ask 12 0 0 64 ∷ ask 11 0 7 0 ∷ []); answer = says 7 3 1 0 0; after = standsIn 7 3 }
     ∷ []
 
 -- ---- two desks
-
--- a request as another desk asks it
-abbrev pub fromDesk : ℕ → Request → Request
-fromDesk desk r = record { kind = r .kind; side = r .side; number = r .number; amount = r .amount; desk = desk }
 
 -- who belongs to which desk: the head of a zone
 abbrev pub headIsOf : ℕ → ℕ → Field → Bool
 headIsOf desk zone f = eqb (aircraftAt f zone 1 .desk) desk
 
+-- what a desk is refused and shown where the other has aircraft
 abbrev pub twoDesks : List Case
 twoDesks =
     -- 31 before anything else, of no desk and of a third one
@@ -138,19 +139,19 @@ twoDesks =
     ∷ record { leg = 64; requests = fromDesk 3 (ask 12 0 0 64) ∷ []; answer = numberAndZeros 31; after = anyField }
     -- 12 before 26 and 26 before 13, of aircraft 7 that desk 1 let in
     ∷ record { leg = 64; requests = ask 1 1 7 64 ∷ fromDesk 2 (ask 4 0 8 0) ∷ []; answer = numberAndZeros 12; after = anyField }
-    ∷ record { leg = 64; requests = ask 1 1 7 64 ∷ fromDesk 2 (ask 4 0 7 0) ∷ []; answer = numberAndZeros 26; after = stands 7 1 }
+    ∷ record { leg = 64; requests = ask 1 1 7 64 ∷ fromDesk 2 (ask 4 0 7 0) ∷ []; answer = numberAndZeros 26; after = standsIn 7 1 }
     ∷ record { leg = 64; requests = ask 1 1 7 64 ∷ ask 4 0 7 0 ∷ []; answer = numberAndZeros 13; after = anyField }
     -- an entry that names it: 11
     ∷ record { leg = 64; requests = ask 1 1 7 64 ∷ fromDesk 2 (ask 1 2 7 64) ∷ []; answer = numberAndZeros 11; after = anyField }
     -- the leader is not shown to the other desk, and is to its own
     ∷ record { leg = 64; requests = ask 1 1 7 64 ∷ fromDesk 2 (ask 1 2 8 64) ∷ []; answer = says 8 2 2 0 0; after = headIsOf 2 2 }
-    ∷ record { leg = 64; requests = ask 1 1 7 64 ∷ fromDesk 2 (ask 1 2 8 64) ∷ fromDesk 2 (ask 1 1 9 64) ∷ []; answer = says 9 1 1 8 0; after = stands 7 3 }
+    ∷ record { leg = 64; requests = ask 1 1 7 64 ∷ fromDesk 2 (ask 1 2 8 64) ∷ fromDesk 2 (ask 1 1 9 64) ∷ []; answer = says 9 1 1 8 0; after = standsIn 7 3 }
     -- an entry (02, 2.5) moves the other desk's aircraft down, which is not shown and stays that desk's; a tick is either desk's
     ∷ record {
       leg = 64;
       requests = ask 1 1 7 64 ∷ fromDesk 2 (ask 1 1 8 64) ∷ fromDesk 2 (ask 12 0 0 64) ∷ [];
       answer = numberAndZeros 0;
-      after = λ f. stands 7 3 f && headIsOf 1 3 f && headIsOf 2 1 f;
+      after = λ f. standsIn 7 3 f && headIsOf 1 3 f && headIsOf 2 1 f;
     }
     ∷ record { leg = 64; requests = ask 1 1 7 64 ∷ fromDesk 2 (ask 1 1 8 64) ∷ []; answer = says 8 1 2 0 0; after = anyField }
     -- and so does a hold: 7 misses, and 8, which desk 2 let in at 3000, goes down
@@ -159,11 +160,11 @@ twoDesks =
       requests =
           ask 1 1 7 64 ∷ ask 3 0 7 0 ∷ fromDesk 2 (ask 1 1 8 64) ∷ ask 4 0 7 0 ∷ toFinal 7 (ask 10 0 7 0 ∷ ask 12 0 0 64 ∷ ask 12 0 0 64 ∷ ask 11 0 7 0 ∷ []);
       answer = says 7 1 1 0 0;
-      after = λ f. stands 8 3 f && headIsOf 2 3 f && headIsOf 1 1 f;
+      after = λ f. standsIn 8 3 f && headIsOf 2 3 f && headIsOf 1 1 f;
     }
     ∷ []
 
--- ---- 25 is judged on the field after both moves
+-- ---- where an entry moves two, 25 judges the field after the second (02, 2.5)
 
 -- a queue of one
 abbrev pub onlyOne : Aircraft → Zone
@@ -222,7 +223,7 @@ missOfSeven = ask 10 0 7 0
 -- a field within the bounds, with every part of the reason but room to miss, and a request on it that 25 refuses
 pub record BoundsNotEnough (f : Field) (r : Request) : Type 0 where
   pub within-bounds : T (withinBounds f)
-  pub other-parts : T (approachOrder f && areaOrder f right && areaOrder f left && lateralEntry f)
+  pub other-parts : T (approachOrder f && areaOrder f right && areaOrder f left && lateralOrder f)
   pub queues-agree : (zone : ℕ) → T (within 1 12 zone) → QueueAgrees f zone
   pub no-room : roomToMiss f ≡ false
   pub answer-25 : stepOf f r .answer .number ≡ 25

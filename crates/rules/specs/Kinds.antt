@@ -21,6 +21,7 @@ use Rattle.field.specs.Edits.{withoutHead, withTail, appended, removed, withZon
 abbrev pub placeBefore : Field → Request → Place
 placeBefore f r = placeOf f (r .number)
 
+-- its zone
 abbrev pub zoneBefore : Field → Request → ℕ
 zoneBefore f r = placeBefore f r .zone
 
@@ -42,37 +43,38 @@ shownTo desk a = cond (eqb (a .desk) desk) (a .number) 0
 
 -- ---- needs, each a refusal number beside a test, of a request whose aircraft is at the place
 
--- "11 entry number already present, runway included"
+-- an entry: 11 where anybody on the field has its number, the one on the runway too
 abbrev pub absentChecks : Place → List (ℕ × Bool)
 absentChecks at = (11, eqb (at .zone) 0) ∷ []
 
--- "12 number not on the field. 13 not in a zone the kind starts from. 14 not at its head."; and after 12, 26: another desk's aircraft (02, 2.10)
+-- a move: 12 where the aircraft is not on the field, 26 where it is another desk's (02, 2.10), 13 where the kind does not start from its zone, and 14 where it
+-- is not the head there
 abbrev pub headChecks : ℕ → Place → Bool → List (ℕ × Bool)
 headChecks kind at own = (12, not (eqb (at .zone) 0)) ∷ (26, own) ∷ (13, startsFrom kind (at .zone)) ∷ (14, eqb (at .place) 1) ∷ []
 
--- "Every kind but 1, 2 and 12 needs the aircraft at the head of its zone", its own desk's (02, 2.10), and an entry that nobody has its number,
--- neither desk's
+-- what a kind needs first: an entry that nobody has its number, of neither desk; a tick nothing; every other kind an aircraft of the desk that asks, at
+-- the head of a zone
 abbrev pub presenceChecks : ℕ → Place → Bool → List (ℕ × Bool)
 presenceChecks kind at own = cond (isEntry kind) (absentChecks at) (cond (isTick kind) [] (headChecks kind at own))
 
--- "15 leg not flown out", of the head of zone z, by its own leg (02, 2.7)
+-- 15 where the head of zone z is not at the end of its own leg (02, 2.7)
 abbrev pub flownOutCheck : Field → ℕ → ℕ × Bool
 flownOutCheck f z = (15, legFlownOut (aircraftAt f z 1))
 
--- "first in sequence or leader on the approach", with the leader in zone `ahead`
+-- what an approach needs of the sequence, with the leader in zone `ahead`: nobody is ahead, or the leader is on the approach
 unfoldable pub mayApproach : Sequence → ℕ → ℕ → Bool
 mayApproach s number ahead = isFirst s number || within 9 12 ahead
 
--- "at most one aircraft on the opposite base"
+-- what it needs of the base opposite to its side: no more than one is there
 unfoldable pub baseFree : Field → ℕ → Bool
 baseFree f side = leb (howMany f (base (opposite side))) 1
 
--- "first in sequence, or leader in 11 or 12", with the leader in zone `ahead`
+-- what a merge needs of the sequence, with the leader in zone `ahead`: nobody is ahead, or the leader is on intermediate or final
 unfoldable pub mayMerge : Sequence → ℕ → ℕ → Bool
 mayMerge s number ahead = isFirst s number || within 11 12 ahead
 
--- "1 vertical entry to 3000. Needs, in order: potential under 2; nobody on the approach with that fix; missed, lateral and 3000
--- zones of the side empty." Since (02, 2.5) 3000 may be occupied where 2000 below it is empty.
+-- kind 1, vertical entry: 16 by the potential number, 17 by the fixes on the approach, 18 by the missed and 19 by the lateral zone; and 20 where both holdings
+-- are occupied: since 2.5 (02) one at 3000 makes room where it can descend
 abbrev pub verticalNeeds : Field → ℕ → List (ℕ × Bool)
 verticalNeeds f side =
     (16, ltb (potentialOf f side) 2)
@@ -82,32 +84,31 @@ verticalNeeds f side =
     ∷ (20, isEmpty f (at3000 side) || isEmpty f (at2000 side))
     ∷ []
 
--- "2 lateral entry. Needs potential 0."
+-- kind 2, lateral entry: 16 where the potential number is not 0
 abbrev pub lateralNeeds : Field → ℕ → List (ℕ × Bool)
 lateralNeeds f side = (16, eqb (potentialOf f side) 0) ∷ []
 
--- "3 descend, 3000 to 2000, which must be empty.", from zone z
+-- kind 3, descend, from zone z: 21 where 2000 below it is occupied
 abbrev pub descendNeeds : Field → ℕ → List (ℕ × Bool)
 descendNeeds f z = (21, isEmpty f (at2000 z)) ∷ []
 
--- "4 approach, from 2000 or lateral to base of the same side. Needs: first in sequence or leader on the approach; then at most one
--- aircraft on the opposite base. From lateral, an unmet need is no refusal"
+-- kind 4, approach, from zone z: 22 by the sequence and 23 by the opposite base; neither refuses one from a lateral zone, which goes to 2000 instead
 abbrev pub approachNeeds : Field → ℕ → ℕ → ℕ → List (ℕ × Bool)
 approachNeeds f number z ahead = (22, within 5 6 z || mayApproach (f .sequence) number ahead) ∷ (23, within 5 6 z || baseFree f (sideOf z)) ∷ []
 
--- "5 merge, base to intermediate", the leg flown out: "first in sequence, or leader in 11 or 12"
+-- kind 5, merge, from zone z: 15 by the leg and 22 by the sequence
 abbrev pub mergeNeeds : Field → ℕ → ℕ → ℕ → List (ℕ × Bool)
 mergeNeeds f number z ahead = flownOutCheck f z ∷ (22, mayMerge (f .sequence) number ahead) ∷ []
 
--- "6 intermediate to final"; "11 hold, from the missed zone": they need the leg flown out
+-- kind 6, to final, and kind 11, hold, from zone z: 15 by the leg
 abbrev pub flownOutNeeds : Field → ℕ → List (ℕ × Bool)
 flownOutNeeds f z = flownOutCheck f z ∷ []
 
--- "7 land, final to an empty runway", the leg flown out
+-- kind 7, land, from zone z: 15 by the leg and 24 by the runway
 abbrev pub landNeeds : Field → ℕ → List (ℕ × Bool)
 landNeeds f z = flownOutCheck f z ∷ (24, isEmpty f runway) ∷ []
 
--- "9 exit, intermediate to 0, if first in sequence", from zone z; since (02, 2.3) the leg flown out, and that is asked before the sequence
+-- kind 9, exit, from zone z: 15 by the leg, since 2.3 (02), and 22 where it is not first in the sequence
 abbrev pub exitNeeds : Field → ℕ → ℕ → List (ℕ × Bool)
 exitNeeds f number z = flownOutCheck f z ∷ (22, isFirst (f .sequence) number) ∷ []
 
@@ -121,7 +122,7 @@ headGone f z = withZone f z (withoutHead (zoneOf f z))
 unfoldable pub tailPut : Field → ℕ → Aircraft → Field
 tailPut f z a = withZone f z (withTail (zoneOf f z) a)
 
--- the head of zone z to the tail of zone w: "Entering a flying zone sets miles to 0"
+-- the head of zone z to the tail of zone w, where it starts a new leg or waits
 unfoldable pub moved : Field → ℕ → ℕ → Field
 moved f z w = tailPut (headGone f z) w (arrived (f .legs) w (aircraftAt f z 1))
 
@@ -133,11 +134,12 @@ descended f z = moved f z (at2000 z)
 unfoldable pub outOfSequence : Field → ℕ → Field
 outOfSequence f number = withSequence f (removed (f .sequence) number) (f .next)
 
--- "An entry into an empty sequence takes its entry side as fix, any other entry takes the next fix."
+-- the fix that an entry takes: its own side where the sequence is empty, else the next fix (01, "The boxes")
 unfoldable pub fixTaken : Field → ℕ → ℕ
 fixTaken f side = cond (eqb (length (orderOf (f .sequence))) 0) side (f .next)
 
--- kinds 1 and 2, into zone z: "Either way the next fix then becomes the opposite of the fix taken."; the aircraft belongs to the desk that asks (02, 2.10)
+-- kinds 1 and 2, into zone z: the aircraft is last there and in the sequence, the next fix is then the opposite of its own, and it belongs to the desk that
+-- asks (02, 2.10)
 unfoldable pub entered : Field → Request → ℕ → Field
 entered f r z =
     let fix = fixTaken f (r .side) in
@@ -148,30 +150,31 @@ entered f r z =
 unfoldable pub madeRoom : Field → ℕ → Field
 madeRoom f side = cond (isEmpty f (at3000 side)) f (descended f (at3000 side))
 
--- .. and the caller enters, in one step
+-- .. and then the entry is made
 unfoldable pub enteredAbove : Field → Request → Field
 enteredAbove f r = entered (madeRoom f (r .side)) r (at3000 (r .side))
 
--- kind 4, from zone z: to base; "From lateral, an unmet need is no refusal: the aircraft goes to 2000 of its side and is accepted."
+-- kind 4, from zone z: to the base of its side; from a lateral zone to 2000 where a need is not met
 unfoldable pub approached : Field → ℕ → ℕ → ℕ → Field
 approached f number z ahead =
     cond (within 5 6 z)
     (cond (mayApproach (f .sequence) number ahead && baseFree f (sideOf z)) (moved f z (base (sideOf z))) (moved f z (at2000 (sideOf z))))
     (moved f z (base (sideOf z)))
 
--- kind 7: "It leaves the sequence, keeps its fix, and has no leader."
+-- kind 7: from final to the runway and out of the sequence, with its fix
 unfoldable pub landed : Field → Request → Field
 landed f r = outOfSequence (moved f finalApproach runway) (r .number)
 
--- kind 9: "intermediate to 0"
+-- kind 9: from intermediate off the field and out of the sequence
 unfoldable pub exited : Field → Request → Field
 exited f r = outOfSequence (headGone f intermediate) (r .number)
 
--- kind 10: "It goes to the missed zone of its old fix and to the end of the sequence. If alone in the sequence it keeps its fix, else
--- it takes the next fix. The next fix becomes the opposite of its fix now." It has the missed leg ahead, and what was left of final (02, 2.7).
+-- the fix after a miss: the old one where nobody else is in the sequence, else the next fix
 unfoldable pub fixAfterMiss : Field → Aircraft → ℕ
 fixAfterMiss f a = cond (eqb (length (orderOf (f .sequence))) 1) (a .fix) (f .next)
 
+-- kind 10: from final to the missed zone of the old fix, with the new fix and a leg of its own (02, 2.7), and to the end of the sequence; the next fix is then
+-- the opposite of the new one
 unfoldable pub missedApproach : Field → Request → Field
 missedApproach f r =
     let a = aircraftAt f finalApproach 1 in
@@ -180,8 +183,8 @@ missedApproach f r =
     let g = tailPut (headGone f finalApproach) w (withFix (turnedAway (f .legs) w a) fix) in
     withSequence g (appended (removed (f .sequence) (r .number)) (r .number)) (opposite fix)
 
--- kind 11, from zone z: "If 3000 and 2000 of the side are empty, to 2000. Else if 3000 is empty, to 3000. Else the aircraft at 3000 goes to 2000
--- and this one to 3000, in one step."
+-- kind 11, from zone z: where both holdings of the side are empty to 2000, where only 3000 is to 3000; and where 3000 is occupied the one there descends
+-- first
 unfoldable pub held : Field → ℕ → Field
 held f z =
     let side = sideOf z in
@@ -189,7 +192,6 @@ held f z =
     (cond (isEmpty f (at2000 side)) (moved f z (at2000 side)) (moved f z (at3000 side)))
     (moved (descended f (at3000 side)) z (at3000 side))
 
--- "in `along` the other aircraft that a hold moved (0 if none)", or that an entry moved (02, 2.5): the one at 3000 of the side, as the desk is shown
--- its number (02, 2.10)
+-- whom a hold or an entry (02, 2.5) moves down, for `along`: the one at 3000 of the side, as the desk is shown its number (02, 2.10); 0 where nobody is there
 unfoldable pub shownAt3000 : Field → ℕ → ℕ → ℕ
 shownAt3000 f desk side = shownTo desk (aircraftAt f (at3000 side) 1)

@@ -6,10 +6,11 @@ use lib.Dec.{eqb}
 use Rattle.request.specs.Input.{within, isEntry}
 use Rattle.request.specs.declared.Request.{Request}
 use Rattle.field.specs.declared.Field.{Field}
+use Rattle.field.specs.Lists.{every}
 use Rattle.rules.specs.declared.Answer.{Answer}
 use Rattle.rules.specs.Step.{stepOf}
 
--- "Each request gets the field that the one before returned": the field after the list
+-- the field after a list of requests, each on the field that the one before it left
 abbrev pub fieldAfter : Field → List Request → Field
 fieldAfter f [] = f
 fieldAfter f (r ∷ rs) = fieldAfter (stepOf f r .field) rs
@@ -37,23 +38,27 @@ abbrev pub accepted : (ℕ → Bool) → List (Request × Answer) → ℕ
 accepted kinds [] = 0
 accepted kinds (p ∷ ps) = countedOnce kinds p + accepted kinds ps
 
--- "Let in: the answers with number 0 to kinds 1 and 2 of the list."
+-- whether every answer accepts its request
+abbrev pub allAccepted : List (Request × Answer) → Bool
+allAccepted ps = every (λ p. eqb (p .1 .number) 0) ps
+
+-- how many were let in, by kinds 1 and 2
 abbrev pub letIn : List (Request × Answer) → ℕ
 letIn = accepted isEntry
 
--- "Taxied off: those to kind 8."
+-- how many taxied off, by kind 8
 abbrev pub taxiedOff : List (Request × Answer) → ℕ
 taxiedOff = accepted (λ kind. eqb kind 8)
 
--- "Exited: those to kind 9."
+-- how many exited, by kind 9
 abbrev pub exitedFrom : List (Request × Answer) → ℕ
 exitedFrom = accepted (λ kind. eqb kind 9)
 
--- "misses are the answers with number 0 to kind 10"
+-- how many misses there were, by kind 10 (01, "The practice file")
 abbrev pub misses : List (Request × Answer) → ℕ
 misses = accepted (λ kind. eqb kind 10)
 
--- "A move is an accepted request of kinds 3 to 11."
+-- how many moves there were, by kinds 3 to 11 (01, "The requests")
 abbrev pub moves : List (Request × Answer) → ℕ
 moves = accepted (within 3 11)
 

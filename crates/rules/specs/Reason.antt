@@ -28,7 +28,7 @@ pub record Listed : Type 0 where
 abbrev pub listed : Field → ℕ → Listed
 listed f number = record { number = number; zone = placeOf f number .zone; fix = fixOf f number }
 
--- "The landing sequence lists everyone in the operation area in order": first to land first, each with its zone and fix
+-- the landing sequence, first to land first, each with its zone and fix
 unfoldable pub along : Field → List Listed
 along f = map (listed f) (orderOf (f .sequence))
 
@@ -37,12 +37,15 @@ abbrev pub those : (Listed → Bool) → List Listed → List Listed
 those p [] = []
 those p (a ∷ rest) = cond (p a) (a ∷ those p rest) (those p rest)
 
+-- whether one is in the zone
 abbrev pub isInZone : ℕ → Listed → Bool
 isInZone zone a = eqb (a .zone) zone
 
+-- whether one is in the area of the side
 abbrev pub isInArea : ℕ → Listed → Bool
 isInArea side a = isIn (a .zone) (area side)
 
+-- whether one has the side as fix
 abbrev pub hasFix : ℕ → Listed → Bool
 hasFix side a = eqb (a .fix) side
 
@@ -62,6 +65,7 @@ eachAmong p ahead (a ∷ behind) = p ahead a behind && eachAmong p (a ∷ ahead)
 abbrev pub fromLanding : ℕ → ℕ
 fromLanding z = cond (eqb z finalApproach) 0 (cond (eqb z intermediate) 1 (cond (eqb z (base right) || eqb z (base left)) 2 3))
 
+-- along the sequence that distance never falls
 unfoldable pub approachOrder : Field → Bool
 approachOrder f = neverFalls (map (λ a. fromLanding (a .zone)) (along f))
 
@@ -71,6 +75,7 @@ approachOrder f = neverFalls (map (λ a. fromLanding (a .zone)) (along f))
 abbrev pub heightIn : ℕ → ℕ → ℕ
 heightIn side z = cond (eqb z (missed side)) 2 (cond (eqb z (at3000 side)) 1 0)
 
+-- along the sequence the height of those in the area of the side never falls
 unfoldable pub areaOrder : Field → ℕ → Bool
 areaOrder f side = neverFalls (map (λ a. heightIn side (a .zone)) (those (isInArea side) (along f)))
 
@@ -78,6 +83,7 @@ areaOrder f side = neverFalls (map (λ a. heightIn side (a .zone)) (those (isInA
 abbrev pub hasRoom : List Listed → Listed → List Listed → Bool
 hasRoom ahead a behind = leb (length (those (isInArea (a .fix)) behind) + length (those (hasFix (a .fix)) ahead)) 1
 
+-- that is so of everyone in the sequence
 unfoldable pub roomToMiss : Field → Bool
 roomToMiss f = eachAmong hasRoom [] (along f)
 
@@ -85,8 +91,9 @@ roomToMiss f = eachAmong hasRoom [] (along f)
 abbrev pub lateralFree : List Listed → Listed → List Listed → Bool
 lateralFree ahead a behind = not (within 5 6 (a .zone)) || eqb (length (those (hasFix (sideOf (a .zone))) ahead)) 0
 
-unfoldable pub lateralEntry : Field → Bool
-lateralEntry f = eachAmong lateralFree [] (along f)
+-- that is so of everyone in the sequence
+unfoldable pub lateralOrder : Field → Bool
+lateralOrder f = eachAmong lateralFree [] (along f)
 
 -- ---- 5. Queues agree with the sequence: a zone's queue is the sequence restricted to the zone, in the same order
 abbrev pub QueueAgrees : Field → ℕ → Type 0
@@ -97,19 +104,20 @@ pub record Reason (f : Field) : Type 0 where
   pub approach-order : T (approachOrder f)
   pub area-order : T (areaOrder f right && areaOrder f left)
   pub room-to-miss : T (roomToMiss f)
-  pub lateral-entry : T (lateralEntry f)
+  pub lateral-entry : T (lateralOrder f)
   pub queues-agree : (zone : ℕ) → T (within 1 12 zone) → QueueAgrees f zone
 
 -- ---- what the authority asked: whoever heads final, and so may miss, finds at most one aircraft in the area of its fix
 abbrev pub headsFinal : Field → ℕ → Bool
 headsFinal f number = eqb (placeOf f number .zone) finalApproach && eqb (placeOf f number .place) 1
 
+-- the area of its fix then has at most one
 abbrev pub RoomAtSide : Field → Type 0
 RoomAtSide f = (number : ℕ) → T (headsFinal f number) → inArea f (fixOf f number) ≤ 1
 
 -- ---- the reason is kept
 
--- "Every such array has four places, the landing sequence too": so has every field of the program
+-- thirteen zones with four places each, and four places in the sequence, as every field of the program has them (01, "The boxes")
 unfoldable pub hasPlaces : Field → Bool
 hasPlaces f =
     eqb (length (f .zones)) 13 && every (λ z. eqb (length (zoneOf f z .aircraft)) 4) everywhere && eqb (length (f .sequence .numbers)) 4

@@ -60,28 +60,28 @@ effectFor kind f r z ahead =
     (held f z)
     (ticked f (r .amount))
 
--- the same of a request on a field, its aircraft and its leader where they are
+-- all that a request needs of a field, its aircraft and its leader where they are there
 unfoldable pub checksOf : Field → Request → List (ℕ × Bool)
 checksOf f r = checksFor (r .kind) f r (placeBefore f r) (zoneAhead f r)
 
+-- what a request does to a field, its aircraft and its leader where they are there
 unfoldable pub effectOf : Field → Request → Field
 effectOf f r = effectFor (r .kind) f r (zoneBefore f r) (zoneAhead f r)
 
--- the number of a request on a field: 0 where it is accepted, else the first of 31 and "Turned away by the request" and then of "Turned away
--- by the field", in order: "10 the field handed in breaks a bound", what the kind needs, "25 the field after the step would break a bound"
+-- the number of a request on a field: first the input rules; then 10 where the field breaks a bound, the needs of the kind in order, and 25 where the field
+-- after the step would; 0 where it is accepted (01, "Turned away by the field")
 unfoldable pub numberOf : Field → Request → ℕ
 numberOf f r =
     cond (eqb (inputNumber r) 0)
     (firstRefused ((10, withinBounds f) ∷ checksOf f r ++ ((25, withinBounds (effectOf f r)) ∷ [])))
     (inputNumber r)
 
--- "A refusal answers its number and zeros"
+-- an answer with a number and nothing else: that of every refusal, and with 0 that of a tick
 unfoldable pub numberAndZeros : ℕ → Answer
 numberAndZeros number = record { number = number; aircraft = 0; zone = 0; fix = 0; leader = 0; along = 0 }
 
--- "An accepted answer has number 0, then the aircraft, its zone, fix and leader after the step (0 if none), and in `along` the other
--- aircraft that a hold moved (0 if none)", or an entry (02, 2.5): of an aircraft that is at the place, and its leader at the place `ahead`, on the
--- field after the step; a leader that is another desk's is not shown (02, 2.10)
+-- the answer to an accepted entry or move, by the field after the step: of an aircraft that is at the place, with its leader at the place `ahead`, and with
+-- the other one that was moved; one that is gone has zone, fix and leader 0, and a leader that is another desk's is not shown (02, 2.10)
 unfoldable pub acceptance : Field → Place → Place → Request → ℕ → Answer
 acceptance f at ahead r along =
     record {
@@ -98,17 +98,17 @@ acceptance f at ahead r along =
 abbrev pub alongFor : ℕ → Field → Request → ℕ → ℕ
 alongFor kind f r z = cond (eqb kind 1) (shownAt3000 f (r .desk) (r .side)) (cond (eqb kind 11) (shownAt3000 f (r .desk) (sideOf z)) 0)
 
--- the same of a request's aircraft and its leader where they are on the field after the step
+-- `acceptance` of a request, its aircraft and its leader where they are on the field g after the step
 abbrev pub acceptanceOn : Field → Request → ℕ → Answer
 acceptanceOn g r along = acceptance g (placeOf g (r .number)) (placeOf g (leaderOf (g .sequence) (r .number))) r along
 
--- the answer to an accepted request: "A tick answers zeros."
+-- the answer to an accepted request: zeros to a tick, and `acceptanceOn` the field after the step to every other kind
 unfoldable pub answerOf : Field → Request → Answer
 answerOf f r =
     cond (eqb (r .kind) 12) (numberAndZeros 0)
     (acceptanceOn (effectOf f r) r (alongFor (r .kind) f r (zoneBefore f r)))
 
--- the step: "A refusal answers its number and zeros; the field is the one handed in."
+-- the step of any request on any field: where it is refused, the field stays as it is
 unfoldable pub stepOf : Field → Request → Stepped
 stepOf f r =
     cond (eqb (numberOf f r) 0)

@@ -1,8 +1,8 @@
 // What every request does: the types of an answer and of a step. The rules are the definitions of specs/.
 use field::Field;
 
-// Document 01's answer: the number (0 where accepted), the aircraft, its zone, fix and leader after the step, and in `along`
-// the other aircraft that a hold moved.
+// An answer (01, "The requests"): the number, 0 where the request is accepted; the aircraft, with its zone, its fix and its leader after the step; and whom a
+// hold or an entry moved down beside it (02, 2.5).
 pub struct Answer {
     pub number: u16,
     pub aircraft: u16,

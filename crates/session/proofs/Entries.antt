@@ -11,7 +11,7 @@ use Rattle.rules.specs.Step.{stepOf}
 use Rattle.rules.specs.Play.{played}
 use Rattle.text.specs.Text.{line}
 use Rattle.text.proofs.Texts.{line-length}
-use Rattle.playing.specs.Log.{entryOf, logOf, kindAt, numberAt, HasWords}
+use Rattle.playing.specs.Log.{logEntry, logOf, kindAt, numberAt, HasWords}
 use Rattle.playing.proofs.Answers.{Short, short-step}
 use Rattle.playing.proofs.Logs.{Here, here-in, kind-here}
 use Rattle.session.specs.declared.tally.Tally.{Tally}

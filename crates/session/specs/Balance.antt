@@ -15,8 +15,8 @@ pub record Balanced (file : List ℕ) : Type 0 where
   pub counts : Tally
   pub present : ℕ
   pub report : reportOf file ≡ answerLines 1 answers ++ endLine counts present
-  -- "refusals 10 and 25 never come"
+  -- no request is refused by 10 or by 25
   pub no-10 : T (neverAnswers 10 answers)
   pub no-25 : T (neverAnswers 25 answers)
-  -- let in = taxied off + exited + present
+  -- everyone who was let in has taxied off, has exited, or is present
   pub balance : counts .entries ≡ counts .taxis + counts .exits + present

@@ -10,7 +10,7 @@ use Rattle.playing.specs.Playing.{legsInMiles, answersFrom, presentFrom}
 use Rattle.session.specs.declared.tally.Tally.{Tally}
 use Rattle.session.specs.Tally.{tallyOf}
 
--- "prints for each request: index .., number, aircraft, zone, fix, leader, along"
+-- the line of an answer: index, number, aircraft, zone, fix, leader, along
 unfoldable pub answerLine : ℕ → Answer → List ℕ
 answerLine index a = line (index ∷ a .number ∷ a .aircraft ∷ a .zone ∷ a .fix ∷ a .leader ∷ a .along ∷ [])
 
@@ -19,16 +19,16 @@ abbrev pub answerLines : ℕ → List (Request × Answer) → List ℕ
 answerLines index [] = []
 answerLines index (p ∷ ps) = answerLine index (p .1) ++ answerLines (suc index) ps
 
--- "The last line is `end`, then accepted entries, taxis, exits, misses, and aircraft present"
+-- the last line: `end`, the closing counts, and how many are present
 unfoldable pub endLine : Tally → ℕ → List ℕ
 endLine t present = 101 ∷ 110 ∷ 100 ∷ space ∷ line (t .entries ∷ t .taxis ∷ t .exits ∷ t .misses ∷ present ∷ [])
 
--- "starts empty, and prints for each request: index from 1, .. The last line is `end`"
+-- the report of requests from the empty field with these legs: their lines, with indexes from 1, and the last line
 unfoldable pub sessionReport : Legs → List Request → List ℕ
 sessionReport legs requests =
     answerLines 1 (answersFrom legs requests) ++ endLine (tallyOf (answersFrom legs requests)) (presentFrom legs requests)
 
--- "A refused file gives only `file` and the number."
+-- the report of a refused file: `file` and its number, and nothing else
 unfoldable pub refusedReport : ℕ → List ℕ
 refusedReport number = 102 ∷ 105 ∷ 108 ∷ 101 ∷ space ∷ line (number ∷ [])
 
@@ -37,6 +37,6 @@ abbrev pub practiceReport : Practice → List ℕ
 practiceReport (refused number) = refusedReport number
 practiceReport (holds legs requests) = sessionReport (legsInMiles legs) requests
 
--- "The program `play` reads one file .. and prints": the report of a file of these bytes
+-- the report of a file of these bytes
 unfoldable pub reportOf : List ℕ → List ℕ
 reportOf file = practiceReport (practiceOf file)

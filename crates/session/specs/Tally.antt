@@ -9,7 +9,7 @@ use Rattle.rules.specs.Play.{letIn, taxiedOff, exitedFrom, misses}
 use Rattle.playing.specs.Log.{ofKinds}
 use Rattle.session.specs.declared.tally.Tally.{Tally}
 
--- "accepted entries, taxis, exits, misses, .. counted as for demand 3"
+-- the closing counts of a list of answers: those of demand 3 (01, "Any list of requests"), and the misses
 unfoldable pub tallyOf : List (Request × Answer) → Tally
 tallyOf ps = record { entries = letIn ps; taxis = taxiedOff ps; exits = exitedFrom ps; misses = misses ps }
 

@@ -33,7 +33,8 @@ pub record Listing (before : List ℕ) (s : Spacings) (out : List ℕ) (at i : �
   pub within : i ≤ 3
   pub left : Left before 0 (pairLines (paired s)) out at (pairLines (drop i (paired s)))
 
-pub listing-more : {before m n : List ℕ} {s : Spacings} {at e i : ℕ} (d : Pair) → Listing before s m at i → i < 3 → i < s .count → Put m at (pairLine (getD (s .pairs) i d)) n e → Listing before s n e (i + 1)
+pub listing-more : {before m n : List ℕ} {s : Spacings} {at e i : ℕ} (d : Pair) → Listing before s m at i → i < 3 → i < s .count
+    → Put m at (pairLine (getD (s .pairs) i d)) n e → Listing before s n e (i + 1)
 listing-more {s = s} {i = i} d w h k p = record {
   accepted = w .accepted;
   places = w .places;

@@ -10,6 +10,7 @@ use Rattle.leg.specs.Ticks.{Between}
 use Rattle.request.specs.declared.Request.{Request}
 use Rattle.field.specs.declared.Field.{Field}
 use Rattle.field.specs.Boxes.{orderOf}
+use Rattle.field.specs.Lists.{Each}
 use Rattle.field.proofs.Tests.{passed, if-true}
 use Rattle.practice.specs.File.{legsOf, legsBody, fileNumber}
 use Rattle.practice.proofs.Accepted.{LegKnown, legs-known}
@@ -22,7 +23,7 @@ use Rattle.gaps.specs.declared.Spacing.{Spacing}
 use Rattle.gaps.specs.declared.Spacing.the-variants.{Close, Clear}
 use Rattle.gaps.specs.declared.Pair.{Pair}
 use Rattle.gaps.specs.Gaps.{legalSpacing, pairsIn, listed, gapsOf}
-use Rattle.exact_gaps.specs.ExactGaps.{reached, wayIn4096ths, gapIn, isClose, ExactPair, EachPair}
+use Rattle.exact_gaps.specs.ExactGaps.{reached, wayIn4096ths, gapIn, isClose, ExactPair}
 use Rattle.exact_gaps.proofs.ExactGaps.{way-few, exact-gaps}
 use Rattle.text.specs.Text.{decimal, space, newline}
 use Rattle.miles.specs.Miles.{milesText}
@@ -48,7 +49,7 @@ module _ (w : WholeLegs) (rs : List Request) (spacing : ℕ) where
       let ends = parted (p .spacing) ∙ (λ i. wordOf (x .close i) ++ (space ∷ text i ++ (newline ∷ []))) in
       ap (λ (r : List ℕ). decimal (p .leader) ++ (space ∷ decimal (p .follower) ++ (space ∷ r))) ends
 
-  lines-exact : (ps : List Pair) → EachPair (ExactPair w rs spacing) ps → pairLines ps ≡ wholeLines w rs spacing ps
+  lines-exact : (ps : List Pair) → Each (ExactPair w rs spacing) ps → pairLines ps ≡ wholeLines w rs spacing ps
   lines-exact [] e = refl
   lines-exact (p ∷ ps) e = λ i. line-exact p (e .0) i ++ lines-exact ps (e .1) i
 

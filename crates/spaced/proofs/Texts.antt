@@ -38,7 +38,8 @@ mul-values f (fin false m e) nan a c b d C D p q = absurd q
 mul-values f (fin false m e) (inf t) a c b d C D p q = absurd q
 mul-values f (fin false m e) (fin true n k) a c b d C D p q = absurd (true≢false (q .0))
 mul-values f (fin false m e) (fin false n k) a c b d C D p q =
-    round-same f false (m * up e * (n * up k)) (down e * down k) (a * b) (c * d) (mul-pos (down-pos e) (down-pos k)) (mul-pos C D) (cross-mul (m * up e) (down e) (n * up k) (down k) a c b d (p .1) (q .1))
+    round-same f false (m * up e * (n * up k)) (down e * down k) (a * b) (c * d) (mul-pos (down-pos e) (down-pos k))
+    (mul-pos C D) (cross-mul (m * up e) (down e) (n * up k) (down k) a c b d (p .1) (q .1))
 
 -- ---- -1 is under what is not below 0, and that is not under 0
 above-minus-one : (y : Float) (b d : ℕ) → HasValue y false b d → lt (neg (whole 1)) y ≡ true

@@ -61,7 +61,9 @@ module _ (f : Field) (r : Request) where
 
   -- .. its field where all are met is the field after the effect, ..
   pub unjudged-field : firstRefused (checksOf f r) ≡ 0 → unjudgedStep .field ≡ effectOf f r
-  unjudged-field e = ap (λ (s : Stepped). s .field) (if-true (record { answer = answerOf f r; field = effectOf f r }) (record { answer = numberAndZeros (firstRefused (checksOf f r)); field = f }) (eq-eqb (firstRefused (checksOf f r)) 0 e))
+  unjudged-field e =
+      ap (λ (s : Stepped). s .field) (if-true (record { answer = answerOf f r; field = effectOf f r })
+      (record { answer = numberAndZeros (firstRefused (checksOf f r)); field = f }) (eq-eqb (firstRefused (checksOf f r)) 0 e))
 
   -- .. and it is the step, of a field within the bounds that stays within them
   pub unjudged-is-step : inputNumber r ≡ 0 → withinBounds f ≡ true → (firstRefused (checksOf f r) ≡ 0 → withinBounds (effectOf f r) ≡ true) → unjudgedStep ≡ stepOf f r

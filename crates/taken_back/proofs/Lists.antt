@@ -15,17 +15,13 @@ use Rattle.field.proofs.Tests.{pass}
 use Rattle.field.proofs.Parts.{and-then}
 use Rattle.rules.specs.declared.Answer.{Answer}
 use Rattle.rules.specs.Step.{stepOf}
-use Rattle.rules.specs.Play.{fieldAfter, played}
+use Rattle.rules.specs.Play.{fieldAfter, played, allAccepted}
 use Rattle.rules.specs.Reason.{Sound}
 use Rattle.reason.proofs.Reason.{reason-kept}
 
 pub after-behind : (f : Field) (rs ss : List Request) → fieldAfter f (rs ++ ss) ≡ fieldAfter (fieldAfter f rs) ss
 after-behind f [] ss = refl
 after-behind f (r ∷ rs) ss = after-behind (stepOf f r .field) rs ss
-
--- whether every request is accepted
-abbrev pub allAccepted : List (Request × Answer) → Bool
-allAccepted ps = every (λ p. eqb (p .1 .number) 0) ps
 
 pub accepted-more : (f : Field) (rs : List Request) (r : Request) → T (allAccepted (played f rs)) → stepOf (fieldAfter f rs) r .answer .number ≡ 0 → T (allAccepted (played f (rs ++ (r ∷ []))))
 accepted-more f [] r t e = and-i (eqb (stepOf f r .answer .number) 0) true (pass (eq-eqb _ _ e)) tt

@@ -11,11 +11,12 @@ use Rattle.history.specs.declared.History.{History}
 use Rattle.history.specs.declared.SteppedHistory.{SteppedHistory}
 use Rattle.history.specs.History.{startOf, stepHistory, stepBack}
 
--- a step back, by a desk, is a call of its own and no kind of request (02, 2.13)
+-- what a desk may call: a request, or a step back, which no kind of request is (02, 2.13)
 pub data Call : Type 0 where
   request : Request → Call
   back : ℕ → Call
 
+-- what a call answers and leaves
 abbrev pub called : History → Call → SteppedHistory
 called h (request r) = stepHistory h r
 called h (back desk) = stepBack h desk
@@ -35,11 +36,12 @@ abbrev pub withCall : List Request → Call × Answer → List Request
 withCall rs (request r, a) = cond (eqb (a .number) 0) (rs ++ (r ∷ [])) rs
 withCall rs (back desk, a) = cond (eqb (a .number) 0) (take (length rs - 1) rs) rs
 
+-- and what a list of calls and their answers does to them
 abbrev pub withCalls : List Request → List (Call × Answer) → List Request
 withCalls rs [] = rs
 withCalls rs (p ∷ ps) = withCalls (withCall rs p) ps
 
--- the history of calls from the start with these legs: the accepted requests that no step back took back, in order (02, 2.13)
+-- the history of calls from the start with these legs: what is left of the accepted requests, in order, when the steps back have taken theirs away (02, 2.13)
 abbrev pub historyOf : Legs → List Call → List Request
 historyOf legs cs = withCalls [] (playedCalls (startOf legs) cs)
 

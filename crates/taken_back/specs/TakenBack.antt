@@ -12,7 +12,7 @@ use Rattle.field.specs.Lists.{every}
 use Rattle.finder.specs.declared.Indexed.{Indexed}
 use Rattle.rules.specs.declared.Answer.{Answer}
 use Rattle.rules.specs.Step.{numberAndZeros}
-use Rattle.rules.specs.Play.{fieldAfter, played}
+use Rattle.rules.specs.Play.{fieldAfter, played, allAccepted}
 use Rattle.indexed.specs.Indexed.{withIndex}
 use Rattle.demand.specs.Demand.{Demand3}
 use Rattle.history.specs.declared.History.{History}
@@ -30,7 +30,7 @@ fieldAt legs rs n = withIndex (fieldAfter (emptyField legs) (take n rs))
 -- a field with its kept ones as a history of requests leaves them
 pub record Follows (legs : Legs) (h : History) (rs : List Request) : Type 0 where
   -- every request of the history is accepted on the field after those before it
-  pub accepted : T (every (λ p. eqb (p .1 .number) 0) (played (emptyField legs) rs))
+  pub accepted : T (allAccepted (played (emptyField legs) rs))
   -- the field is the field after the history, index included
   pub now : h .now ≡ withIndex (fieldAfter (emptyField legs) rs)
   -- at most eight count, and no more than the history has requests; there are eight places
@@ -43,7 +43,7 @@ pub record Follows (legs : Legs) (h : History) (rs : List Request) : Type 0 wher
 -- what holds after a list of calls from the empty field with these legs
 pub record TakenBack (legs : Legs) (cs : List Call) : Type 0 where
   pub follows : Follows legs (afterCalls (startOf legs) cs) (historyOf legs cs)
-  -- as many count as the history has requests, less those over eight when it was longest: "one dropped earlier does not return" (02, 2.13)
+  -- as many count as the history has requests, less those over eight when it was longest: a field that was dropped stays so (02, 2.13)
   pub count : afterCalls (startOf legs) cs .count ≡ length (historyOf legs cs) - (longestOf legs cs - mostKept)
   -- refusals 10 and 25 never come
   pub no-10 : T (neverAnswered 10 (playedCalls (startOf legs) cs))
@@ -71,5 +71,5 @@ pub record GivenBack (h : History) (r : Request) (desk : ℕ) : Type 0 where
   pub answer : stepBack (stepHistory h r .after) desk .answer ≡ numberAndZeros 0
   -- the field is the one before the request, index included
   pub now : stepBack (stepHistory h r .after) desk .after .now ≡ h .now
-  -- as many are kept as were; where eight were, the oldest is gone and does not return
+  -- those that count are the ones that counted before the request; where eight did, the oldest of them is gone for good
   pub kept : counted (stepBack (stepHistory h r .after) desk .after) ≡ cond (ltb (h .count) mostKept) (counted h) (drop 1 (counted h))

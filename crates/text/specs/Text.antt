@@ -1,4 +1,4 @@
--- Numbers as text: "All decimal, one space between" (01, "The practice file"; 02, 2.1). Definitions only.
+-- Numbers as text, in decimal and in lines (01, "The practice file"). Definitions only.
 use Prim.Native.Nat.{ℕ, zero, suc, _+_, _/_, _%_}
 use mathlib.Core.Bool.{cond}
 use mathlib.Core.List.{List, [], _∷_, _++_}
@@ -9,22 +9,24 @@ unfoldable pub digitsUpTo : ℕ → ℕ → List ℕ
 digitsUpTo zero n = []
 digitsUpTo (suc k) n = cond (ltb n 10) ((48 + n) ∷ []) (digitsUpTo k (n / 10) ++ ((48 + n % 10) ∷ []))
 
--- "All decimal": the digits of n, of which there are at most n + 1
+-- n in decimal: it has at most n + 1 digits
 unfoldable pub decimal : ℕ → List ℕ
 decimal n = digitsUpTo (suc n) n
 
+-- a space, as a byte
 abbrev pub space : ℕ
 space = 32
 
+-- a newline, as a byte
 abbrev pub newline : ℕ
 newline = 10
 
--- what stands between a number and those after it: "one space between", and a newline at the end of the line
+-- what stands behind a number: a space where others come after it, else a newline
 abbrev pub markBefore : List ℕ → ℕ
 markBefore [] = newline
 markBefore (n ∷ ns) = space
 
--- a line of numbers: "All decimal, one space between."
+-- a line of numbers
 abbrev pub line : List ℕ → List ℕ
 line [] = []
 line (n ∷ ns) = decimal n ++ (markBefore ns ∷ line ns)

@@ -36,7 +36,7 @@ use Rattle.line.proofs.Counted.{in-everywhere}
 use Rattle.reason.proofs.Invariant.{parts}
 use Rattle.playing.specs.Playing.{legsInMiles}
 use Rattle.dialect.specs.declared.Entry.{Entry}
-use Rattle.dialect.specs.Going.{entryOf, entriesFrom, onRunway, entriesOf, inDialect, listed, listOf}
+use Rattle.dialect.specs.Going.{listEntry, listEntries, onRunway, entriesOf, inDialect, listed, listOf}
 use Rattle.dialect.specs.Coming.{entriesIn, isPlaced, placedFrom, fixIn, built, fieldOf}
 use Rattle.there_and_back.proofs.Shape.{uncut, waiting, atZone, numbersIn, nextFrom, fieldFor, built-for}
 use Rattle.there_and_back.proofs.Parts.{own-place, from-1, to-4, in-a-zone, first-placed, rest-placed, located, none-at, in-all, at-split, only, fix-kept}
@@ -126,23 +126,23 @@ module _ (legs : Legs) (speed : ℕ) (es : List Entry) (p : T (placedFrom 1 es))
         ∙ ap (λ (r : List Aircraft). getD (nobody ∷ r) 1 nobody .fix) alone
         ∙ fix-kept (e .fix) is-side
 
-    same-entry : entryOf g (e .number) place ≡ e
-    unfolding entryOf
+    same-entry : listEntry g (e .number) place ≡ e
+    unfolding listEntry
     same-entry = λ i. record { number = e .number; location = found i .zone; place = sym (own-place e place here) i; fix = has-fix i }
 
-  again : (xs ys : List Entry) (place : ℕ) → es ≡ xs ++ ys → T (placedFrom place ys) → entriesFrom g place (numbersIn ys) ≡ ys
+  again : (xs ys : List Entry) (place : ℕ) → es ≡ xs ++ ys → T (placedFrom place ys) → listEntries g place (numbersIn ys) ≡ ys
   again xs [] place q t = refl
   again xs (e ∷ ys) place q t =
-      ap (λ (x : Entry). x ∷ entriesFrom g (suc place) (numbersIn ys)) (same-entry xs e ys q place (first-placed place e ys t))
+      ap (λ (x : Entry). x ∷ listEntries g (suc place) (numbersIn ys)) (same-entry xs e ys q place (first-placed place e ys t))
       ∙ ap (λ (r : List Entry). e ∷ r) (again (xs ++ (e ∷ [])) ys (suc place) (q ∙ sym (append-assoc xs (e ∷ []) ys)) (rest-placed place e ys t))
 
   -- The field has that list, ..
   pub entries-again : entriesOf g ≡ es
   unfolding entriesOf onRunway
   entries-again =
-      ap (λ (r : List Entry). entriesFrom g 1 (orderOf (g .sequence)) ++ r) (if-true _ _ (nobody-at runway tt (omega arith)))
-      ∙ append-nil (entriesFrom g 1 (orderOf (g .sequence)))
-      ∙ ap (entriesFrom g 1) order-is
+      ap (λ (r : List Entry). listEntries g 1 (orderOf (g .sequence)) ++ r) (if-true _ _ (nobody-at runway tt (omega arith)))
+      ∙ append-nil (listEntries g 1 (orderOf (g .sequence)))
+      ∙ ap (listEntries g 1) order-is
       ∙ again [] es 1 refl p
 
   -- .. and it is of the dialect.

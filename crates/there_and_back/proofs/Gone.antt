@@ -18,7 +18,7 @@ use Rattle.questions.specs.Counts.{isEmpty}
 use Rattle.questions.specs.Find.{placeOf, fixOf, aircraftAt}
 use Rattle.bounds.specs.Bounds.{alternate}
 use Rattle.dialect.specs.declared.Entry.{Entry}
-use Rattle.dialect.specs.Going.{entryOf, entriesFrom, onRunway, entriesOf}
+use Rattle.dialect.specs.Going.{listEntry, listEntries, onRunway, entriesOf}
 use Rattle.dialect.specs.Coming.{isPlaced, placedFrom, fixIn}
 use Rattle.there_and_back.proofs.Shape.{atZone, numbersIn, nextFrom}
 use Rattle.there_and_back.proofs.Parts.{holding, own-place, first-placed, rest-placed}
@@ -33,9 +33,9 @@ last-placed place (x ∷ es) e t =
     (r .0, (let h = r .1 in omega arith), r .2)
 
 module _ (f : Field) where
-  at-0 : (n k : ℕ) → 1 ≤ k → T (isPlaced (entryOf f n 0) k) → ⊥
-  unfolding entryOf
-  at-0 n k h p = let q = own-place (entryOf f n 0) k p in omega arith
+  at-0 : (n k : ℕ) → 1 ≤ k → T (isPlaced (listEntry f n 0) k) → ⊥
+  unfolding listEntry
+  at-0 n k h p = let q = own-place (listEntry f n 0) k p in omega arith
 
   pub none-on-runway : T (placedFrom 1 (entriesOf f)) → isEmpty f runway ≡ true
   unfolding entriesOf onRunway
@@ -44,34 +44,34 @@ module _ (f : Field) where
       go : (isEmpty f runway ≡ true) ⊎ (isEmpty f runway ≡ false) → isEmpty f runway ≡ true
       go (inl e) = e
       go (inr e) =
-          let es = entriesFrom f 1 (orderOf (f .sequence)) in
-          let last = entryOf f (aircraftAt f runway 1 .number) 0 in
+          let es = listEntries f 1 (orderOf (f .sequence)) in
+          let last = listEntry f (aircraftAt f runway 1 .number) 0 in
           let all = subst (λ (l : List Entry). T (placedFrom 1 (es ++ l))) (if-false [] (last ∷ []) e) t in
           let r = last-placed 1 es last all in
           absurd (at-0 (aircraftAt f runway 1 .number) (r .0) (r .1) (r .2))
 
-  pub entries-are : isEmpty f runway ≡ true → entriesOf f ≡ entriesFrom f 1 (orderOf (f .sequence))
+  pub entries-are : isEmpty f runway ≡ true → entriesOf f ≡ listEntries f 1 (orderOf (f .sequence))
   unfolding entriesOf onRunway
-  entries-are e = ap (λ (l : List Entry). entriesFrom f 1 (orderOf (f .sequence)) ++ l) (if-true _ _ e) ∙ append-nil (entriesFrom f 1 (orderOf (f .sequence)))
+  entries-are e = ap (λ (l : List Entry). listEntries f 1 (orderOf (f .sequence)) ++ l) (if-true _ _ e) ∙ append-nil (listEntries f 1 (orderOf (f .sequence)))
 
   -- ---- everyone of the sequence waits in a holding
-  pub all-hold : (place : ℕ) (ns : List ℕ) → T (placedFrom place (entriesFrom f place ns)) → T (every (λ n. within 1 4 (placeOf f n .zone)) ns)
-  unfolding entryOf
+  pub all-hold : (place : ℕ) (ns : List ℕ) → T (placedFrom place (listEntries f place ns)) → T (every (λ n. within 1 4 (placeOf f n .zone)) ns)
+  unfolding listEntry
   all-hold place [] t = tt
   all-hold place (n ∷ ns) t =
-      let rest = entriesFrom f (suc place) ns in
-      and-i (within 1 4 (placeOf f n .zone)) (every (λ n. within 1 4 (placeOf f n .zone)) ns) (holding (entryOf f n place) place (first-placed place (entryOf f n place) rest t))
-      (all-hold (suc place) ns (rest-placed place (entryOf f n place) rest t))
+      let rest = listEntries f (suc place) ns in
+      and-i (within 1 4 (placeOf f n .zone)) (every (λ n. within 1 4 (placeOf f n .zone)) ns) (holding (listEntry f n place) place (first-placed place (listEntry f n place) rest t))
+      (all-hold (suc place) ns (rest-placed place (listEntry f n place) rest t))
 
   -- ---- the list by its numbers
-  pub numbers-are : (place : ℕ) (ns : List ℕ) → numbersIn (entriesFrom f place ns) ≡ ns
-  unfolding entryOf
+  pub numbers-are : (place : ℕ) (ns : List ℕ) → numbersIn (listEntries f place ns) ≡ ns
+  unfolding listEntry
   numbers-are place [] = refl
   numbers-are place (n ∷ ns) = ap (λ (l : List ℕ). n ∷ l) (numbers-are (suc place) ns)
 
   -- where nobody of the sequence is in a zone, nobody of the list is
-  pub none-listed : (z place : ℕ) (ns : List ℕ) → ((n : ℕ) → isIn n ns ≡ true → placeOf f n .zone ≡ z → ⊥) → atZone z (entriesFrom f place ns) ≡ []
-  unfolding entryOf
+  pub none-listed : (z place : ℕ) (ns : List ℕ) → ((n : ℕ) → isIn n ns ≡ true → placeOf f n .zone ≡ z → ⊥) → atZone z (listEntries f place ns) ≡ []
+  unfolding listEntry
   none-listed z place [] h = refl
   none-listed z place (n ∷ ns) h =
       if-false _ _ (ne-eqb z (placeOf f n .zone) (λ e. h n (ap (λ (b : Bool). b || isIn n ns) (eq-eqb n n refl)) (sym e)))
@@ -85,7 +85,7 @@ module _ (f : Field) where
     pub ahead : List Entry
     pub own : ℕ
     pub behind : List Entry
-    pub is : entriesFrom f place ns ≡ ahead ++ entryOf f n own ∷ behind
+    pub is : listEntries f place ns ≡ ahead ++ listEntry f n own ∷ behind
 
   pub split-at : (place : ℕ) (ns : List ℕ) (n : ℕ) → isIn n ns ≡ true → Split place ns n
   split-at place [] n i = absurd (true≢false (sym i))
@@ -93,10 +93,10 @@ module _ (f : Field) where
     where
       go : (eqb m n ≡ true) ⊎ (eqb m n ≡ false) → (isIn n ns ≡ true → Split (suc place) ns n) → Split place (m ∷ ns) n
       go (inl e) later =
-          record { ahead = []; own = place; behind = entriesFrom f (suc place) ns; is = ap (λ (k : ℕ). entryOf f k place ∷ entriesFrom f (suc place) ns) (eqb-true m n e) }
+          record { ahead = []; own = place; behind = listEntries f (suc place) ns; is = ap (λ (k : ℕ). listEntry f k place ∷ listEntries f (suc place) ns) (eqb-true m n e) }
       go (inr e) later =
           let r = later (sym (ap (λ (b : Bool). b || isIn n ns) e) ∙ i) in
-          record { ahead = entryOf f m place ∷ r .ahead; own = r .own; behind = r .behind; is = ap (λ (l : List Entry). entryOf f m place ∷ l) (r .is) }
+          record { ahead = listEntry f m place ∷ r .ahead; own = r .own; behind = r .behind; is = ap (λ (l : List Entry). listEntry f m place ∷ l) (r .is) }
 
   -- ---- the next fix
   opposite-in : (s : ℕ) → opposite (fixIn s) ≡ opposite s
@@ -111,8 +111,8 @@ module _ (f : Field) where
           ∙ sym (ap (λ (t : Bool). cond t 2 (cond (eqb s 2) 1 0)) a ∙ ap (λ (t : Bool). cond t 1 0) b)
 
   -- behind somebody it is the field's, by bound f
-  pub next-is : (n : ℕ) (ns : List ℕ) (next place : ℕ) → T (alternate (map (fixOf f) (n ∷ ns) ++ (f .next ∷ []))) → nextFrom next (entriesFrom f place (n ∷ ns)) ≡ f .next
-  unfolding entryOf
+  pub next-is : (n : ℕ) (ns : List ℕ) (next place : ℕ) → T (alternate (map (fixOf f) (n ∷ ns) ++ (f .next ∷ []))) → nextFrom next (listEntries f place (n ∷ ns)) ≡ f .next
+  unfolding listEntry
   next-is n [] next place t = opposite-in (fixOf f n) ∙ sym (eqb→eq (f .next) (opposite (fixOf f n)) (and-l (eqb (f .next) (opposite (fixOf f n))) true t))
   next-is n (m ∷ ns) next place t =
       next-is m ns (opposite (fixIn (fixOf f n))) (suc place)

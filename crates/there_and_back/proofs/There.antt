@@ -50,7 +50,7 @@ use Rattle.reason.proofs.Stands.{sequence-is, zones-are}
 use Rattle.playing.specs.Playing.{legsInMiles}
 use Rattle.dialect.specs.declared.Entry.{Entry}
 use Rattle.dialect.specs.declared.Listing.{Listing}
-use Rattle.dialect.specs.Going.{entryOf, entriesFrom, entriesOf, inDialect, noEntry, listed, refused, listOf}
+use Rattle.dialect.specs.Going.{listEntry, listEntries, entriesOf, inDialect, noEntry, listed, refused, listOf}
 use Rattle.dialect.specs.Coming.{entriesIn, placedFrom, fixIn, built, fieldOf}
 use Rattle.there_and_back.specs.Settled.{settled, plainZeros, settledZone, settledField, settledIndexed}
 use Rattle.there_and_back.proofs.Shape.{uncut, waiting, atZone, numbersIn, nextFrom, fieldFor, built-for}
@@ -116,7 +116,7 @@ module _ (f : Field) (h : Places f) (w : T (withinBounds f)) (legs : Legs) (spee
   clear : isEmpty f runway ≡ true
   clear = none-on-runway f p
 
-  es-are : es ≡ entriesFrom f 1 order
+  es-are : es ≡ listEntries f 1 order
   es-are = entries-are f clear
 
   holds : T (every (λ n. within 1 4 (find.placeOf f n .zone)) order)
@@ -137,7 +137,8 @@ module _ (f : Field) (h : Places f) (w : T (withinBounds f)) (legs : Legs) (spee
   in-order : (z : ℕ) → T (within 1 12 z) → (a : Aircraft) (rest : List Aircraft) → inZone f z ≡ a ∷ rest → isIn (a .number) order ≡ true
   in-order z t a rest e =
       listed-in-order (a .number)
-      (in-zones f (a .number) z operation (in-operation z t) (ap (λ (l : List Aircraft). isIn (a .number) (map numberOf l)) e ∙ ap (λ (b : Bool). b || isIn (a .number) (map numberOf rest)) (same (a .number))))
+      (in-zones f (a .number) z operation (in-operation z t)
+      (ap (λ (l : List Aircraft). isIn (a .number) (map numberOf l)) e ∙ ap (λ (b : Bool). b || isIn (a .number) (map numberOf rest)) (same (a .number))))
     where
       in-operation : (z : ℕ) → T (within 1 12 z) → isIn z operation ≡ true
       in-operation = λ z t. each-operation (λ y. isIn y operation ≡ true) (refl, refl, refl, refl, refl, refl, refl, refl, refl, refl, refl, refl) z t
@@ -183,17 +184,17 @@ module _ (f : Field) (h : Places f) (w : T (withinBounds f)) (legs : Legs) (spee
         go Waiting v = refl
         go (Flying m) v = absurd v
 
-    built-again : (place : ℕ) → waiting speed (entryOf f (a .number) place) ≡ settled speed a
-    unfolding entryOf entering settled
+    built-again : (place : ℕ) → waiting speed (listEntry f (a .number) place) ≡ settled speed a
+    unfolding listEntry entering settled
     built-again place =
         let fix = ap fixIn has-fix ∙ side-kept (a .fix) (fits .side) in
         λ i. record { number = a .number; fix = fix i; speed = speed; progress = sym waits i; waited = whole 0; leg = whole 0; desk = 1 }
 
     only-one : map (waiting speed) (atZone z es) ≡ settled speed a ∷ []
-    unfolding entryOf
+    unfolding listEntry
     only-one =
         let s = split-at f 1 order (a .number) (in-order z (and-i (leb 1 z) (leb z 12) (le→leb 1 z low) (le→leb z 12 (omega arith))) a [] e) in
-        let e′ = entryOf f (a .number) (s .own) in
+        let e′ = listEntry f (a .number) (s .own) in
         let own : eqb z (e′ .location) ≡ true = eq-eqb z (e′ .location) (sym (ap (λ (q : Place). q .zone) (found-head z t a [] e))) in
         let split = ap (atZone z) (es-are ∙ s .is) ∙ at-split z (s .ahead) e′ (s .behind) own in
         let one = one-at legs speed es p u z low high in
@@ -265,7 +266,7 @@ module _ (f : Field) (h : Places f) (w : T (withinBounds f)) (legs : Legs) (spee
   order-again : take 4 (numbersIn es) ≡ order
   order-again = ap (λ (l : List Entry). take 4 (numbersIn l)) es-are ∙ ap (take 4) (numbers-are f 1 order) ∙ uncut 4 order (order-fits (f .sequence) (h .numbers))
 
-  next-by : (ns : List ℕ) → T (alternate (map (find.fixOf f) ns ++ (f .next ∷ []))) → nextFrom right (entriesFrom f 1 ns) ≡ cond (eqb (length ns) 0) right (f .next)
+  next-by : (ns : List ℕ) → T (alternate (map (find.fixOf f) ns ++ (f .next ∷ []))) → nextFrom right (listEntries f 1 ns) ≡ cond (eqb (length ns) 0) right (f .next)
   next-by [] t = refl
   next-by (n ∷ ns) t = next-is f n ns right 1 t ∙ sym (if-false right (f .next) (ne-eqb (length (n ∷ ns)) 0 (λ k. omega arith)))
 

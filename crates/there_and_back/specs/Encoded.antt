@@ -4,7 +4,7 @@ use mathlib.Core.List.{List, [], _∷_, _++_}
 use Rattle.practice.specs.Practice.{bytes16}
 use Rattle.dialect.specs.declared.Entry.{Entry}
 
--- four numbers of 16 bits, little-endian: number, location, place and fix
+-- an entry as eight bytes, two for each of number, location, place and fix, the low byte first
 abbrev pub entryBytes : Entry → List ℕ
 entryBytes e = bytes16 (e .number) ++ bytes16 (e .location) ++ bytes16 (e .place) ++ bytes16 (e .fix)
 

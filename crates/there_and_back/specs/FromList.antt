@@ -16,7 +16,7 @@ use Rattle.history.specs.History.{mostKept, startWith, withinBoundsHistory}
 abbrev pub historyOfList : FileLegs → ℕ → List ℕ → History
 historyOfList legs speed bytes = startWith (fieldOf legs speed bytes .after)
 
--- "in a field built from a classroom list, none is kept and all eight places hold the empty field with those legs", and the bounds are kept
+-- no field is kept, the places hold the empty field with the list's legs, and the bounds are kept (02, 2.13)
 pub record FromList (legs : FileLegs) (speed : ℕ) (bytes : List ℕ) : Type 0 where
   pub none : historyOfList legs speed bytes .count ≡ 0
   pub places : historyOfList legs speed bytes .kept ≡ replicate mostKept (withIndex (emptyField (legsInMiles legs)))

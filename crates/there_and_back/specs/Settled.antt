@@ -1,6 +1,6 @@
--- Document 02, 2.12: what "there and back" loses. Of a field all else stays: these parts are set to what a field built from a list has.
--- Kept fields (2.13) stand beside a field and are in no list, so they are lost too: a field built from a list has none kept.
--- Definitions only. The words in quotes are those of document 02, 2.12.
+-- What a field loses as a classroom list and back (02, 2.12): these parts are set to what a field built from a list has, and all else stays.
+-- Kept fields (02, 2.13) stand beside a field and are in no list, so they are lost too: a field built from a list has none kept.
+-- Definitions only.
 use mathlib.Core.Bool.{cond}
 use mathlib.Core.List.{_++_, map}
 use Prim.Native.Nat.{ℕ}
@@ -14,18 +14,19 @@ use Rattle.field.specs.declared.Field.{Field}
 use Rattle.field.specs.Boxes.{right, queueOf, orderLength}
 use Rattle.finder.specs.declared.Indexed.{Indexed}
 
--- one present: its "speed", its "waiting sums", its "owners", who are all desk 1, and "a zero's sign" of its own leg, which is 0 while it waits (2.7)
+-- one present: it gets the caller's speed, no miles waited, desk 1, and plus 0 for its own leg, which compares equal to 0 while it waits (02, 2.7)
 unfoldable pub settled : ℕ → Aircraft → Aircraft
 settled speed a = record { number = a .number; fix = a .fix; speed = speed; progress = a .progress; waited = whole 0; leg = whole 0; desk = 1 }
 
--- a place past a length: "a zero's sign"
+-- a place past a length: its floats are plus 0
 unfoldable pub plainZeros : Aircraft → Aircraft
 plainZeros a = record { number = a .number; fix = a .fix; speed = a .speed; progress = a .progress; waited = whole 0; leg = whole 0; desk = a .desk }
 
+-- a zone: those in it, and the places past its length
 unfoldable pub settledZone : ℕ → Zone → Zone
 settledZone speed q = record { aircraft = map (settled speed) (queueOf q) ++ map plainZeros (drop (q .length) (q .aircraft)); length = q .length }
 
--- the field: its zones, its "legs", and "the next fix of an empty field"
+-- the field: its zones, the caller's legs, and right as the next fix where the sequence is empty
 unfoldable pub settledField : Legs → ℕ → Field → Field
 settledField legs speed f =
     record {
@@ -35,6 +36,6 @@ settledField legs speed f =
       legs = legs;
     }
 
--- the index stays (2.9)
+-- the field with its index, which stays (02, 2.9)
 unfoldable pub settledIndexed : Legs → ℕ → Indexed → Indexed
 settledIndexed legs speed x = record { field = settledField legs speed (x .field); index = x .index }

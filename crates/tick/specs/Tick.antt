@@ -1,4 +1,4 @@
--- Document 01, "12 tick", with document 02, 2.2 and 2.7: what an accepted tick does to an aircraft, to a zone and to the field.
+-- Kind 12, the tick (01, "The requests"; 02, 2.2 and 2.7): what an accepted tick does to an aircraft, to a zone and to the field.
 use mathlib.Core.Bool.{cond}
 use mathlib.Core.List.{List, [], _∷_, map}
 use Prim.Native.Nat.{ℕ, suc}
@@ -30,7 +30,7 @@ abbrev pub tickedFrom : ℕ → ℕ → List Zone → List Zone
 tickedFrom amount z [] = []
 tickedFrom amount z (q ∷ qs) = cond (isFlyingZone z) (tickedZone amount q) q ∷ tickedFrom amount (suc z) qs
 
--- "everyone flying advances"
+-- the field after a tick of the amount
 unfoldable pub ticked : Field → ℕ → Field
 ticked f amount =
     record { zones = tickedFrom amount 1 (f .zones); sequence = f .sequence; next = f .next; legs = f .legs }

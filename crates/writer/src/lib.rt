@@ -1,5 +1,5 @@
-// Writing a practice file (document 02, 2.11): from four legs and requests that are lent as bytes, the one file that the reader takes as
-// exactly those, into a lent buffer.
+// Writing a practice file (document 02, 2.11): from four legs and requests that are lent as bytes, the one file that is read as those, into a
+// lent buffer.
 use practice::FileLegs;
 use practice::Reading;
 use practice::legs_allowed;

@@ -157,7 +157,7 @@ fn shortened(file: Vec<u8>, mut differs: impl FnMut(&[u8]) -> bool) -> Vec<u8> {
 }
 
 /// One after another is left out, where the others differ without it.
-fn fewer<T: Clone>(mut kept: Vec<T>, mut differs: impl FnMut(&[T]) -> bool) -> Vec<T> {
+pub fn fewer<T: Clone>(mut kept: Vec<T>, mut differs: impl FnMut(&[T]) -> bool) -> Vec<T> {
     let mut at = 0;
     while at < kept.len() {
         let mut fewer = kept.clone();

@@ -1,12 +1,17 @@
 //! Practice files, binders of them, what files are written from, lists of the
-//! classroom dialect, and the two programs that play, write and convert them:
-//! the proved library ([`library`]) and the reference.
+//! classroom dialect, calls of a host program, and the two programs that play,
+//! write, convert and answer them: the proved library ([`library`],
+//! [`host_library`]) and the reference.
 
 pub mod binders;
 pub mod damaged;
 pub mod dice;
 pub mod difference;
 pub mod fields;
+pub mod host_calls;
+pub mod host_library;
+pub mod host_table;
+pub mod hosted;
 pub mod lessons;
 pub mod library;
 pub mod list_table;

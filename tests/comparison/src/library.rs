@@ -154,6 +154,6 @@ impl Library {
 }
 
 /// Whether all bytes are this one. No branch for each of them, so that it is fast.
-fn all_are(bytes: &[u8], byte: u8) -> bool {
+pub fn all_are(bytes: &[u8], byte: u8) -> bool {
     bytes.iter().fold(0, |differing, &other| differing | (other ^ byte)) == 0
 }

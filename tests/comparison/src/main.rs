@@ -1,17 +1,19 @@
 //! Plays many practice files by the proved library, with the fields judged
 //! and not, and by the reference, many binders by both, and many files after
 //! which the button is held down, and after which the spacing or a list of the
-//! classroom dialect is asked for, has both write practice files, and build the
-//! fields of such lists: comparison [SEED [COUNT]], COUNT random sessions, as
-//! many fields, a tenth as many random binders, a tenth as many for the button,
-//! a quarter for the spacing, for the list, and to be written. The last line
-//! says how many of them were compared, and the verdict.
+//! classroom dialect is asked for, has both write practice files, build the
+//! fields of such lists, and answer the calls of a host program: comparison
+//! [SEED [COUNT]], COUNT random sessions, as many fields, a tenth as many random
+//! binders, a tenth as many for the button, a quarter for the spacing, for the
+//! list, and to be written, a tenth as many lists of calls. The last line says
+//! how many of them were compared, and the verdict.
 
 use comparison::dice::Dice;
 use comparison::difference::{
     readable, readable_binder, readable_field, readable_lesson, same_button, same_field, same_list,
     same_report, same_spacing, same_week, same_writing,
 };
+use comparison::hosted::{self, Hosted};
 use comparison::lessons::Lesson;
 use comparison::library::Library;
 use comparison::list_table::{Built, Lists};
@@ -36,6 +38,8 @@ const A_SPACED: usize = 4;
 const A_WRITTEN: usize = 4;
 /// Random sessions for each after which the list is asked for.
 const A_LISTED: usize = 4;
+/// Random sessions for each list of calls.
+const A_HOSTED: usize = 10;
 /// Damaged files that play for each after which the button is held down.
 const A_DAMAGED: usize = 16;
 
@@ -63,6 +67,8 @@ struct Comparison {
     /// Lists of which a field was to be built.
     built: usize,
     fields: Built,
+    /// Calls of a host program.
+    hosted: Hosted,
 }
 
 impl Comparison {
@@ -234,7 +240,8 @@ fn all(comparison: &mut Comparison, seed: u64, count: usize) -> Result<(), Strin
     all_spaced(comparison, &mut dice, count)?;
     all_written(comparison, &mut dice, count)?;
     all_listed(comparison, &mut dice, count)?;
-    all_built(comparison, &mut dice, count)
+    all_built(comparison, &mut dice, count)?;
+    all_hosted(comparison, &mut dice, count)
 }
 
 fn all_binders(comparison: &mut Comparison, dice: &mut Dice, count: usize) -> Result<(), String> {
@@ -337,6 +344,13 @@ fn all_built(comparison: &mut Comparison, dice: &mut Dice, count: usize) -> Resu
     none_of(comparison.fields.faults())
 }
 
+fn all_hosted(comparison: &mut Comparison, dice: &mut Dice, count: usize) -> Result<(), String> {
+    let hosted = &mut comparison.hosted;
+    hosted::all(hosted, dice, count / A_HOSTED)?;
+    println!("{}", hosted.table);
+    none_of(hosted.table.faults())
+}
+
 fn argument<T: std::str::FromStr>(place: usize, default: T) -> T {
     match env::args().nth(place) {
         Some(word) => word.parse().unwrap_or_else(|_| panic!("not a number: {word}")),
@@ -348,15 +362,16 @@ fn main() -> ExitCode {
     let (seed, count) = (argument(1, SEED), argument(2, COUNT));
     let mut comparison = Comparison::default();
     let outcome = all(&mut comparison, seed, count);
-    let Comparison { compared, binders, pressed, spaced, written, listed, built, .. } = comparison;
+    let Comparison { compared, binders, pressed, spaced, written, listed, built, hosted, .. } = comparison;
+    let calls = hosted.calls;
     match outcome {
         Ok(()) => {
-            println!("compare: {compared} files compared (seed {seed}), fields judged and not, {binders} binders, the button after {pressed} files, the spacing after {spaced} and the list after {listed}, {written} lists written or refused, {built} fields of lists: every report, file and number the same");
+            println!("compare: {compared} files compared (seed {seed}), fields judged and not, {binders} binders, the button after {pressed} files, the spacing after {spaced} and the list after {listed}, {written} lists written or refused, {built} fields of lists, {calls} calls of a host: every report, file, number and state the same");
             ExitCode::SUCCESS
         }
         Err(fault) => {
             print!("{fault}");
-            println!("compare: FAILED after {compared} files, {binders} binders, the button after {pressed} files, the spacing after {spaced}, {written} lists to be written, the list after {listed} files and {built} fields of lists (seed {seed})");
+            println!("compare: FAILED after {compared} files, {binders} binders, the button after {pressed} files, the spacing after {spaced}, {written} lists to be written, the list after {listed} files, {built} fields of lists and {calls} calls of a host (seed {seed})");
             ExitCode::FAILURE
         }
     }

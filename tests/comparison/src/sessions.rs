@@ -5,7 +5,7 @@ use crate::dice::Dice;
 use reference::{Aircraft, Field, PracticeFile, Refusal, Request, Zone};
 
 /// What one session is drawn by.
-struct Habits {
+pub struct Habits {
     numbers: [u16; 6],
     speeds: [u16; 3],
     ticks: [u16; 3],
@@ -20,7 +20,7 @@ struct Habits {
 }
 
 impl Habits {
-    fn drawn(dice: &mut Dice) -> Habits {
+    pub fn drawn(dice: &mut Dice) -> Habits {
         Habits {
             numbers: [(); 6].map(|()| number(dice)),
             speeds: [(); 3].map(|()| speed(dice)),
@@ -33,7 +33,8 @@ impl Habits {
         }
     }
 
-    fn request(&self, dice: &mut Dice, field: &Field) -> Request {
+    /// The next request on a field, by the desk of the aircraft that is meant where it is drawn by where that is.
+    pub fn request(&self, dice: &mut Dice, field: &Field) -> Request {
         match dice.below(64) {
             0 => self.damaged(dice),
             1 => any_request(dice),
@@ -81,7 +82,8 @@ impl Habits {
             1 => self.tick(dice),
             _ => {
                 let (zone, aircraft) = dice.pick(&there);
-                let request = Request::new(self.kind_from(dice, zone), 0, aircraft.number, 0);
+                let request =
+                    Request::new(self.kind_from(dice, zone), 0, aircraft.number, 0).by(aircraft.desk);
                 let early = field.clone().step(&request) == Err(Refusal::LegNotFlownOut);
                 // Mostly it waits until its leg is flown out.
                 if early && !dice.once_in(8) {
@@ -151,7 +153,7 @@ fn tick_amount(dice: &mut Dice) -> u16 {
 }
 
 /// A leg length, short in most files.
-fn leg(dice: &mut Dice, longest: usize) -> u16 {
+pub fn leg(dice: &mut Dice, longest: usize) -> u16 {
     if dice.once_in(4) {
         dice.pick(&[1, 2, 63, 64, 65, 100])
     } else {

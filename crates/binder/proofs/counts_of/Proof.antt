@@ -110,7 +110,8 @@ loop-again c =
     let file = k .before .before .file-at .ensures .1 .1 in
     let few = requests-few (file-of k) in
     let n = count-told k in
-    let counted = file-counted (l .loop .c) (file-of k) (drop (7 * k .play .result .requests) (l .loop .log)) (k .play .ensures .0) (k .play .ensures .1) (w .with-number .ensures) (c .with-answers .ensures) in
+    let counted =
+    file-counted (l .loop .c) (file-of k) (drop (7 * k .play .result .requests) (l .loop .log)) (k .play .ensures .0) (k .play .ensures .1) (w .with-number .ensures) (c .with-answers .ensures) in
     let number = small-number (l .loop .c) (k .play .result .number) (l .loop .inv .small) in
     let all = small-counted (withNumber (l .loop .c) (k .play .result .number)) (log-after k) (k .play .result .requests) (columned k) number in
     let same = c .with-answers .ensures ∙ ap (λ (u : Counts). countedTo u (log-after k) (k .play .result .requests)) (w .with-number .ensures) in

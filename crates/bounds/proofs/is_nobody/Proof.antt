@@ -55,7 +55,8 @@ numbers-0 : (a : Aircraft) → Zeros a → {t u w : Bool} → eq (a .waited) (of
     → isNobody a ≡ (t && u && w)
 unfolding isNobody ofBits ofInt
 numbers-0 a z {t} {u} e g w =
-    ap (λ (b : Bool). b && eq (a .leg) (ofBits binary64 0) && isWaiting (a .progress)) (and-then (and-then (and-then (and-then (eq-eqb _ _ (z .number)) (eq-eqb _ _ (z .fix))) (eq-eqb _ _ (z .speed))) (eq-eqb _ _ (z .desk))) e)
+    ap (λ (b : Bool). b && eq (a .leg) (ofBits binary64 0) && isWaiting (a .progress))
+    (and-then (and-then (and-then (and-then (eq-eqb _ _ (z .number)) (eq-eqb _ _ (z .fix))) (eq-eqb _ _ (z .speed))) (eq-eqb _ _ (z .desk))) e)
     ∙ ap (λ (b : Bool). t && b && isWaiting (a .progress)) g
     ∙ ap (λ (b : Bool). t && u && b) (sym w)
 

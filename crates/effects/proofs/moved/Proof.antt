@@ -48,7 +48,8 @@ unfolding headGone
 head-off f z {q} d long low high e = written f z q low ∙ ap (withZone f z) (e ∙ ap withoutHead (zone-read f z d long low high))
 
 -- an aircraft put at the tail of a zone where the zone stands
-tail-on : (f : Field) (z : ℕ) (a : Aircraft) {q : Zone} (d : Zone) → length (f .zones) ≡ 13 → 1 ≤ z → z ≤ 13 → q ≡ withTail (getD (f .zones) (z - 1) d) a → zoned f (set (f .zones) (z - 1) q) ≡ tailPut f z a
+tail-on : (f : Field) (z : ℕ) (a : Aircraft) {q : Zone} (d : Zone) → length (f .zones) ≡ 13 → 1 ≤ z → z ≤ 13 → q ≡ withTail (getD (f .zones) (z - 1) d) a
+    → zoned f (set (f .zones) (z - 1) q) ≡ tailPut f z a
 unfolding tailPut
 tail-on f z a {q} d long low high e = written f z q low ∙ ap (withZone f z) (e ∙ ap (λ (p : Zone). withTail p a) (zone-read f z d long low high))
 

@@ -2,10 +2,13 @@
 use mathlib.Core.Path.{_≡_, sym, ap, _∙_, subst⁻¹}
 use mathlib.Core.Logic.{inl, inr, ⊎-elim}
 use mathlib.Core.Bool.{true, cond}
-use Prim.Native.Nat.{ℕ}
+use mathlib.Core.List.{[]}
+use Prim.Native.Nat.{ℕ, _-_, _≤_}
 use native.Mathlib.Omega.{arith}
 use lib.Dec.{T, eqb}
+use lib.ListN.{getD}
 use borrow.Author.Tests.{eq-eqb}
+use Rattle.leg.specs.Ticks.{Between}
 use Rattle.request.specs.Input.{firstRefused}
 use Rattle.request.specs.declared.Request.{Request}
 use Rattle.field.specs.declared.Field.{Field}
@@ -23,6 +26,8 @@ use Rattle.indexed.specs.declared.AnswerAndIndex.{AnswerAndIndex}
 use Rattle.indexed.specs.declared.SteppedIndexed.{SteppedIndexed}
 use Rattle.indexed.specs.Indexed.{withIndex, numberIndexed}
 use Rattle.indexed.proofs.Steps.{turned-away, let-through, number-within, field-within, asked-found, tick-leaves}
+use Rattle.kept_up.proofs.Leads.{leads-within}
+use Rattle.indexed.proofs.Kept.{IndexedKnown, indexed-known, length-there, few-there, kept-up-after}
 use Rattle.indexed.proofs.step_by_index.Statement.{statement}
 use Rattle.indexed.proofs.step_by_index.Tie as tie
 
@@ -41,13 +46,13 @@ made f r {at} {along} {g} {a} p el eg ea =
 
 -- ---- the way back to the start
 abbrev start : tie.After-check-number → tie.Start
-start c = c .before .before .before .before .before
+start c = c .before .before .before .before .before .before
 
 -- where the aircraft was found
-found : (c : tie.After-check-number) → c .before .before .find .result ≡ placeBefore (start c .args .x .field) (start c .args .r)
+found : (c : tie.After-check-number) → c .before .before .before .find .result ≡ placeBefore (start c .args .x .field) (start c .args .r)
 found c =
     let s = start c in
-    c .before .before .find .ensures ∙ indexed-as-looked (s .args .x) (s .pre .0 .1) (s .args .r .number)
+    c .before .before .before .find .ensures ∙ indexed-as-looked (s .args .x) (s .pre .0 .1) (s .args .r .number)
 
 -- the number of the needs
 need : (c : tie.After-check-number) → c .check-number .result ≡ firstRefused (checksOf (start c .args .x .field) (start c .args .r))
@@ -70,16 +75,30 @@ met : (c : tie.Else1) → firstRefused (checksOf (start (c .before) .args .x .fi
 met c = sym (need (c .before)) ∙ c .if1 .left
 
 -- the field after it
-after : (c : tie.After-effect) → let s = start (c .before .before .before) in c .effect .result ≡ effectOf (s .args .x .field) (s .args .r)
+after : (c : tie.After-effect) → let s = start (c .before .before .before .before) in c .effect .result ≡ effectOf (s .args .x .field) (s .args .r)
 after c =
-    let k = c .before .before .before in
+    let k = c .before .before .before .before in
     let s = start k in
     effected (s .args .x .field) (s .args .r) (found k) (asked-found (s .args .x) (s .pre .0 .1) (s .args .r) (k .before .zone-ahead .ensures)) (c .effect .ensures)
 
+-- the zone that the request leads to, where it tells it
+known : (c : tie.After-check-number) → IndexedKnown (start c .args .x)
+known c = indexed-known (start c .args .x) (start c .good .0)
+
+led-within : (c : tie.After-leads-to) → Between 1 13 (c .leads-to .result)
+led-within c = subst⁻¹ (Between 1 13) (c .leads-to .ensures) (leads-within _ _)
+
+there-few : (c : tie.Joined2) → let led = c .before .before in getD (start (led .before .before .before) .args .x .field .zones) (led .leads-to .result - 1) (record { aircraft = []; length = 0 }) .length ≤ 4
+there-few c =
+    let led = c .before .before in
+    let k = led .before .before .before in
+    let s = start k in
+    few-there (s .args .x) (s .pre .0 .1) (known k) (led .leads-to .result) _ (led-within led)
+
 -- it is within the bounds: it was judged, or 25 is not the number
-bounded : (c : tie.Joined2) → let s = start (c .before .before .before .before) in withinBounds (effectOf (s .args .x .field) (s .args .r)) ≡ true
+bounded : (c : tie.Joined2) → let s = start (c .before .before .before .before .before) in withinBounds (effectOf (s .args .x .field) (s .args .r)) ≡ true
 bounded c =
-    let e = c .before .before .before in
+    let e = c .before .before .before .before in
     let k = e .before in
     let s = start k in
     ⊎-elim (λ j. holds (j .1 .ensures ∙ ap withinBounds (after (c .before))) (j .2 .left))
@@ -113,6 +132,27 @@ returns c =
 along-of-requires : tie.Need-along-of-requires
 along-of-requires c κs = search needs
 
+leads-to-requires : tie.Need-leads-to-requires
+leads-to-requires c κs = search needs
+
+sub-there : tie.Need-sub-there
+sub-there c = let b = led-within c in omega (arith, b)
+
+mul-there : tie.Need-mul-there
+mul-there c = let b = led-within c in search (needs, b)
+
+element-copy-out-there : tie.Need-element-copy-out-there
+element-copy-out-there c = let b = led-within c in omega (arith, b)
+
+cast-t24 : tie.Need-cast-t24
+cast-t24 c = let b = led-within (c .before .before) in omega (arith, b)
+
+add-t19 : tie.Need-add-t19
+add-t19 c = let few = there-few c in omega (arith, few)
+
+cast-t25 : tie.Need-cast-t25
+cast-t25 c = let few = there-few c in omega (arith, few)
+
 effect-requires : tie.Need-effect-requires
 effect-requires c κs = search needs
 
@@ -126,7 +166,7 @@ returns-2 : tie.Need-returns-2
 returns-2 c =
     let w = c .before .before in
     let e = w .before .before in
-    let l = e .before .before in
+    let l = e .before .before .before in
     let k = l .before in
     let s = start k in
     let broken = fails (w .within-bounds .ensures ∙ ap withinBounds (after e)) (c .before .if3 .taken) in
@@ -135,9 +175,14 @@ returns-2 c =
 
 answered-requires : tie.Need-answered-requires
 answered-requires c κs =
-    let s = start (c .before .before .before .before) in (
+    let led = c .before .before in
+    let e = led .before .before in
+    let k = e .before in
+    let s = start k in (
       subst⁻¹ (λ (g : Field). T (withinBounds g)) (after (c .before)) (pass (bounded c)),
       (λ k. tick-leaves (s .args .x) (s .pre .0 .1) (s .args .r) k ∙ sym (ap indexOf (after (c .before)))),
+      kept-up-after (s .args .x) (s .pre .0 .1) (known k) (s .args .r) (number k ∙ if-true _ _ (eq-eqb _ _ (met e)) ∙ if-true _ _ (bounded c)) (found k) (led .leads-to .ensures)
+          (length-there (s .args .x) (s .pre .0 .1) (known k) (led .leads-to .result) _ (led-within led)) (after (c .before)),
     )
 
 accepted-requires : tie.Need-accepted-requires
@@ -146,7 +191,7 @@ accepted-requires c κs = search needs
 returns-3 : tie.Need-returns-3
 returns-3 c =
     let j = c .before .before in
-    let l = j .before .before in
+    let l = j .before .before .before in
     let e = l .before in
     let k = e .before in
     let s = start k in
@@ -165,10 +210,17 @@ step-by-index-spec =
     turned-away-requires
     returns
     along-of-requires
+    leads-to-requires
+    sub-there
+    mul-there
+    element-copy-out-there
     effect-requires
     within-bounds-requires
     turned-away-requires-2
     returns-2
+    cast-t24
+    add-t19
+    cast-t25
     answered-requires
     accepted-requires
     returns-3)

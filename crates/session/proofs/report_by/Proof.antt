@@ -114,7 +114,9 @@ returns-2 c =
     let words : HasWords (logOf ps ++ rest) = subst HasWords log (a .put-answers .ensures .1) in
     let few = requests-few file in
     let short = lines-short ps rest 1 (answers-short file accepted) words (omega arith) in
-    let last = end-length (t .tally-of .result) (k .play .result .present) (omega (arith, t .tally-of .ok)) (omega (arith, t .tally-of .ok)) (omega (arith, t .tally-of .ok)) (omega (arith, t .tally-of .ok)) (omega (arith, k .play .ok)) in
+    let last =
+    end-length (t .tally-of .result) (k .play .result .present) (omega (arith, t .tally-of .ok)) (omega (arith, t .tally-of .ok))
+    (omega (arith, t .tally-of .ok)) (omega (arith, t .tally-of .ok)) (omega (arith, k .play .ok)) in
     let both = length-append (linesTo (k .play .last .1 .1 .0) (k .play .result .requests)) (endLine (t .tally-of .result) (k .play .result .present)) in
     let same = ap length lines in
     let room = written (put-more (a .put-answers .ensures .0) (c .put-end .ensures)) (room-known (k .before .before)) (omega arith) in

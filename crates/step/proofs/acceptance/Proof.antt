@@ -14,7 +14,8 @@ use Rattle.step.proofs.acceptance.Statement.{statement}
 use Rattle.step.proofs.acceptance.Tie as tie
 
 -- an answer whose aircraft and leader are those of the places
-made : (f : Field) (at ahead : Place) (r : Request) (along : ℕ) {a b : Aircraft} {leader : ℕ} → a ≡ aircraftAt f (at .zone) (at .place) → b ≡ aircraftAt f (ahead .zone) (ahead .place) → leader ≡ shownTo (r .desk) b
+made : (f : Field) (at ahead : Place) (r : Request) (along : ℕ) {a b : Aircraft} {leader : ℕ} → a ≡ aircraftAt f (at .zone) (at .place)
+    → b ≡ aircraftAt f (ahead .zone) (ahead .place) → leader ≡ shownTo (r .desk) b
     → record { number = 0; aircraft = r .number; zone = at .zone; fix = a .fix; leader = leader; along = along } ≡ acceptance f at ahead r along
 unfolding acceptance
 made f at ahead r along {a} {b} {leader} ea eb el = ap (λ (x : Aircraft). answered (x .fix) leader) ea ∙ ap (answered (aircraftAt f (at .zone) (at .place) .fix)) (el ∙ ap (shownTo (r .desk)) eb)

@@ -136,7 +136,9 @@ loop-again c =
     let s = l .before .before .before .args in
     let log = now (s .log) in
     let inv = l .loop .inv in
-    let one = one-more (s .c) (l .loop .cells) (l .loop .moves) (l .loop .landings) (kindAt log (l .loop .i)) (numberAt log (l .loop .i)) (k .cell-of .ensures) (c .before .moved .ensures) (c .landed .ensures) in
+    let one =
+    one-more (s .c) (l .loop .cells) (l .loop .moves) (l .loop .landings) (kindAt log (l .loop .i))
+    (numberAt log (l .loop .i)) (k .cell-of .ensures) (c .before .moved .ensures) (c .landed .ensures) in
     let m = moved-low (c .before) in
     let d = landed-low c in
     record {

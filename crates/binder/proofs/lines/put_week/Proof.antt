@@ -14,8 +14,10 @@ use Rattle.binder.proofs.lines.put_week.Statement.{statement}
 use Rattle.binder.proofs.lines.put_week.Tie as tie
 
 -- the table's length
-table : (c : tie.After-cells2) → length (c .before .before .before .before .before .before .before .before .before .before .before .before .before .before .before .before .before .before .before .before .before .before .before .before .before .before .before .before .before .args .c .cells) ≡ 273
-table c = table-known (c .before .before .before .before .before .before .before .before .before .before .before .before .before .before .before .before .before .before .before .before .before .before .before .before .before .before .before .before .before .args .c) (c .before .before .before .before .before .before .before .before .before .before .before .before .before .before .before .before .before .before .before .before .before .before .before .before .before .before .before .before .before .good .1 .0)
+table : (c : tie.After-cells2)
+    → length (c .before .before .before .before .before .before .before .before .before .before .before .before .before .before .before .before .before .before .before .before .before .before .before .before .before .before .before .before .before .args .c .cells) ≡ 273
+table c =
+    table-known (c .before .before .before .before .before .before .before .before .before .before .before .before .before .before .before .before .before .before .before .before .before .before .before .before .before .before .before .before .before .args .c) (c .before .before .before .before .before .before .before .before .before .before .before .before .before .before .before .before .before .before .before .before .before .before .before .before .before .before .before .before .before .good .1 .0)
 
 slice-aggregate-put-count : tie.Need-slice-aggregate-put-count
 slice-aggregate-put-count c = search needs
@@ -75,7 +77,8 @@ same-length c =
     let p3 = p4 .before .before .before .before .before in
     let p2 = p3 .before .before .before .before .before in
     let p1 = p2 .before .before .before .before .before in
-    put-same (put-more (put-more (put-more (put-more (put-more (put-more (put-more (p1 .put-count .ensures) (p2 .put-count2 .ensures)) (p3 .put-count3 .ensures)) (p4 .put-count4 .ensures)) (heading .put-text .ensures)) (table .put-rows .ensures .0)) (p5 .put-count5 .ensures)) (p6 .put-count6 .ensures))
+    put-same (put-more (put-more (put-more (put-more (put-more (put-more (put-more (p1 .put-count .ensures) (p2 .put-count2 .ensures)) (p3 .put-count3 .ensures)) (p4 .put-count4 .ensures))
+    (heading .put-text .ensures)) (table .put-rows .ensures .0)) (p5 .put-count5 .ensures)) (p6 .put-count6 .ensures))
 
 returns : tie.Need-returns
 unfolding weekLines filesLine refusedLine headingLine movesLine landingsLine columns decimal digitsUpTo
@@ -89,7 +92,8 @@ returns c =
     let p2 = p3 .before .before .before .before .before in
     let p1 = p2 .before .before .before .before .before in
     let s = p1 .before .before .before .before in
-    let counts : Counted64 (s .args .c) = record { played = omega (arith, s .good .1 .0); refused5 = omega (arith, s .good .1 .0); refused6 = omega (arith, s .good .1 .0); refused7 = omega (arith, s .good .1 .0); moves = omega (arith, s .good .1 .0); landings = omega (arith, s .good .1 .0) } in
+    let counts : Counted64 (s .args .c) =
+    record { played = omega (arith, s .good .1 .0); refused5 = omega (arith, s .good .1 .0); refused6 = omega (arith, s .good .1 .0); refused7 = omega (arith, s .good .1 .0); moves = omega (arith, s .good .1 .0); landings = omega (arith, s .good .1 .0) } in
     (put-more (put-more (put-more (put-more (put-more (put-more (put-more (p1 .put-count .ensures) (p2 .put-count2 .ensures)) (p3 .put-count3 .ensures)) (p4 .put-count4 .ensures)) (heading .put-text .ensures)) (table .put-rows .ensures .0)) (p5 .put-count5 .ensures)) (p6 .put-count6 .ensures), week-short (s .args .c) counts (table .put-rows .ensures .1))
 
 pub put-week-spec : {M : Type 1} → statement M

@@ -37,7 +37,9 @@ not-built-requires-2 : tie.Need-not-built-requires-2
 not-built-requires-2 c κs = search needs
 
 returns-2 : tie.Need-returns-2
-returns-2 c = c .not-built2 .ensures ∙ sym (refused-4 _ _ _ (holds (c .before .before .before .before .legs-allowed .ensures) (c .before .before .before .if1 .left)) (fails (c .before .before .speed-allowed .ensures) (c .before .if2 .taken)))
+returns-2 c =
+    c .not-built2 .ensures ∙ sym (refused-4 _ _ _ (holds (c .before .before .before .before .legs-allowed .ensures) (c .before .before .before .if1 .left))
+    (fails (c .before .before .speed-allowed .ensures) (c .before .if2 .taken)))
 
 list-allowed-requires : tie.Need-list-allowed-requires
 list-allowed-requires c κs = search needs
@@ -46,7 +48,9 @@ not-built-requires-3 : tie.Need-not-built-requires-3
 not-built-requires-3 c κs = search needs
 
 returns-3 : tie.Need-returns-3
-returns-3 c = c .not-built3 .ensures ∙ sym (refused-29 _ _ _ (holds (c .before .before .before .before .before .before .legs-allowed .ensures) (c .before .before .before .before .before .if1 .left)) (holds (c .before .before .before .before .speed-allowed .ensures) (c .before .before .before .if2 .left)) (fails (c .before .before .list-allowed .ensures) (c .before .if3 .taken)))
+returns-3 c =
+    c .not-built3 .ensures ∙ sym (refused-29 _ _ _ (holds (c .before .before .before .before .before .before .legs-allowed .ensures) (c .before .before .before .before .before .if1 .left))
+    (holds (c .before .before .before .before .speed-allowed .ensures) (c .before .before .before .if2 .left)) (fails (c .before .before .list-allowed .ensures) (c .before .if3 .taken)))
 
 legs-in-miles-requires : tie.Need-legs-in-miles-requires
 legs-in-miles-requires c κs = search needs
@@ -68,14 +72,22 @@ returns-4 c =
     let w = c .before .before in
     let list = now (w .before .before .before .before .before .before .before .before .before .before .before .args .list) in
     let x = made _ _ list (w .before .before .before .legs-in-miles .ensures) (w .before .before .built .ensures) (w .before .with-index .ensures) in
-    c .not-built4 .ensures ∙ sym (refused-25 _ _ _ (holds (c .before .before .before .before .before .before .before .before .before .before .before .legs-allowed .ensures) (c .before .before .before .before .before .before .before .before .before .before .if1 .left)) (holds (c .before .before .before .before .before .before .before .before .before .speed-allowed .ensures) (c .before .before .before .before .before .before .before .before .if2 .left)) (holds (c .before .before .before .before .before .before .before .list-allowed .ensures) (c .before .before .before .before .before .before .if3 .left)) x (fails (w .within-bounds-indexed .ensures) (c .before .if4 .taken)))
+    c .not-built4 .ensures ∙ sym (refused-25 _ _ _ (holds (c .before .before .before .before .before .before .before .before .before .before .before .legs-allowed .ensures)
+    (c .before .before .before .before .before .before .before .before .before .before .if1 .left))
+    (holds (c .before .before .before .before .before .before .before .before .before .speed-allowed .ensures) (c .before .before .before .before .before .before .before .before .if2 .left))
+    (holds (c .before .before .before .before .before .before .before .list-allowed .ensures) (c .before .before .before .before .before .before .if3 .left)) x
+    (fails (w .within-bounds-indexed .ensures) (c .before .if4 .taken)))
 
 returns-5 : tie.Need-returns-5
 returns-5 c =
     let w = c .before in
     let list = now (w .before .before .before .before .before .before .before .before .before .before .before .args .list) in
     let x = made _ _ list (w .before .before .before .legs-in-miles .ensures) (w .before .before .built .ensures) (w .before .with-index .ensures) in
-    sym (accepted _ _ _ (holds (c .before .before .before .before .before .before .before .before .before .before .legs-allowed .ensures) (c .before .before .before .before .before .before .before .before .before .if1 .left)) (holds (c .before .before .before .before .before .before .before .before .speed-allowed .ensures) (c .before .before .before .before .before .before .before .if2 .left)) (holds (c .before .before .before .before .before .before .list-allowed .ensures) (c .before .before .before .before .before .if3 .left)) x (holds (w .within-bounds-indexed .ensures) (c .if4 .left)))
+    sym (accepted _ _ _ (holds (c .before .before .before .before .before .before .before .before .before .before .legs-allowed .ensures)
+    (c .before .before .before .before .before .before .before .before .before .if1 .left))
+    (holds (c .before .before .before .before .before .before .before .before .speed-allowed .ensures) (c .before .before .before .before .before .before .before .if2 .left))
+    (holds (c .before .before .before .before .before .before .list-allowed .ensures) (c .before .before .before .before .before .if3 .left)) x
+    (holds (w .within-bounds-indexed .ensures) (c .if4 .left)))
 
 pub field-of-spec : {M : Type 1} → statement M
 field-of-spec =

@@ -14,7 +14,7 @@ use Rattle.field.proofs.Known.{field-known}
 use Rattle.field.proofs.Shapes.{order-fits}
 use Rattle.field.proofs.Tests.{if-true, if-false}
 use Rattle.dialect.specs.declared.Entry.{Entry}
-use Rattle.dialect.specs.Going.{entryOf, entriesFrom, onRunway, entriesOf, listed}
+use Rattle.dialect.specs.Going.{listEntry, listEntries, onRunway, entriesOf, listed}
 use Rattle.dialect.proofs.Taken.{Taken, taken-none, taken-more, taken-all, taken-last}
 use Rattle.dialect.proofs.going.everyone.Statement.{statement}
 use Rattle.dialect.proofs.going.everyone.Tie as tie
@@ -98,7 +98,7 @@ unfolding entriesOf onRunway
 returns c =
     let l = c .before .before .before .loop in
     let f = c .before .before .before .before .before .before .before .args .f in
-    let es = entriesFrom f 1 (orderOf (f .sequence)) in
+    let es = listEntries f 1 (orderOf (f .sequence)) in
     let none = ap (λ (r : List Entry). es ++ r) (if-true _ _ (sym (c .before .is-empty .ensures) ∙ c .if1 .taken)) ∙ append-nil es in
     taken-all f (l .i) (omega (arith, l .inv .whole)) (l .inv .taken) (omega (arith, l .inv .within)) ∙ ap listed (sym none)
 
@@ -123,8 +123,8 @@ returns-2 c =
     let b = c .before .before in
     let l = b .before .before .before .loop in
     let f = b .before .before .before .before .before .before .before .args .f in
-    let number = ap (λ (a : Aircraft). entryOf f (a .number) 0) (c .before .aircraft-at .ensures) in
-    let one = ap (λ (r : List Entry). entriesFrom f 1 (orderOf (f .sequence)) ++ r) (if-false _ _ (sym (b .before .is-empty .ensures) ∙ b .if1 .left)) in
+    let number = ap (λ (a : Aircraft). listEntry f (a .number) 0) (c .before .aircraft-at .ensures) in
+    let one = ap (λ (r : List Entry). listEntries f 1 (orderOf (f .sequence)) ++ r) (if-false _ _ (sym (b .before .is-empty .ensures) ∙ b .if1 .left)) in
     taken-last f (l .i) (omega (arith, l .inv .whole)) (l .inv .taken) (omega (arith, l .inv .within, l .inv .fits)) (c .entry-of2 .ensures ∙ number) (omega (arith, l .inv .within))
     ∙ ap listed (sym one)
 

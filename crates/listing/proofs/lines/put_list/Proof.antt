@@ -28,7 +28,8 @@ returns : tie.Need-returns Inv-loop μ-loop
 returns c =
     let k = c .before .before in
     let s = k .before .before .before .before in
-    subst⁻¹ (λ (bytes : List ℕ). Put (now (s .args .out)) (s .args .at) bytes (k .put-refusal .last .0) (k .put-refusal .result)) (report-refused (s .args .t3) (k .before .before .if1 .taken)) (k .put-refusal .ensures)
+    subst⁻¹ (λ (bytes : List ℕ). Put (now (s .args .out)) (s .args .at) bytes (k .put-refusal .last .0) (k .put-refusal .result))
+    (report-refused (s .args .t3) (k .before .before .if1 .taken)) (k .put-refusal .ensures)
 
 loop-holds : tie.Need-loop-holds Inv-loop μ-loop
 loop-holds c =
@@ -42,7 +43,8 @@ returns-2 : tie.Need-returns-2 Inv-loop μ-loop
 returns-2 c =
     let l = c .before .before .loop in
     let s = c .before .before .before .before .before in
-    subst⁻¹ (λ (bytes : List ℕ). Put (now (s .args .out)) (s .args .at) bytes (l .out) (l .next)) (report-listed (s .args .t3) (l .inv .accepted)) (left-none (l .inv .left) (lines-none (l .inv) (c .if2 .taken)))
+    subst⁻¹ (λ (bytes : List ℕ). Put (now (s .args .out)) (s .args .at) bytes (l .out) (l .next))
+    (report-listed (s .args .t3) (l .inv .accepted)) (left-none (l .inv .left) (lines-none (l .inv) (c .if2 .taken)))
 
 mul-e : tie.Need-mul-e Inv-loop μ-loop
 mul-e c = search needs
@@ -72,7 +74,8 @@ returns-3 : tie.Need-returns-3 Inv-loop μ-loop
 returns-3 c =
     let l = c .before .loop in
     let s = c .before .before .before .before in
-    subst⁻¹ (λ (bytes : List ℕ). Put (now (s .args .out)) (s .args .at) bytes (l .out) (l .next)) (report-listed (s .args .t3) (l .inv .accepted)) (left-none (l .inv .left) (lines-past (l .inv) (omega arith)))
+    subst⁻¹ (λ (bytes : List ℕ). Put (now (s .args .out)) (s .args .at) bytes (l .out) (l .next))
+    (report-listed (s .args .t3) (l .inv .accepted)) (left-none (l .inv .left) (lines-past (l .inv) (omega arith)))
 
 pub put-list-spec : {M : Type 1} → statement M
 put-list-spec =

@@ -54,7 +54,8 @@ returns-5 : tie.Need-returns-5
 returns-5 c =
     let s = c .before .before .before .before .before .args in
     let k = s .kind in
-    counted-at (s .t) (s .kind) (s .number) k (c .before .before .before .before .if1 .left) refl (grows (s .t .entries) (one-of-two (λ (n : ℕ). isEntry n ≡ true) 1 k (omega arith) (omega arith) refl refl))
+    counted-at (s .t) (s .kind) (s .number) k (c .before .before .before .before .if1 .left) refl
+    (grows (s .t .entries) (one-of-two (λ (n : ℕ). isEntry n ≡ true) 1 k (omega arith) (omega arith) refl refl))
     (stays (s .t .taxis) (ne-eqb k 8 (λ e. omega arith))) (stays (s .t .exits) (ne-eqb k 9 (λ e. omega arith))) (stays (s .t .misses) (ne-eqb k 10 (λ e. omega arith)))
 
 returns-6 : tie.Need-returns-6

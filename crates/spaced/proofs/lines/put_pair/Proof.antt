@@ -36,7 +36,8 @@ returns c =
     let b = k .before .before .before .before in
     let n = b .before .before .before .before in
     let a = n .before .before .before .before .before in
-    put-more (a .before .before .before .before .put-number .ensures) (put-more (a .put-byte .ensures) (put-more (n .put-number2 .ensures) (put-more (b .put-byte2 .ensures) (k .put-spacing .ensures))))
+    put-more (a .before .before .before .before .put-number .ensures)
+    (put-more (a .put-byte .ensures) (put-more (n .put-number2 .ensures) (put-more (b .put-byte2 .ensures) (k .put-spacing .ensures))))
 
 pub put-pair-spec : {M : Type 1} → statement M
 put-pair-spec =

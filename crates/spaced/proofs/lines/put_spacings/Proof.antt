@@ -28,7 +28,8 @@ returns : tie.Need-returns Inv-loop μ-loop
 returns c =
     let k = c .before .before in
     let s = k .before .before .before .before in
-    subst⁻¹ (λ (bytes : List ℕ). Put (now (s .args .out)) 0 bytes (k .put-refused-spacing .last .0) (k .put-refused-spacing .result)) (report-refused (s .args .t2) (k .before .before .if1 .taken)) (k .put-refused-spacing .ensures)
+    subst⁻¹ (λ (bytes : List ℕ). Put (now (s .args .out)) 0 bytes (k .put-refused-spacing .last .0) (k .put-refused-spacing .result))
+    (report-refused (s .args .t2) (k .before .before .if1 .taken)) (k .put-refused-spacing .ensures)
 
 loop-holds : tie.Need-loop-holds Inv-loop μ-loop
 loop-holds c =

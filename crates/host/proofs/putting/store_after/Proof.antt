@@ -1,0 +1,23 @@
+-- `host::putting::store_after` meets its contract: the history after an accepted call is stored, and a refused one leaves the state. Assumes nothing.
+use mathlib.Core.Path.{sym, _∙_}
+use borrow.Author.Needs.{needs}
+use Rattle.host.proofs.Stored.{state-stored, state-left}
+use Rattle.host.proofs.putting.store_after.Statement.{statement}
+use Rattle.host.proofs.putting.store_after.Tie as tie
+
+store-requires : tie.Need-store-requires
+store-requires c κs = search needs
+
+same-length : tie.Need-same-length
+same-length c = search needs
+
+returns : tie.Need-returns
+returns c =
+    let k = c .before .before in
+    k .store .ensures ∙ sym (state-stored _ _ _ (k .before .before .if1 .taken))
+
+returns-2 : tie.Need-returns-2
+returns-2 c = sym (state-left _ _ _ (c .if1 .left))
+
+pub store-after-spec : {M : Type 1} → statement M
+store-after-spec = tie.close (tie.spec store-requires same-length returns returns-2)

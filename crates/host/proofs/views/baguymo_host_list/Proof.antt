@@ -1,0 +1,26 @@
+-- `host::views::baguymo_host_list` meets its contract: the list of the history that the bytes are read as. Assumes nothing.
+use mathlib.Core.Path.{ap, _∙_}
+use borrow.Author.Needs.{needs}
+use Rattle.dialect.specs.declared.Listing.{Listing}
+use Rattle.host.specs.Calls.{listingOf, listingNumbers}
+use Rattle.host.proofs.views.baguymo_host_list.Statement.{statement}
+use Rattle.host.proofs.views.baguymo_host_list.Tie as tie
+
+history-of-requires : tie.Need-history-of-requires
+history-of-requires c κs = search needs
+
+listing-of-requires : tie.Need-listing-of-requires
+listing-of-requires c κs = search needs
+
+put-entries-requires : tie.Need-put-entries-requires
+put-entries-requires c κs = search needs
+
+returns : tie.Need-returns
+returns c =
+    let k = c .before in
+    let e = k .listing-of .ensures ∙ ap listingOf (k .before .history-of .ensures) in
+    (ap (λ (l : Listing). l .number) e, c .put-entries .ensures ∙ ap listingNumbers e)
+
+pub baguymo-host-list-spec : {M : Type 1} → statement M
+baguymo-host-list-spec =
+    tie.close (tie.spec history-of-requires listing-of-requires put-entries-requires returns)

@@ -1,0 +1,4 @@
+pub mod Entries
+pub mod Moved
+pub mod Told
+pub mod Leads

@@ -1,0 +1,228 @@
+-- Every request that passes the input rules and the checks of its kind, on a field that an orderly line stands for, leads to a field that
+-- an orderly line stands for. Assumes nothing.
+use mathlib.Core.Path.{_≡_, refl, sym, ap, _∙_, subst}
+use mathlib.Core.Logic.{inl, inr}
+use mathlib.Core.Bool.{true, false, cond, not, true≢false, false≢true}
+use mathlib.Core.List.{List, [], _∷_, _++_, append-assoc}
+use Prim.Native.Nat.{ℕ}
+use native.Mathlib.Omega.{arith}
+use lib.Dec.{T, leb, eqb, leb→le, eqb→eq}
+use lib.ListN.{length}
+use lib.Ieee.Fits.{and-r}
+use borrow.Author.Tests.{eqb-true, eq-eqb}
+use Rattle.request.specs.Input.{within, firstRefused}
+use Rattle.request.specs.declared.Request.{Request}
+use Rattle.request.proofs.Tests as input
+use Rattle.field.specs.declared.Aircraft.{Aircraft}
+use Rattle.field.specs.declared.Legs.{Legs}
+use Rattle.field.specs.declared.Field.{Field}
+use Rattle.field.specs.Boxes.{sideOf, at3000, at2000}
+use Rattle.questions.specs.Counts.{howMany, isEmpty}
+use Rattle.questions.specs.Find.{placeOf, isFirst}
+use Rattle.order.specs.Model.{Side, count, free, isNil, okay, one}
+use Rattle.order.proofs.Facts.{final-first, hold-ahead}
+use Rattle.rules.specs.Kinds.{placeBefore, zoneBefore, startsFrom, headChecks, moved, held}
+use Rattle.rules.specs.Step.{effectOf}
+use Rattle.field.proofs.Tests.{passed, failed, decided, if-false, zones-imply}
+use Rattle.line.proofs.Line.{Placed, zonesIn, fieldOf}
+use Rattle.line.proofs.Counted.{lower, how-many-runway, none}
+use Rattle.questions.proofs.FindLaws.{at}
+use Rattle.line.proofs.Located.{first-there}
+use Rattle.line.proofs.Members.{count-append}
+use Rattle.line.proofs.Orderly.{Orderly, Split, first-in}
+use Rattle.moves.proofs.After.{After, zone-in, okay-split}
+use Rattle.moves.proofs.Heads.{Heading, heading}
+use Rattle.rules.proofs.Checks.{effect-at, head-passed, besides, owned}
+use Rattle.moves.proofs.OnLine.{MissedZone, eleven-from, zone-before, from-kind, empty-free, after-3, after-4, after-5, after-6, after-11}
+use Rattle.moves.proofs.HoldBoth.{after-both}
+use Rattle.moves.proofs.AtEnds.{after-7, after-8, after-9, after-10}
+
+-- ---- zones that kinds start from, where the zone is one of 1 to 13
+land-from : (z : ℕ) → T (within 1 13 z) → T (startsFrom 7 z) → T (eqb z 12)
+unfolding startsFrom
+land-from = zones-imply (startsFrom 7) (λ z. eqb z 12) tt
+
+miss-from : (z : ℕ) → T (within 1 13 z) → T (startsFrom 10 z) → T (eqb z 12)
+unfolding startsFrom
+miss-from = zones-imply (startsFrom 10) (λ z. eqb z 12) tt
+
+exit-from : (z : ℕ) → T (within 1 13 z) → T (startsFrom 9 z) → T (eqb z 11)
+unfolding startsFrom
+exit-from = zones-imply (startsFrom 9) (λ z. eqb z 11) tt
+
+taxi-from : (z : ℕ) → T (within 1 13 z) → T (startsFrom 8 z) → T (eqb z 13)
+unfolding startsFrom
+taxi-from = zones-imply (startsFrom 8) (λ z. eqb z 13) tt
+
+-- nobody else starts from the runway
+runway-only : (k : ℕ) → T (within 1 13 k) → T (startsFrom k 13) → k ≡ 8
+unfolding startsFrom
+runway-only k t u = eqb-true k 8 (passed (zones-imply (λ k. startsFrom k 13) (λ k. eqb k 8) tt k t u))
+
+-- a list whose zones are none
+no-line : (a : List Placed) → zonesIn a ≡ [] → a ≡ []
+no-line [] e = refl
+no-line (x ∷ a) e = absurd (let n = ap length e in omega arith)
+
+nil-line : (a : List Placed) → isNil (zonesIn a) ≡ true → a ≡ []
+nil-line [] e = refl
+nil-line (x ∷ a) e = absurd (false≢true e)
+
+-- a missed zone is no holding at 3000
+missed-apart : (z : ℕ) → T (within 1 13 z) → T (within 7 8 z) → eqb z (at3000 (sideOf z)) ≡ false
+unfolding sideOf
+missed-apart z t u = failed {b = eqb z (at3000 (sideOf z))} (zones-imply (within 7 8) (λ z. not (eqb z (at3000 (sideOf z)))) tt z t u)
+
+-- ---- kind 11 where 3000 is occupied
+module _ (f : Side) (a : List Placed) (e : Placed) (b : List Placed) (runway : List Aircraft) (legs : Legs) (o : Orderly f (a ++ e ∷ b) runway legs) (r : Request)
+    (named : r .number ≡ e .aircraft .number) (heads : T (free (zonesIn a) (e .zone))) (place-is : placeOf (fieldOf f (a ++ e ∷ b) runway legs) (r .number) ≡ at (e .zone) 1)
+    (starts : T (startsFrom (r .kind) (e .zone))) (h : r .kind ≡ 11) (occupied : isEmpty (fieldOf f (a ++ e ∷ b) runway legs) (at3000 (sideOf (e .zone))) ≡ false) where
+  abbrev F : Field
+  F = fieldOf f (a ++ e ∷ b) runway legs
+
+  abbrev z : ℕ
+  z = e .zone
+
+  abbrev y : ℕ
+  y = at3000 (sideOf z)
+
+  from-11 : MissedZone z
+  from-11 = eleven-from z (lower z (zone-in f a e b runway legs o)) (from-kind f a e b runway legs o r named heads place-is starts h)
+
+  -- the one at 3000 is ahead
+  not-free : T (free (zonesIn a) y) → ⊥
+  not-free t =
+      let p = eqb→eq (count (zonesIn a) y) 0 t in
+      let q = eqb→eq (count (zonesIn b) y) 0 (hold-ahead f (zonesIn a) z (zonesIn b) (from-11 .is-missed) (okay-split f a e b (o .okay-line))) in
+      let m : one (eqb z y) ≡ 0 = ap one (missed-apart z (lower z (zone-in f a e b runway legs o)) (from-11 .is-missed)) in
+      let c = count-append (zonesIn a) (z ∷ zonesIn b) y in
+      true≢false (sym (eq-eqb (count (zonesIn a ++ z ∷ zonesIn b) y) 0 (omega arith)) ∙ sym (empty-free f a e b runway legs o r named heads place-is starts y (from-11 .above)) ∙ occupied)
+
+  by-split : Split y a → After f (a ++ e ∷ b) runway legs r
+  unfolding held
+  by-split s =
+      let a₁ = s .ahead in
+      let g = s .here in
+      let a₂ = s .behind in
+      let w : a ++ e ∷ b ≡ a₁ ++ g ∷ (a₂ ++ e ∷ b) = ap (λ (l : List Placed). l ++ e ∷ b) (s .whole) ∙ append-assoc a₁ (g ∷ a₂) (e ∷ b) in
+      let eff : effectOf F r ≡ moved (moved F y (at2000 (sideOf z))) z y =
+      effect-at F r h
+      ∙ ap (λ (v : ℕ). cond (isEmpty F (at3000 (sideOf v))) (cond (isEmpty F (at2000 (sideOf v))) (moved F v (at2000 (sideOf v))) (moved F v (at3000 (sideOf v))))
+      (moved (moved F (at3000 (sideOf v)) (at2000 (sideOf v))) v (at3000 (sideOf v)))) (zone-before f a e b runway legs o r named heads place-is starts)
+      ∙ if-false (cond (isEmpty F (at2000 (sideOf z))) (moved F z (at2000 (sideOf z))) (moved F z y)) (moved (moved F y (at2000 (sideOf z))) z y) occupied in
+      subst (λ (l : List Placed). After f l runway legs r) (sym w)
+      (after-both f a₁ g a₂ e b runway legs (subst (λ (l : List Placed). Orderly f l runway legs) w o) r named
+      (from-11 .is-missed) (s .at-zone) (subst (λ (l : List Placed). T (free (zonesIn l) z)) (s .whole) heads) h
+      (subst (λ (l : List Placed). effectOf (fieldOf f l runway legs) r ≡ moved (moved (fieldOf f l runway legs) y (at2000 (sideOf z))) z y) w eff))
+
+  pub after-11-both : After f (a ++ e ∷ b) runway legs r
+  after-11-both = elim (first-in y a) [ inl t ↦ absurd (not-free t) | inr s ↦ by-split s ]
+
+-- ---- kinds 3 to 11
+module _ (f : Side) (line : List Placed) (runway : List Aircraft) (legs : Legs) (o : Orderly f line runway legs) (r : Request) where
+  abbrev G : Field
+  G = fieldOf f line runway legs
+
+  -- the aircraft of a request whose kind starts from a zone of the line
+  moving : (k : ℕ) → r .kind ≡ k → T (within 1 13 k) → (k ≡ 8 → ⊥) → firstRefused (headChecks k (placeBefore G r) (owned G r) ++ besides G r k) ≡ 0
+      → ((h : Heading f line runway legs r) → Orderly f (h .ahead ++ h .here ∷ h .behind) runway legs → firstRefused (besides (fieldOf f (h .ahead ++ h .here ∷ h .behind) runway legs) r k) ≡ 0 → After f (h .ahead ++ h .here ∷ h .behind) runway legs r)
+      → After f line runway legs r
+  moving k h t n c go =
+      let p = head-passed k (placeBefore G r) (owned G r) (besides G r k) c in
+      let starts = ap (λ (j : ℕ). startsFrom j (zoneBefore G r)) h ∙ p .starts in
+      elim (heading f line runway legs o r (p .known) (p .owned-by) starts (p .first)) [
+        | inl d ↦
+            let w = d .whole in
+            subst (λ (l : List Placed). After f l runway legs r) (sym w)
+            (go d (subst (λ (l : List Placed). Orderly f l runway legs) w o) (subst (λ (l : List Placed). firstRefused (besides (fieldOf f l runway legs) r k) ≡ 0) w (p .others)))
+        | inr d ↦ absurd (n (runway-only k t (subst (λ (j : ℕ). T (startsFrom j 13)) h (d .starts))))
+      ]
+
+  -- the one that starts from final or, first in sequence, from intermediate is the first of the line
+  leading : (h : Heading f line runway legs r) → h .ahead ≡ [] → line ≡ h .here ∷ h .behind
+  leading h e = h .whole ∙ ap (λ (l : List Placed). l ++ h .here ∷ h .behind) e
+
+  final-leads : (h : Heading f line runway legs r) → Orderly f (h .ahead ++ h .here ∷ h .behind) runway legs → h .here .zone ≡ 12 → h .ahead ≡ []
+  final-leads h q z =
+      no-line (h .ahead)
+      (final-first f (zonesIn (h .ahead)) (zonesIn (h .behind))
+      (subst (λ (v : ℕ). T (okay f (zonesIn (h .ahead) ++ v ∷ zonesIn (h .behind)))) z (okay-split f (h .ahead) (h .here) (h .behind) (q .okay-line)))
+      (subst (λ (v : ℕ). T (free (zonesIn (h .ahead)) v)) z (h .heads)))
+
+  zone-13 : (h : Heading f line runway legs r) → Orderly f (h .ahead ++ h .here ∷ h .behind) runway legs → T (within 1 13 (h .here .zone))
+  zone-13 h q = lower (h .here .zone) (zone-in f (h .ahead) (h .here) (h .behind) runway legs q)
+
+  -- kind 7
+  pub seven : r .kind ≡ 7 → firstRefused (headChecks 7 (placeBefore G r) (owned G r) ++ besides G r 7) ≡ 0 → After f line runway legs r
+  seven k c =
+      moving 7 k tt (λ u. omega arith) c
+      (λ h q d.
+      let z = eqb-true (h .here .zone) 12 (passed (land-from (h .here .zone) (zone-13 h q) (subst (λ (j : ℕ). T (startsFrom j (h .here .zone))) k (h .starts)))) in
+      let a = final-leads h q z in
+      let w : h .ahead ++ h .here ∷ h .behind ≡ h .here ∷ h .behind = ap (λ (l : List Placed). l ++ h .here ∷ h .behind) a in
+      let p = input.passed (besides (fieldOf f (h .ahead ++ h .here ∷ h .behind) runway legs) r 7) (tt, (tt, tt)) d in
+      let n : runway ≡ [] =
+      none runway (sym (how-many-runway f (h .ahead ++ h .here ∷ h .behind) runway legs) ∙ eqb-true (howMany (fieldOf f (h .ahead ++ h .here ∷ h .behind) runway legs) 13) 0 (p .1 .0)) in
+      subst (λ (l : List Placed). After f l runway legs r) (sym w)
+      (subst (λ (l : List Aircraft). After f (h .here ∷ h .behind) l legs r) (sym n)
+      (after-7 f (h .here) (h .behind) legs (subst (λ (l : List Aircraft). Orderly f (h .here ∷ h .behind) l legs) n (subst (λ (l : List Placed). Orderly f l runway legs) w q)) r (h .named) k z)))
+
+  -- kind 8
+  pub eight : r .kind ≡ 8 → firstRefused (headChecks 8 (placeBefore G r) (owned G r) ++ []) ≡ 0 → After f line runway legs r
+  eight k c =
+      let p = head-passed 8 (placeBefore G r) (owned G r) [] c in
+      let starts = ap (λ (j : ℕ). startsFrom j (zoneBefore G r)) k ∙ p .starts in
+      elim (heading f line runway legs o r (p .known) (p .owned-by) starts (p .first)) [
+        | inl h ↦
+            let q = subst (λ (l : List Placed). Orderly f l runway legs) (h .whole) o in
+            let t = zone-in f (h .ahead) (h .here) (h .behind) runway legs q in
+            let z = eqb-true (h .here .zone) 13 (passed (taxi-from (h .here .zone) (lower (h .here .zone) t) (subst (λ (j : ℕ). T (startsFrom j (h .here .zone))) k (h .starts)))) in
+            absurd (let u = leb→le (h .here .zone) 12 (and-r (leb 1 (h .here .zone)) (leb (h .here .zone) 12) t) in omega arith)
+        | inr d ↦ subst (λ (l : List Aircraft). After f line l legs r) (sym (d .whole)) (after-8 f line (d .one) legs (subst (λ (l : List Aircraft). Orderly f line l legs) (d .whole) o) r (d .named) k (d .owned-by))
+      ]
+
+  -- kind 9
+  pub nine : r .kind ≡ 9 → firstRefused (headChecks 9 (placeBefore G r) (owned G r) ++ besides G r 9) ≡ 0 → After f line runway legs r
+  nine k c =
+      moving 9 k tt (λ u. omega arith) c
+      (λ h q d.
+      let F = fieldOf f (h .ahead ++ h .here ∷ h .behind) runway legs in
+      let z = eqb-true (h .here .zone) 11 (passed (exit-from (h .here .zone) (zone-13 h q) (subst (λ (j : ℕ). T (startsFrom j (h .here .zone))) k (h .starts)))) in
+      let p = input.passed (besides F r 9) (tt, (tt, tt)) d in
+      let a : h .ahead ≡ [] = nil-line (h .ahead) (sym (first-there f (h .ahead) (h .here) (h .behind) runway legs (q .different)) ∙ ap (isFirst (F .sequence)) (sym (h .named)) ∙ p .1 .0) in
+      let w : h .ahead ++ h .here ∷ h .behind ≡ h .here ∷ h .behind = ap (λ (l : List Placed). l ++ h .here ∷ h .behind) a in
+      subst (λ (l : List Placed). After f l runway legs r) (sym w)
+      (after-9 f (h .here) (h .behind) runway legs (subst (λ (l : List Placed). Orderly f l runway legs) w q) r (h .named) k z (h .owned-by)))
+
+  -- kind 10
+  pub ten : r .kind ≡ 10 → firstRefused (headChecks 10 (placeBefore G r) (owned G r) ++ []) ≡ 0 → After f line runway legs r
+  ten k c =
+      moving 10 k tt (λ u. omega arith) c
+      (λ h q d.
+      let z = eqb-true (h .here .zone) 12 (passed (miss-from (h .here .zone) (zone-13 h q) (subst (λ (j : ℕ). T (startsFrom j (h .here .zone))) k (h .starts)))) in
+      let a = final-leads h q z in
+      let w : h .ahead ++ h .here ∷ h .behind ≡ h .here ∷ h .behind = ap (λ (l : List Placed). l ++ h .here ∷ h .behind) a in
+      subst (λ (l : List Placed). After f l runway legs r) (sym w) (after-10 f (h .here) (h .behind) runway legs (subst (λ (l : List Placed). Orderly f l runway legs) w q) r (h .named) k z))
+
+  -- kind 11
+  pub eleven : r .kind ≡ 11 → firstRefused (headChecks 11 (placeBefore G r) (owned G r) ++ besides G r 11) ≡ 0 → After f line runway legs r
+  eleven k c =
+      moving 11 k tt (λ u. omega arith) c
+      (λ h q d.
+      elim (decided (isEmpty (fieldOf f (h .ahead ++ h .here ∷ h .behind) runway legs) (at3000 (sideOf (h .here .zone))))) [
+        | inl t ↦ after-11 f (h .ahead) (h .here) (h .behind) runway legs q r (h .named) (h .heads) (h .place-is) (h .starts) k t
+        | inr t ↦ after-11-both f (h .ahead) (h .here) (h .behind) runway legs q r (h .named) (h .heads) (h .place-is) (h .starts) k t
+      ])
+
+  -- kinds 3 to 6
+  pub three : r .kind ≡ 3 → firstRefused (headChecks 3 (placeBefore G r) (owned G r) ++ besides G r 3) ≡ 0 → After f line runway legs r
+  three k c = moving 3 k tt (λ u. omega arith) c (λ h q d. after-3 f (h .ahead) (h .here) (h .behind) runway legs q r (h .named) (h .heads) (h .place-is) (h .starts) k d)
+
+  pub four : r .kind ≡ 4 → firstRefused (headChecks 4 (placeBefore G r) (owned G r) ++ besides G r 4) ≡ 0 → After f line runway legs r
+  four k c = moving 4 k tt (λ u. omega arith) c (λ h q d. after-4 f (h .ahead) (h .here) (h .behind) runway legs q r (h .named) (h .heads) (h .place-is) (h .starts) k d)
+
+  pub five : r .kind ≡ 5 → firstRefused (headChecks 5 (placeBefore G r) (owned G r) ++ besides G r 5) ≡ 0 → After f line runway legs r
+  five k c = moving 5 k tt (λ u. omega arith) c (λ h q d. after-5 f (h .ahead) (h .here) (h .behind) runway legs q r (h .named) (h .heads) (h .place-is) (h .starts) k d)
+
+  pub six : r .kind ≡ 6 → firstRefused (headChecks 6 (placeBefore G r) (owned G r) ++ besides G r 6) ≡ 0 → After f line runway legs r
+  six k c = moving 6 k tt (λ u. omega arith) c (λ h q d. after-6 f (h .ahead) (h .here) (h .behind) runway legs q r (h .named) (h .heads) (h .place-is) (h .starts) k)

@@ -1,0 +1,85 @@
+// Numbers of 16, 32 and 64 bits and miles: read from lent bytes, and put into a lent buffer, the low byte first.
+use request::word;
+use text::put_byte;
+ghost use mathlib.Core.Path.{_≡_};
+ghost use Prim.Native.Nat.{_+_, _≤_};
+ghost use lib.ListN.{length};
+ghost use Rattle.practice.specs.File.{number16, number32};
+ghost use Rattle.practice.specs.Practice.{bytes16, bytes32};
+ghost use Rattle.text.specs.Buffer.{Put};
+ghost use Rattle.words.specs.Words.{number64, bytes64, milesOf, bitsOf};
+
+// The number of 16 bits at a place of the bytes.
+pub fn number16(bytes: &[u8], at: usize) -> u16
+    requires { ⌜ at + 2 ≤ length (now bytes) ⌝ }
+    ensures { λ r. ⌜ r ≡ number16 (now (bytes .entry)) at ⌝ }
+{
+    word(bytes[at], bytes[at + 1])
+}
+
+// The number of 32 bits at a place of the bytes.
+pub fn number32(bytes: &[u8], at: usize) -> u32
+    requires { ⌜ at + 4 ≤ length (now bytes) ⌝ }
+    ensures { λ r. ⌜ r ≡ number32 (now (bytes .entry)) at ⌝ }
+{
+    number16(bytes, at) as u32 + 65536 * (number16(bytes, at + 2) as u32)
+}
+
+// The number of 64 bits at a place of the bytes.
+pub fn number64(bytes: &[u8], at: usize) -> u64
+    requires { ⌜ at + 8 ≤ length (now bytes) ⌝ }
+    ensures { λ r. ⌜ r ≡ number64 (now (bytes .entry)) at ⌝ }
+{
+    number32(bytes, at) as u64 + 4294967296 * (number32(bytes, at + 4) as u64)
+}
+
+// The miles of 64 bits, a NaN's too.
+pub fn miles_of(bits: u64) -> f64
+    ensures { λ r. ⌜ r ≡ milesOf bits ⌝ }
+{
+    if bits % 9223372036854775808 > 9218868437227405312 {
+        return 0.0 / 0.0;
+    }
+    f64::from_bits(bits)
+}
+
+// The 64 bits of miles, a NaN's too.
+pub fn bits_of(miles: f64) -> u64
+    ensures { λ r. ⌜ r ≡ bitsOf miles ⌝ }
+{
+    if miles == miles {
+        return f64::to_bits(miles);
+    }
+    9221120237041090560
+}
+
+// Puts a number of 16 bits.
+pub fn put_word(out: &mut [u8], at: usize, n: u16) -> usize
+    ensures { λ r. ⌜ Put (now (out .entry)) at (bytes16 n) (now (out .exit)) r ⌝ }
+{
+    let next = put_byte(out, at, (n % 256) as u8);
+    put_byte(out, next, (n / 256) as u8)
+}
+
+// Puts a number of 32 bits.
+pub fn put_double(out: &mut [u8], at: usize, n: u32) -> usize
+    ensures { λ r. ⌜ Put (now (out .entry)) at (bytes32 n) (now (out .exit)) r ⌝ }
+{
+    let next = put_word(out, at, (n % 65536) as u16);
+    put_word(out, next, (n / 65536) as u16)
+}
+
+// Puts a number of 64 bits.
+pub fn put_quad(out: &mut [u8], at: usize, n: u64) -> usize
+    ensures { λ r. ⌜ Put (now (out .entry)) at (bytes64 n) (now (out .exit)) r ⌝ }
+{
+    let next = put_double(out, at, (n % 4294967296) as u32);
+    put_double(out, next, (n / 4294967296) as u32)
+}
+
+// Puts the 64 bits of miles.
+pub fn put_bits(out: &mut [u8], at: usize, miles: f64) -> usize
+    ensures { λ r. ⌜ Put (now (out .entry)) at (bytes64 (bitsOf miles)) (now (out .exit)) r ⌝ }
+{
+    put_quad(out, at, bits_of(miles))
+}
