@@ -7,7 +7,9 @@
    compared with memcmp: after the same accepted calls from the same start it has the same bytes on every machine. Any bytes may be handed
    in as a state. One that breaks the bounds is refused 10. A refused call leaves every byte of the state as it was; an accepted one that
    changes the state writes all of it anew. Every pattern of a NaN is read as the one NaN, which is written as 0x7ff8000000000000: within the
-   bounds one can stand only in a kept field that does not count. A call takes up to some 150 KB of the caller's stack.
+   bounds one can stand only in a kept field that does not count. The bounds are no checksum: a flipped bit may lead to another state within
+   them. After a step back the first 1,733 bytes are those before the request, and a kept field that no longer counts keeps its bytes. A
+   call takes up to some 150 KB of the caller's stack, as measured.
 
    Layout, numbers with the low byte first, floats as their 64 bits (IEEE 754 binary64):
      a field with its index, 1,733 bytes:
