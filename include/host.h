@@ -9,7 +9,7 @@
    changes the state writes all of it anew. Every pattern of a NaN is read as the one NaN, which is written as 0x7ff8000000000000: within the
    bounds one can stand only in a kept field that does not count. The bounds are no checksum: a flipped bit may lead to another state within
    them. After a step back the first 1,733 bytes are those before the request, and a kept field that no longer counts keeps its bytes. A
-   call takes up to some 150 KB of the caller's stack, as measured.
+   call takes up to some 170 KB of the caller's stack, by its compiled frames.
 
    Layout, numbers with the low byte first, floats as their 64 bits (IEEE 754 binary64):
      a field with its index, 1,733 bytes:
@@ -64,8 +64,8 @@ uint16_t baguymo_host_back(uint8_t *state, uint8_t desk);
 uint16_t baguymo_host_press(uint8_t *state, size_t request[5], size_t answer[6]);
 
 /* Holds the button down until it says none, or until its presses are spent. Puts into `report` how many requests were played, and 1 where
-   somebody is still on the field, else 0. The state keeps the fields before the last eight of them; it is written anew also where nothing
-   was played. 10 for a state that breaks the bounds; then both are 0. */
+   somebody is still on the field, else 0. Each of them keeps the field before it, so that of more than eight the last eight can be taken
+   back; the state is written anew also where nothing was played. 10 for a state that breaks the bounds; then both are 0. */
 uint16_t baguymo_host_hold_down(uint8_t *state, size_t report[2]);
 
 /* The spacing of the pairs on the approach. `spacing` is in 64ths of a mile, 1 to 512. Puts into `pairs` how many pairs there are, and for

@@ -1,5 +1,5 @@
 //! The calls of a host program on the state that it lends (`include/host.h`). Each yields its number and its outputs, which are zeros
-//! where it is refused. A refused call leaves the state; any other writes the whole of it anew.
+//! where it is refused. A refused call and a press that plays nothing leave the state; any other that may change it writes the whole of it anew.
 
 use crate::button::{proposed, MOST_PRESSES};
 use crate::classroom;
