@@ -1,4 +1,4 @@
--- Document 02, 2.9: the index "kept up by the moves", where the kind and the zone of a request's aircraft tell the zone that it leads to.
+-- The index kept up by a move where the kind and the zone of its aircraft tell the zone that it leads to; 02, 2.9, leaves open how the index is kept.
 use mathlib.Core.Bool.{Bool, cond, not, _&&_}
 use mathlib.Core.List.{map}
 use Prim.Native.Nat.{ℕ, _-_}
