@@ -26,7 +26,9 @@ KINDS = {1: "vertical entry", 2: "lateral entry", 3: "descend", 4: "approach", 5
 ENTRIES, LAND, LEAVES, MISS, TICK = (1, 2), 7, (8, 9), 10, 12
 FILES = {5: "not as long as a practice file, or not with the letters SCAP first", 6: "its contents are not a practice file's",
          7: "a leg is not 1 to 4096 64ths of a mile"}
-REFUSALS = {1: "kind not 1 to 12", 2: "side: kinds 1, 2 need 1 or 2, others 0", 3: "number: 0 where an aircraft is meant, or not 0 in a tick", 4: "amount: speed 1 to 512 for kinds 1, 2; 1 to 64 for a tick; else 0",
+REFUSALS = {1: "kind not 1 to 12", 2: "side: kinds 1, 2 need 1 or 2, others 0",
+            3: "number: 0 where an aircraft is meant, or not 0 in a tick",
+            4: "amount: speed 1 to 512 for kinds 1, 2; 1 to 64 for a tick; else 0",
             10: "the field handed in breaks a bound", 11: "entry number already present, runway included", 12: "number not on the field",
             13: "not in a zone the kind starts from", 14: "not at its head",
             15: "leg not flown out", 16: "potential number", 17: "approach holds that fix", 18: "missed zone occupied",
