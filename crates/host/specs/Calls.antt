@@ -1,5 +1,5 @@
--- What a host's program calls on a state that it lends as bytes, besides requests and steps back: the start, the button, the spacing and the classroom
--- dialect. Requests and steps back are those of lent_calls. Definitions only.
+-- What a host's program calls on a state that it lends as bytes (include/host.h): the start, a request, a step back, the button, the spacing and the
+-- classroom dialect. Definitions only.
 use mathlib.Core.Bool.{cond}
 use mathlib.Core.List.{List, [], _∷_}
 use Prim.Native.Nat.{ℕ}
@@ -12,7 +12,7 @@ use Rattle.rules.specs.declared.Answer.{Answer}
 use Rattle.finder.specs.declared.Indexed.{Indexed}
 use Rattle.history.specs.declared.History.{History}
 use Rattle.history.specs.declared.SteppedHistory.{SteppedHistory}
-use Rattle.history.specs.History.{startWith, startOf, withinBoundsHistory}
+use Rattle.history.specs.History.{startWith, startOf, withinBoundsHistory, stepHistory, stepBack}
 use Rattle.press.specs.declared.Proposal.{Proposal}
 use Rattle.press.specs.declared.Proposal.the-variants.{Refused, None, Play}
 use Rattle.press.specs.declared.Ending.{Ending}
@@ -32,7 +32,7 @@ use Rattle.dialect.specs.declared.Built.{Built}
 use Rattle.dialect.specs.Going as going
 use Rattle.dialect.specs.Going.{listOf}
 use Rattle.layout.specs.Read.{historyOf}
-use Rattle.lent_calls.specs.OnBytes.{stateAfter}
+use Rattle.layout.specs.Written.{stateAfter}
 
 -- the six numbers of an answer, in the order of document 01's answer
 abbrev pub answerNumbers : Answer → List ℕ
@@ -51,6 +51,16 @@ startedState state legs = stateAfter state (startNumber legs) (startOf (legsInMi
 -- the state of the field that a classroom list built, of which no field before it is kept (02, 2.12 and 2.13)
 abbrev pub builtState : List ℕ → Built → List ℕ
 builtState state b = stateAfter state (b .number) (startWith (b .after))
+
+-- ---- a request, and a step back (02, 2.13)
+
+-- the state after a request
+abbrev pub askedState : List ℕ → Request → List ℕ
+askedState state r = stateAfter state (stepHistory (historyOf state) r .answer .number) (stepHistory (historyOf state) r .after)
+
+-- the state after a step back by a desk
+abbrev pub steppedBackState : List ℕ → ℕ → List ℕ
+steppedBackState state desk = stateAfter state (stepBack (historyOf state) desk .answer .number) (stepBack (historyOf state) desk .after)
 
 -- ---- the button (02, 2.6)
 

@@ -11,7 +11,7 @@ use press_kept::hold_kept;
 use press_kept::press_kept;
 ghost use mathlib.Core.Path.{_≡_};
 ghost use lib.ListN.{length};
-ghost use Rattle.lent_calls.specs.OnBytes.{stateAfter};
+ghost use Rattle.layout.specs.Written.{stateAfter};
 ghost use Rattle.host.specs.Calls.{answerNumbers, pressedOf, requestNumbers, playedState, heldOf, endNumber, spentMark, heldNumbers};
 
 // Writes the five numbers of the request that a press plays; zeros where it plays none.

@@ -18,10 +18,9 @@ use practice::legs_allowed;
 use request::Request;
 ghost use mathlib.Core.Path.{_≡_};
 ghost use Rattle.dialect.specs.Coming.{fieldOf};
-ghost use Rattle.taken_back.specs.Calls.{request, back, called};
+ghost use Rattle.history.specs.History.{stepHistory, stepBack};
 ghost use Rattle.layout.specs.Read.{historyOf};
-ghost use Rattle.lent_calls.specs.OnBytes.{calledBytes};
-ghost use Rattle.host.specs.Calls.{startNumber, startedState, builtState, answerNumbers};
+ghost use Rattle.host.specs.Calls.{answerNumbers, startNumber, startedState, askedState, steppedBackState, builtState};
 
 // The state in the host's memory.
 pub type State = [u8; 15605];
@@ -63,9 +62,9 @@ pub extern "C" fn baguymo_host_ask(
     amount: u16,
     answer: &mut [usize; 6],
 ) -> u16
-    ensures { λ r. ⌜ r ≡ called (historyOf (now (state .entry))) (request (record { kind = kind; side = side; number = number; amount = amount; desk = desk })) .answer .number ⌝ }
-    ensures { λ _. ⌜ now (answer .exit) ≡ answerNumbers (called (historyOf (now (state .entry))) (request (record { kind = kind; side = side; number = number; amount = amount; desk = desk })) .answer) ⌝ }
-    ensures { λ _. ⌜ now (state .exit) ≡ calledBytes (now (state .entry)) (request (record { kind = kind; side = side; number = number; amount = amount; desk = desk })) ⌝ }
+    ensures { λ r. ⌜ r ≡ stepHistory (historyOf (now (state .entry))) (record { kind = kind; side = side; number = number; amount = amount; desk = desk }) .answer .number ⌝ }
+    ensures { λ _. ⌜ now (answer .exit) ≡ answerNumbers (stepHistory (historyOf (now (state .entry))) (record { kind = kind; side = side; number = number; amount = amount; desk = desk }) .answer) ⌝ }
+    ensures { λ _. ⌜ now (state .exit) ≡ askedState (now (state .entry)) (record { kind = kind; side = side; number = number; amount = amount; desk = desk }) ⌝ }
 {
     let bytes: &mut [u8] = state;
     let out: &mut [usize] = answer;
@@ -86,8 +85,8 @@ pub extern "C" fn baguymo_host_ask(
 // One step back of the state by a desk: its number.
 #[no_mangle]
 pub extern "C" fn baguymo_host_back(state: &mut State, desk: u8) -> u16
-    ensures { λ r. ⌜ r ≡ called (historyOf (now (state .entry))) (back desk) .answer .number ⌝ }
-    ensures { λ _. ⌜ now (state .exit) ≡ calledBytes (now (state .entry)) (back desk) ⌝ }
+    ensures { λ r. ⌜ r ≡ stepBack (historyOf (now (state .entry))) desk .answer .number ⌝ }
+    ensures { λ _. ⌜ now (state .exit) ≡ steppedBackState (now (state .entry)) desk ⌝ }
 {
     let bytes: &mut [u8] = state;
     let stepped = step_back(history_of(bytes), desk);

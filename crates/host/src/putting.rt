@@ -4,8 +4,7 @@ use history::History;
 use rules::Answer;
 ghost use mathlib.Core.Path.{_≡_};
 ghost use lib.ListN.{length};
-ghost use Rattle.layout.specs.Written.{historyBytes};
-ghost use Rattle.lent_calls.specs.OnBytes.{stateAfter};
+ghost use Rattle.layout.specs.Written.{historyBytes, stateAfter};
 ghost use Rattle.host.specs.Calls.{answerNumbers};
 
 // Writes numbers over as many.

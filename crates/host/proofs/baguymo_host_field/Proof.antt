@@ -4,7 +4,7 @@ use denote.Ref.{now}
 use borrow.Author.Needs.{needs}
 use Rattle.dialect.specs.declared.Built.{Built}
 use Rattle.history.specs.declared.History.{History}
-use Rattle.lent_calls.specs.OnBytes.{stateAfter}
+use Rattle.layout.specs.Written.{stateAfter}
 use Rattle.host.specs.Calls.{builtState}
 use Rattle.host.proofs.baguymo_host_field.Statement.{statement}
 use Rattle.host.proofs.baguymo_host_field.Tie as tie
