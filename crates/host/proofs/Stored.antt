@@ -15,15 +15,10 @@ use Rattle.playing.specs.Playing.{legsInMiles}
 use Rattle.press_kept.specs.declared.PressedKept.{PressedKept}
 use Rattle.press_kept.specs.declared.HeldKept.{HeldKept}
 use Rattle.press_kept.specs.PressKept.{pressKept, heldKept}
-use Rattle.host.specs.Calls.{startNumber, startedState, pressedOf, heldOf, endNumber}
+use Rattle.host.specs.Calls.{startNumber, startedState, pressedOf, heldOf}
+use Rattle.replies.specs.Replies.{endNumber}
 use Rattle.layout.specs.Read.{historyOf}
 use Rattle.layout.specs.Written.{historyBytes, stateAfter}
-
-pub state-stored : (state : List ℕ) (number : ℕ) (h : History) → number ≡ 0 → stateAfter state number h ≡ historyBytes h
-state-stored state number h e = if-true _ _ (eq-eqb number 0 e)
-
-pub state-left : (state : List ℕ) (number : ℕ) (h : History) → (number ≡ 0 → ⊥) → stateAfter state number h ≡ state
-state-left state number h n = if-false _ _ (ne-eqb number 0 n)
 
 -- ---- a call on the history that the bytes are read as
 pub asked : (state : List ℕ) (r : Request) {h : History} {s : SteppedHistory} → s ≡ stepHistory h r → h ≡ historyOf state → s ≡ stepHistory (historyOf state) r

@@ -43,7 +43,8 @@ use Rattle.taken_back.specs.TakenBack.{Follows}
 use Rattle.taken_back.proofs.Calls.{taken-back, one-call}
 use Rattle.taken_back.proofs.Follows.{field-now}
 use Rattle.layout.proofs.States.{start-held, legs-in-64ths-held}
-use Rattle.host.specs.Calls.{endNumber, spacingsOf, listingOf}
+use Rattle.replies.specs.Replies.{endNumber}
+use Rattle.host.specs.Calls.{spacingsOf, listingOf}
 use Rattle.host_calls.specs.HostCalls.{HostCall, start, ask, back, press, holdDown, spacing, list, field, replyOf, leftBy, repliesOf, leftByAll}
 use Rattle.host_calls.specs.FromStart.{goesOn, callsOf, allCallsOf, neverReplied, FromStart}
 use Rattle.host_calls.proofs.Held.{all-held}

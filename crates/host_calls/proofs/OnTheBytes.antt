@@ -16,6 +16,7 @@ use Rattle.field.proofs.Tests.{decided, either-way, if-true, if-false}
 use Rattle.questions.specs.Counts.{presentOn}
 use Rattle.history.specs.declared.History.{History}
 use Rattle.history.specs.History.{startWith, startOf, withinBoundsHistory, stepHistory, stepBack}
+use Rattle.rules.specs.Step.{numberAndZeros}
 use Rattle.press.specs.declared.Proposal.{Proposal}
 use Rattle.press.specs.declared.Proposal.the-variants.{Refused, None, Play}
 use Rattle.press.specs.declared.Ending.{Ending}
@@ -32,7 +33,8 @@ use Rattle.layout.specs.Held.{HistoryHeld}
 use Rattle.layout.proofs.Sizes.{state-size}
 use Rattle.layout.proofs.ReadBack.{read-back}
 use Rattle.layout.proofs.States.{start-held, legs-in-64ths-held}
-use Rattle.host.specs.Calls.{startNumber, playedState, endNumber, pressedOf, heldOf}
+use Rattle.replies.specs.Replies.{endNumber}
+use Rattle.host.specs.Calls.{startNumber, pressedOf, heldOf}
 use Rattle.host_calls.specs.HostCalls.{HostCall, start, ask, back as stepBackBy, press, holdDown, spacing, list, field, replyOf, leftBy, repliesOf, leftByAll, bytesLeft, repliesOn, bytesLeftByAll, OnTheBytes}
 use Rattle.host_calls.proofs.Held.{left-held, all-held}
 
@@ -52,7 +54,8 @@ called-bytes h c =
     ]
 
 -- a press
-played-bytes : (h : History) (p : Proposal) → playedState (historyBytes h) p (playedKept h p) ≡ historyBytes (playedKept h p .after)
+played-bytes : (h : History) (p : Proposal) → stateAfter (historyBytes h) (playedKept h p .answer .number) (playedKept h p .after) ≡ historyBytes (playedKept h p .after)
+unfolding numberAndZeros
 played-bytes h Refused = refl
 played-bytes h None = refl
 played-bytes h (Play r) = called-bytes h (request r)
@@ -81,7 +84,7 @@ unfolding pressedOf heldOf pressKept
 left-bytes h (start legs) k = begun (eqb (startNumber legs) 0) h (startOf (legsInMiles legs))
 left-bytes h (ask r) k = ap (λ (g : History). stateAfter (historyBytes h) (stepHistory g r .answer .number) (stepHistory g r .after)) (read-back h k) ∙ called-bytes h (request r)
 left-bytes h (stepBackBy desk) k = ap (λ (g : History). stateAfter (historyBytes h) (stepBack g desk .answer .number) (stepBack g desk .after)) (read-back h k) ∙ called-bytes h (back desk)
-left-bytes h press k = ap (λ (g : History). playedState (historyBytes h) (proposalKept g) (playedKept g (proposalKept g))) (read-back h k) ∙ played-bytes h (proposalKept h)
+left-bytes h press k = ap (λ (g : History). stateAfter (historyBytes h) (playedKept g (proposalKept g) .answer .number) (playedKept g (proposalKept g) .after)) (read-back h k) ∙ played-bytes h (proposalKept h)
 left-bytes h holdDown k = ap (λ (g : History). stateAfter (historyBytes h) (endNumber (heldKept g .ending)) (heldKept g .after)) (read-back h k) ∙ held-bytes h
 left-bytes h (spacing n) k = refl
 left-bytes h list k = refl

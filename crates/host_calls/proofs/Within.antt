@@ -51,7 +51,8 @@ use Rattle.dialect.specs.Going.{inDialect, entriesOf, listOf}
 use Rattle.dialect.specs.Coming.{listAllowed, entriesIn, built, comingNumber, notBuilt, fieldOf}
 use Rattle.layout.specs.Held.{HistoryHeld}
 use Rattle.layout.proofs.States.{start-held, legs-in-64ths-held}
-use Rattle.host.specs.Calls.{startNumber, endNumber, spacingsOf, listingOf}
+use Rattle.replies.specs.Replies.{endNumber}
+use Rattle.host.specs.Calls.{startNumber, spacingsOf, listingOf}
 use Rattle.host_calls.specs.HostCalls.{HostCall, start, ask, back, press, holdDown, spacing, list, field, replyOf, leftBy, repliesOf}
 use Rattle.host_calls.specs.FromStart.{neverReplied, StaysWithin}
 use Rattle.host_calls.proofs.Held.{left-held}

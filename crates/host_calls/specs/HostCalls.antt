@@ -16,7 +16,8 @@ use Rattle.press_kept.specs.PressKept.{pressKept, heldKept}
 use Rattle.dialect.specs.Coming.{fieldOf}
 use Rattle.layout.specs.Read.{stateSize, historyOf}
 use Rattle.layout.specs.Written.{historyBytes, stateAfter}
-use Rattle.host.specs.Calls.{answerNumbers, startNumber, startedState, askedState, steppedBackState, builtState, requestNumbers, playedState, endNumber, heldNumbers, spacingsOf, pairGaps, spacingNumbers, listingOf, listingNumbers, pressedOf, heldOf}
+use Rattle.replies.specs.Replies.{answerNumbers, requestNumbers, endNumber, heldNumbers, pairGaps, spacingNumbers, listingNumbers}
+use Rattle.host.specs.Calls.{startNumber, startedState, askedState, steppedBackState, builtState, pressedState, spacingsOf, listingOf, heldOf}
 
 -- a start with four legs, a request, a step back by a desk, a press, the button held down, the spacing with its 64ths of a mile, the list of the field, and
 -- the field of a list with four legs and a speed
@@ -46,7 +47,7 @@ replyOf h (back desk) = record { number = stepBack h desk .answer .number; numbe
 replyOf h press =
     let p = pressKept h in
     record { number = p .stepped .answer .number; numbers = requestNumbers (p .proposal) ++ answerNumbers (p .stepped .answer); gaps = [] }
-replyOf h holdDown = record { number = endNumber (heldKept h .ending); numbers = heldNumbers (heldKept h); gaps = [] }
+replyOf h holdDown = record { number = endNumber (heldKept h .ending); numbers = heldNumbers (heldKept h .played) (heldKept h .ending); gaps = [] }
 replyOf h (spacing n) = let s = spacingsOf h n in record { number = s .number; numbers = spacingNumbers s; gaps = pairGaps (s .pairs) }
 replyOf h list = let l = listingOf h in record { number = l .number; numbers = listingNumbers l; gaps = [] }
 replyOf h (field legs speed bytes) = record { number = fieldOf legs speed bytes .number; numbers = []; gaps = [] }
@@ -79,7 +80,7 @@ abbrev pub bytesLeft : List ℕ → HostCall → List ℕ
 bytesLeft b (start legs) = startedState b legs
 bytesLeft b (ask r) = askedState b r
 bytesLeft b (back desk) = steppedBackState b desk
-bytesLeft b press = playedState b (pressedOf b .proposal) (pressedOf b .stepped)
+bytesLeft b press = pressedState b
 bytesLeft b holdDown = stateAfter b (endNumber (heldOf b .ending)) (heldOf b .after)
 bytesLeft b (spacing n) = b
 bytesLeft b list = b
