@@ -1,10 +1,10 @@
 -- `bounds::legal_legs` meets its contract, leg by leg. Assumes nothing.
 use mathlib.Core.Path.{sym}
-use Rattle.bounds.specs.Bounds.{legalLegs}
+use Rattle.fits.specs.Fits.{legalLegs}
 use Rattle.field.proofs.Parts.{and-then, and-cut, holds, fails}
 use borrow.Author.Needs.{needs}
-use Rattle.bounds.proofs.legal_legs.Statement.{statement}
-use Rattle.bounds.proofs.legal_legs.Tie as tie
+use Rattle.fits.proofs.legal_legs.Statement.{statement}
+use Rattle.fits.proofs.legal_legs.Tie as tie
 
 legal-requires : tie.Need-legal-requires
 legal-requires c κs = search needs

@@ -6,14 +6,14 @@ use Rattle.field.specs.declared.Field.{Field}
 use Rattle.field.specs.declared.Zone.{Zone}
 use Rattle.field.specs.Boxes.{queueOf, inZone}
 use Rattle.field.specs.Lists.{every}
-use Rattle.bounds.specs.Bounds.{fitsZone}
+use Rattle.fits.specs.Fits.{fitsZone}
 use Rattle.field.proofs.Known.{field-known}
 use Rattle.field.proofs.Shapes.{zone-read}
 use Rattle.field.proofs.Parts.{holds, fails, Passed, passed-none, passed-more, passed-not, passed-all}
 use borrow.Author.Needs.{needs}
 use native.Mathlib.Omega.{arith}
-use Rattle.bounds.proofs.zones_fit.Statement.{statement}
-use Rattle.bounds.proofs.zones_fit.Tie as tie
+use Rattle.fits.proofs.zones_fit.Statement.{statement}
+use Rattle.fits.proofs.zones_fit.Tie as tie
 
 abbrev fit : Field → ℕ → Bool
 fit f z = every (fitsZone (f .legs) z) (inZone f z)

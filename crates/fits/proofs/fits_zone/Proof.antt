@@ -6,11 +6,11 @@ use lib.Dec.{leb}
 use Rattle.limits.specs.Limits.{fastest, desks}
 use Rattle.leg.specs.Progress.{waitedWithin}
 use Rattle.field.specs.Boxes.{isSide}
-use Rattle.bounds.specs.Bounds.{legFits, fitsZone}
+use Rattle.fits.specs.Fits.{legFits, fitsZone}
 use Rattle.field.proofs.Parts.{and-then, and-cut, cond-then, cond-else, holds, fails}
 use borrow.Author.Needs.{needs}
-use Rattle.bounds.proofs.fits_zone.Statement.{statement}
-use Rattle.bounds.proofs.fits_zone.Tie as tie
+use Rattle.fits.proofs.fits_zone.Statement.{statement}
+use Rattle.fits.proofs.fits_zone.Tie as tie
 
 is-side-requires : tie.Need-is-side-requires
 is-side-requires c κs = search needs

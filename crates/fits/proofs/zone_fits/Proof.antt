@@ -4,15 +4,15 @@ use Prim.Native.Nat.{_-_, _≤_}
 use lib.ListN.{length}
 use Rattle.field.specs.Boxes.{queueOf, queueLength}
 use Rattle.field.specs.Lists.{every}
-use Rattle.bounds.specs.Bounds.{fitsZone}
+use Rattle.fits.specs.Fits.{fitsZone}
 use Rattle.field.proofs.Parts.{holds, fails, each-more, each-not}
 use Rattle.field.proofs.Arrays.{Walked, walked-none, walked-all}
 use Rattle.field.proofs.Known.{zone-known}
 use Rattle.field.proofs.Shapes.{queue-next, queue-fits}
 use borrow.Author.Needs.{needs}
 use native.Mathlib.Omega.{arith}
-use Rattle.bounds.proofs.zone_fits.Statement.{statement}
-use Rattle.bounds.proofs.zone_fits.Tie as tie
+use Rattle.fits.proofs.zone_fits.Statement.{statement}
+use Rattle.fits.proofs.zone_fits.Tie as tie
 
 abbrev Inv-loop : tie.InvT-loop
 Inv-loop legs zone q end i₀ i = (end ≤ 4) × ((end ≡ length (queueOf q)) × Walked (every (fitsZone legs zone)) (queueOf q) 0 i)

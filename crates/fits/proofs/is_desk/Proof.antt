@@ -3,8 +3,8 @@ use mathlib.Core.Path.{refl, sym}
 use borrow.Author.Tests.{le-leb, lt-leb}
 use Rattle.field.proofs.Parts.{and-then, and-cut}
 use borrow.Author.Needs.{needs}
-use Rattle.bounds.proofs.is_desk.Statement.{statement}
-use Rattle.bounds.proofs.is_desk.Tie as tie
+use Rattle.fits.proofs.is_desk.Statement.{statement}
+use Rattle.fits.proofs.is_desk.Tie as tie
 
 returns : tie.Need-returns
 returns c = sym (and-cut _ (lt-leb _ _ (c .if1 .taken)))

@@ -1,10 +1,10 @@
 -- `bounds::bound_g` meets its contract, part by part. Assumes nothing.
 use mathlib.Core.Path.{sym}
-use Rattle.bounds.specs.Bounds.{boundG}
+use Rattle.fits.specs.Fits.{boundG}
 use Rattle.field.proofs.Parts.{and-then, and-cut, holds, fails}
 use borrow.Author.Needs.{needs}
-use Rattle.bounds.proofs.bound_g.Statement.{statement}
-use Rattle.bounds.proofs.bound_g.Tie as tie
+use Rattle.fits.proofs.bound_g.Statement.{statement}
+use Rattle.fits.proofs.bound_g.Tie as tie
 
 zones-fit-requires : tie.Need-zones-fit-requires
 zones-fit-requires c κs = search needs

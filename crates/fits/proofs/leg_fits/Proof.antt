@@ -2,11 +2,11 @@
 use mathlib.Core.Path.{sym, ap}
 use borrow.Author.Tests.{eq-eqb, ne-eqb}
 use lib.Ieee.{eq}
-use Rattle.bounds.specs.Bounds.{legFits}
+use Rattle.fits.specs.Fits.{legFits}
 use Rattle.field.proofs.Parts.{or-first, or-else, cond-then, cond-else}
 use borrow.Author.Needs.{needs}
-use Rattle.bounds.proofs.leg_fits.Statement.{statement}
-use Rattle.bounds.proofs.leg_fits.Tie as tie
+use Rattle.fits.proofs.leg_fits.Statement.{statement}
+use Rattle.fits.proofs.leg_fits.Tie as tie
 
 legal-missed-requires : tie.Need-legal-missed-requires
 legal-missed-requires c κs = search needs
