@@ -5,8 +5,8 @@ use Prim.Native.Nat.{_-_}
 use native.Mathlib.Omega.{arith}
 use Rattle.request.proofs.Tests.{within-yes, within-below, within-above}
 use borrow.Author.Needs.{needs}
-use Rattle.binder.proofs.counts.row_of.Statement.{statement}
-use Rattle.binder.proofs.counts.row_of.Tie as tie
+use Rattle.week_table.proofs.row_of.Statement.{statement}
+use Rattle.week_table.proofs.row_of.Tie as tie
 
 sub-result : tie.Need-sub-result
 sub-result c = search needs

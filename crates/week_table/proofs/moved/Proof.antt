@@ -3,10 +3,10 @@ use mathlib.Core.Path.{sym}
 use native.Mathlib.Omega.{arith}
 use Rattle.request.specs.Input.{within}
 use Rattle.request.proofs.Tests.{within-yes, within-below, within-above}
-use Rattle.binder.proofs.Cells.{of-accepted, of-refused}
+use Rattle.week_table.proofs.Cells.{of-accepted, of-refused}
 use borrow.Author.Needs.{needs}
-use Rattle.binder.proofs.counts.moved.Statement.{statement}
-use Rattle.binder.proofs.counts.moved.Tie as tie
+use Rattle.week_table.proofs.moved.Statement.{statement}
+use Rattle.week_table.proofs.moved.Tie as tie
 
 returns : tie.Need-returns
 returns c = let s = c .before .args in sym (of-refused (within 3 11) (s .kind) (s .number) (c .if1 .taken))

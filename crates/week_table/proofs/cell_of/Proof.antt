@@ -4,11 +4,11 @@ use mathlib.Core.Bool.{Bool, cond}
 use Prim.Native.Nat.{ℕ, _+_, _-_, _*_}
 use native.Mathlib.Omega.{arith}
 use borrow.Author.Tests.{lt-ltb, le-ltb}
-use Rattle.binder.specs.Counts.{rowPlace, cellOf}
-use Rattle.binder.proofs.Cells.{row-low}
+use Rattle.week_table.specs.Table.{rowPlace, cellOf}
+use Rattle.week_table.proofs.Cells.{row-low}
 use borrow.Author.Needs.{needs}
-use Rattle.binder.proofs.counts.cell_of.Statement.{statement}
-use Rattle.binder.proofs.counts.cell_of.Tie as tie
+use Rattle.week_table.proofs.cell_of.Statement.{statement}
+use Rattle.week_table.proofs.cell_of.Tie as tie
 
 row-of-requires : tie.Need-row-of-requires
 row-of-requires c κs = search needs

@@ -1,10 +1,10 @@
 -- `binder::counts::landed` meets its contract: an accepted kind 7, or not. Assumes nothing.
 use mathlib.Core.Path.{refl, sym, _∙_}
 use lib.Dec.{eqb}
-use Rattle.binder.proofs.Cells.{of-accepted, of-refused}
+use Rattle.week_table.proofs.Cells.{of-accepted, of-refused}
 use borrow.Author.Needs.{needs}
-use Rattle.binder.proofs.counts.landed.Statement.{statement}
-use Rattle.binder.proofs.counts.landed.Tie as tie
+use Rattle.week_table.proofs.landed.Statement.{statement}
+use Rattle.week_table.proofs.landed.Tie as tie
 
 returns : tie.Need-returns
 returns c = let s = c .before .args in sym (of-refused (λ k. eqb k 7) (s .kind) (s .number) (c .if1 .taken))

@@ -3,8 +3,8 @@ use mathlib.Core.Path.{sym, ap}
 use mathlib.Core.Bool.{Bool, cond}
 use borrow.Author.Tests.{eq-eqb, ne-eqb}
 use borrow.Author.Needs.{needs}
-use Rattle.binder.proofs.counts.one_where.Statement.{statement}
-use Rattle.binder.proofs.counts.one_where.Tie as tie
+use Rattle.week_table.proofs.one_where.Statement.{statement}
+use Rattle.week_table.proofs.one_where.Tie as tie
 
 returns : tie.Need-returns
 returns c = let s = c .before .args in sym (ap (λ (b : Bool). cond b 1 0) (eq-eqb (s .n) (s .m) (c .if1 .taken)))
