@@ -18,7 +18,8 @@ use Rattle.field.specs.declared.Legs.{Legs}
 use Rattle.field.specs.Lists.{every}
 use Rattle.field.proofs.Tests.{passed, fail, either-way}
 use Rattle.questions.specs.Counts.{presentOn}
-use Rattle.bounds.specs.Bounds.{withinBounds, legalLegs}
+use Rattle.fits.specs.Fits.{legalLegs}
+use Rattle.bounds.specs.Bounds.{withinBounds}
 use Rattle.rules.specs.Step.{numberAndZeros}
 use Rattle.history.specs.declared.History.{History}
 use Rattle.history.specs.History.{startOf, withinBoundsHistory}

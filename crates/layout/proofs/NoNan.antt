@@ -22,7 +22,8 @@ use Rattle.field.specs.Boxes.{right, left, missed, everywhere, isFlyingZone, is
 use Rattle.field.specs.Lists.{every, Each}
 use Rattle.field.proofs.Lists.{every-listed, zone-listed}
 use Rattle.field.proofs.Tests.{either-way}
-use Rattle.bounds.specs.Bounds.{isWaiting, isNobody, zoneKept, legFits, fitsZone, legalLegs, boundG, withinBounds}
+use Rattle.fits.specs.Fits.{isWaiting, legFits, fitsZone, legalLegs, boundG}
+use Rattle.bounds.specs.Bounds.{isNobody, zoneKept, withinBounds}
 use Rattle.finder.specs.declared.Indexed.{Indexed}
 use Rattle.finder.specs.Finder.{indexOf, sameIndex, withinBoundsIndexed}
 use Rattle.owners.proofs.Lists.{each-parts, each-places}

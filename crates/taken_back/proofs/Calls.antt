@@ -16,7 +16,7 @@ use Rattle.field.specs.declared.Field.{Field}
 use Rattle.field.specs.Boxes.{emptyField}
 use Rattle.field.proofs.Tests.{passed, fail, decided, if-true, if-false}
 use Rattle.field.proofs.Parts.{and-then}
-use Rattle.bounds.specs.Bounds.{legalLegs}
+use Rattle.fits.specs.Fits.{legalLegs}
 use Rattle.finder.specs.declared.Indexed.{Indexed}
 use Rattle.finder.specs.Finder.{withinBoundsIndexed}
 use Rattle.rules.specs.declared.Answer.{Answer}
