@@ -44,7 +44,8 @@ ghost use Rattle.field.specs.Boxes.{zonesFrom, everywhere, zoneOf, queueOf, inZ
 ghost use Rattle.questions.specs.Counts.{howMany};
 ghost use Rattle.questions.specs.Find.{fixOf};
 ghost use Rattle.field.specs.Lists.{every};
-ghost use Rattle.bounds.specs.Bounds.{boundA, boundB, lateralRule, boundC, boundD, finalFirst, isWaiting, isNobody, zoneKept, sequenceKept, boundE, boundF, legFits, fitsZone, legalLegs, boundG, withinBounds};
+ghost use Rattle.bounds.specs.Bounds.{boundA, boundB, lateralRule, boundC, boundD, finalFirst, isWaiting, isNobody, zoneKept};
+ghost use Rattle.bounds.specs.Bounds.{sequenceKept, boundE, boundF, legFits, fitsZone, legalLegs, boundG, withinBounds};
 
 // Bound a: how many are in the operation area, and on the runway.
 pub fn bound_a(f: Field) -> bool

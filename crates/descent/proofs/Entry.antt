@@ -24,7 +24,8 @@ use Rattle.questions.specs.Counts.{howMany, isEmpty, countedFor, approachHolds,
 use Rattle.questions.specs.Find.{placeOf, aircraftAt}
 use Rattle.bounds.specs.Bounds.{withinBounds}
 use Rattle.rules.specs.declared.Answer.{Answer}
-use Rattle.rules.specs.Kinds.{placeBefore, zoneBefore, zoneAhead, absentChecks, headChecks, presenceChecks, verticalNeeds, lateralNeeds, descendNeeds, approachNeeds, mergeNeeds, flownOutNeeds, landNeeds, exitNeeds, descended, entered, shownTo, shownAt3000}
+use Rattle.rules.specs.Kinds.{placeBefore, zoneBefore, zoneAhead, absentChecks, headChecks, presenceChecks, verticalNeeds, lateralNeeds, descendNeeds}
+use Rattle.rules.specs.Kinds.{approachNeeds, mergeNeeds, flownOutNeeds, landNeeds, exitNeeds, descended, entered, shownTo, shownAt3000}
 use Rattle.rules.specs.Step.{needsFor, checksOf, effectOf, numberOf, numberAndZeros, acceptance, acceptanceOn, alongFor, answerOf, stepOf}
 use Rattle.rules.specs.Reason.{hasPlaces}
 use Rattle.rules.proofs.Checks.{Never, never-without, never-append, by-kind, owned, inputNumbers, presence-refuses, checks-refuse, input-numbered, checks-at}

@@ -21,7 +21,8 @@ use Rattle.request.specs.Input.{within}
 use Rattle.order.specs.Model.{Side, right, left, opp, num, sameArea, ofArea, isLateral, one, rank, height, number, all, mayLead, mayHead, chain, okay}
 use Rattle.order.specs.Model as model
 use Rattle.order.proofs.Facts.{okay-zones}
-use Rattle.rules.specs.Reason.{Listed, listed, along, those, isInZone, isInArea, hasFix, neverFalls, eachAmong, fromLanding, approachOrder, heightIn, areaOrder, hasRoom, roomToMiss, lateralFree, lateralOrder, Reason}
+use Rattle.rules.specs.Reason.{Listed, listed, along, those, isInZone, isInArea, hasFix, neverFalls, eachAmong}
+use Rattle.rules.specs.Reason.{fromLanding, approachOrder, heightIn, areaOrder, hasRoom, roomToMiss, lateralFree, lateralOrder, Reason}
 use Rattle.field.proofs.Tests.{each-operation, pass, failed, fail, decided, or-left, or-right}
 use Rattle.line.proofs.Line.{Placed, zonesIn, numbersOf, inside, fieldOf, order-for}
 use Rattle.line.proofs.Counted.{Alternates, in-line}
