@@ -211,7 +211,10 @@ module _ (f : Field) (h : T (hasPlaces f)) (r : Request) (k : r .kind ≡ 1) (ac
                 ap (λ (n : ℕ). ltb n 2) (potential-down f q side b x up low) ∙ met .1 .0,
                 (
                   ap not (approach-down f q side b x up low side) ∙ met .1 .1 .0,
-                  (same-empty (missed side) (omega arith) ∙ met .1 .1 .1 .0, (same-empty (lateral side) (omega arith) ∙ met .1 .1 .1 .1 .0, (ap (λ (c : Bool). c || isEmpty g (at2000 side)) empty-above, tt))),
+                  (
+                    same-empty (missed side) (omega arith) ∙ met .1 .1 .1 .0,
+                    (same-empty (lateral side) (omega arith) ∙ met .1 .1 .1 .1 .0, (ap (λ (c : Bool). c || isEmpty g (at2000 side)) empty-above, tt)),
+                  ),
                 ),
               ),
             );

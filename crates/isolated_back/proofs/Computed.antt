@@ -65,8 +65,10 @@ stay-on π f t z w =
 
 stay-on-each : (π : ℕ → ℕ) (l : List Indexed) → T (every (λ (x : Indexed). staysOn π (x .field)) l) → Each (λ (x : Indexed). FixesAircraft 1 π (x .field)) l
 stay-on-each π [] t = tt
-stay-on-each π (x ∷ l) t =
-    (stay-on π (x .field) (and-l (staysOn π (x .field)) (every (λ (x : Indexed). staysOn π (x .field)) l) t), stay-on-each π l (and-r (staysOn π (x .field)) (every (λ (x : Indexed). staysOn π (x .field)) l) t))
+stay-on-each π (x ∷ l) t = (
+  stay-on π (x .field) (and-l (staysOn π (x .field)) (every (λ (x : Indexed). staysOn π (x .field)) l) t),
+  stay-on-each π l (and-r (staysOn π (x .field)) (every (λ (x : Indexed). staysOn π (x .field)) l) t),
+)
 
 -- ---- the lists
 abbrev after : List Call → History

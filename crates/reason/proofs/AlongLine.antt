@@ -67,7 +67,8 @@ module _ (f : Side) (line : List Placed) (runway : List Aircraft) (legs : Legs) 
       go (e ∷ l) = by (eqb (e .zone) z) (go l)
         where
           by : (b : Bool) → map (λ (a : Aircraft). a .number) (inside z l) ≡ map (λ (a : Listed). a .number) (those (isInZone z) (map asListed l))
-              → map (λ (a : Aircraft). a .number) (cond b (e .aircraft ∷ inside z l) (inside z l)) ≡ map (λ (a : Listed). a .number) (cond b (asListed e ∷ those (isInZone z) (map asListed l)) (those (isInZone z) (map asListed l)))
+              → map (λ (a : Aircraft). a .number) (cond b (e .aircraft ∷ inside z l) (inside z l)) ≡ map (λ (a : Listed). a .number)
+              (cond b (asListed e ∷ those (isInZone z) (map asListed l)) (those (isInZone z) (map asListed l)))
           by true h = ap (λ (ns : List ℕ). e .aircraft .number ∷ ns) h
           by false h = h
 
@@ -91,11 +92,35 @@ height-is left =
 lateral-side : (s : Side) (z : ℕ) → T (within 1 12 z) → T (isLateral z) → ofArea s z ≡ false → eqb (num s) (sideOf z) ≡ false
 unfolding sideOf
 lateral-side right =
-    each-operation (λ z. T (isLateral z) → ofArea right z ≡ false → eqb 1 (sideOf z) ≡ false)
-    ((λ t e. absurd t), (λ t e. absurd t), (λ t e. absurd t), (λ t e. absurd t), (λ t e. e), (λ t e. refl), (λ t e. absurd t), (λ t e. absurd t), (λ t e. absurd t), (λ t e. absurd t), (λ t e. absurd t), (λ t e. absurd t))
+    each-operation (λ z. T (isLateral z) → ofArea right z ≡ false → eqb 1 (sideOf z) ≡ false) (
+      (λ t e. absurd t),
+      (λ t e. absurd t),
+      (λ t e. absurd t),
+      (λ t e. absurd t),
+      (λ t e. e),
+      (λ t e. refl),
+      (λ t e. absurd t),
+      (λ t e. absurd t),
+      (λ t e. absurd t),
+      (λ t e. absurd t),
+      (λ t e. absurd t),
+      (λ t e. absurd t),
+    )
 lateral-side left =
-    each-operation (λ z. T (isLateral z) → ofArea left z ≡ false → eqb 2 (sideOf z) ≡ false)
-    ((λ t e. absurd t), (λ t e. absurd t), (λ t e. absurd t), (λ t e. absurd t), (λ t e. refl), (λ t e. e), (λ t e. absurd t), (λ t e. absurd t), (λ t e. absurd t), (λ t e. absurd t), (λ t e. absurd t), (λ t e. absurd t))
+    each-operation (λ z. T (isLateral z) → ofArea left z ≡ false → eqb 2 (sideOf z) ≡ false) (
+      (λ t e. absurd t),
+      (λ t e. absurd t),
+      (λ t e. absurd t),
+      (λ t e. absurd t),
+      (λ t e. refl),
+      (λ t e. e),
+      (λ t e. absurd t),
+      (λ t e. absurd t),
+      (λ t e. absurd t),
+      (λ t e. absurd t),
+      (λ t e. absurd t),
+      (λ t e. absurd t),
+    )
 
 -- ---- who may lead whom
 record Leads (f : Side) (z w : ℕ) : Type 0 where

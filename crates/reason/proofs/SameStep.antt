@@ -254,8 +254,20 @@ module _ (f g : Field) (s : Same f g) (r : Request) where
     where
       each : (z ahead : ℕ) → Same (effectFor (r .kind) f r z ahead) (effectFor (r .kind) g r z ahead)
       each z ahead =
-          by-kinds Same (r .kind)
-          (above-same, entered-same f g s r (lateral (r .side)), moved-same f g s z (at2000 z), approached-same z ahead, moved-same f g s z intermediate, moved-same f g s intermediate finalApproach, landed-same, gone-same f g s runway, exited-same, missed-same, held-same z, same-ticked f g (r .amount) s)
+          by-kinds Same (r .kind) (
+            above-same,
+            entered-same f g s r (lateral (r .side)),
+            moved-same f g s z (at2000 z),
+            approached-same z ahead,
+            moved-same f g s z intermediate,
+            moved-same f g s intermediate finalApproach,
+            landed-same,
+            gone-same f g s runway,
+            exited-same,
+            missed-same,
+            held-same z,
+            same-ticked f g (r .amount) s,
+          )
 
 -- ---- the step
 both-ways : (a b : Bool) → (T a → T b) → (T b → T a) → a ≡ b
