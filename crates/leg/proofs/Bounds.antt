@@ -1,6 +1,6 @@
 -- One tick on any leg, on the grid or off it: on one that is finite and above zero the miles stay between 0 and the leg (`bounds-kept`) and are a number
--- (`miles-worth`), and on one of fewer than 2 ^ 41
--- miles its end is not left again (`end-kept`). The last holds of a leg that is no `f64`'s value too: of the grid's points one lies from the leg to a step past it, and rounding keeps the order.
+-- (`miles-worth`), and on one of fewer than 2 ^ 41 miles its end is not left again (`end-kept`). The last holds of a leg that is no `f64`'s value too: of
+-- the grid's points one lies from the leg to a step past it, and rounding keeps the order.
 -- Assumes nothing.
 use mathlib.Core.Path.{_≡_, refl, sym, ap, _∙_, subst}
 use Prim.Native.Nat.{ℕ, _+_, _*_, _/_, _^_, _≤_, _<_, zero-le}
