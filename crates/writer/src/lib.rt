@@ -1,5 +1,6 @@
 // Writing a practice file (document 02, 2.11): from four legs and requests that are lent as bytes, the one file that is read as those, into a
 // lent buffer.
+use limits::MOST_REQUESTS;
 use practice::FileLegs;
 use practice::Reading;
 use practice::legs_allowed;
@@ -34,7 +35,7 @@ fn list_allowed(size: usize) -> bool
     if size % 6 != 0 {
         return false;
     }
-    size / 6 <= 4096
+    size / 6 <= MOST_REQUESTS
 }
 
 // Whether the file of n requests fits into a buffer of so many bytes.
