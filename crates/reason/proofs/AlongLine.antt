@@ -327,9 +327,11 @@ clear-behind f e ahead (w ∷ zs) h u m t =
     and-i (clear (asListed e ∷ ahead) w) (all (clear (asListed e ∷ ahead)) zs)
     (clear-more f e ahead w h (and-l (within 1 12 w) (all (within 1 12) zs) u)
     (leads f (e .zone) w (and-l (mayLead f (e .zone) w) (all (mayLead f (e .zone)) zs) m)) (and-l (clear ahead w) (all (clear ahead) zs) t))
-    (clear-behind f e ahead zs h (and-r (within 1 12 w) (all (within 1 12) zs) u) (and-r (mayLead f (e .zone) w) (all (mayLead f (e .zone)) zs) m) (and-r (clear ahead w) (all (clear ahead) zs) t))
+    (clear-behind f e ahead zs h (and-r (within 1 12 w) (all (within 1 12) zs) u)
+    (and-r (mayLead f (e .zone) w) (all (mayLead f (e .zone)) zs) m) (and-r (clear ahead w) (all (clear ahead) zs) t))
 
-pub lateral-line : (f : Side) (ahead : List Listed) (l : List Placed) → Alternates f l → T (chain f (zonesIn l)) → T (all (clear ahead) (zonesIn l)) → T (eachAmong lateralFree ahead (map asListed l))
+pub lateral-line : (f : Side) (ahead : List Listed) (l : List Placed) → Alternates f l → T (chain f (zonesIn l))
+    → T (all (clear ahead) (zonesIn l)) → T (eachAmong lateralFree ahead (map asListed l))
 lateral-line f ahead [] a t c = tt
 lateral-line f ahead (e ∷ l) a t c =
     let k = link f (e .zone) (zonesIn l) t in
