@@ -5,8 +5,8 @@
    oldest first, and how many of them count. No call keeps anything of its own, and a call touches nothing but what it is lent: calls on
    different buffers may run at the same time on different threads, and calls on the same one may not. A state may be saved, sent and
    compared with memcmp: after the same accepted calls from the same start it has the same bytes on every machine. Any bytes may be handed
-   in as a state. One that breaks the bounds is refused 10. A refused call leaves every byte of the state as it was; an accepted one that
-   changes the state writes all of it anew. Every pattern of a NaN is read as the one NaN, which is written as 0x7ff8000000000000: within the
+   in as a state. One that breaks the bounds is refused 10. A refused call leaves every byte of the state as it was; an accepted one writes
+   all of it anew, but for the spacing and the list, which only read. Every pattern of a NaN is read as the one NaN, which is written as 0x7ff8000000000000: within the
    bounds one can stand only in a kept field that does not count. The bounds are no checksum: a flipped bit may lead to another state within
    them. After a step back the first 1,733 bytes are those before the request, and a kept field that no longer counts keeps its bytes. A
    call takes up to some 170 KB of the caller's stack, by its compiled frames.
@@ -39,8 +39,9 @@
 #include <stddef.h>
 #include <stdint.h>
 
-/* How many bytes the state has. */
+/* How many bytes the state has, and how many of them are the field with its index, the first. */
 #define BAGUYMO_STATE_SIZE 15605
+#define BAGUYMO_FIELD_SIZE 1733
 
 #ifdef __cplusplus
 extern "C" {
@@ -59,13 +60,13 @@ uint16_t baguymo_host_ask(uint8_t *state, uint8_t desk, uint8_t kind, uint8_t si
 uint16_t baguymo_host_back(uint8_t *state, uint8_t desk);
 
 /* Presses the button: plays the one request that it proposes, as if it had been asked. Puts that request into `request` (desk, kind, side,
-   number, amount) and its answer into `answer`. Where nobody is on the field it plays nothing, all are zeros, and the state stays as it
-   was. 10 for a state that breaks the bounds. */
+   number, amount) and its answer into `answer`. Where nobody is on the field it plays nothing, and all are zeros. 10 for a state that
+   breaks the bounds. */
 uint16_t baguymo_host_press(uint8_t *state, size_t request[5], size_t answer[6]);
 
 /* Holds the button down until it says none, or until its presses are spent. Puts into `report` how many requests were played, and 1 where
    somebody is still on the field, else 0. Each of them keeps the field before it, so that of more than eight the last eight can be taken
-   back; the state is written anew also where nothing was played. 10 for a state that breaks the bounds; then both are 0. */
+   back. 10 for a state that breaks the bounds; then both are 0. */
 uint16_t baguymo_host_hold_down(uint8_t *state, size_t report[2]);
 
 /* The spacing of the pairs on the approach. `spacing` is in 64ths of a mile, 1 to 512. Puts into `pairs` how many pairs there are, and for

@@ -1,5 +1,5 @@
 //! The calls of a host program on the state that it lends (`include/host.h`). Each yields its number and its outputs, which are zeros
-//! where it is refused. A refused call and a press that plays nothing leave the state; any other that may change it writes the whole of it anew.
+//! where it is refused. A refused call leaves the state; any other that may change it writes the whole of it anew.
 
 use crate::button::{proposed, MOST_PRESSES};
 use crate::classroom;
@@ -63,18 +63,15 @@ fn taken_back(bytes: &mut Bytes, desk: u8) -> Result<(), BackRefusal> {
     Ok(())
 }
 
-/// One press of the button: desk, kind, side, number and amount of what it played, and the answer; zeros where it played nothing, and then
-/// every byte stays.
+/// One press of the button: desk, kind, side, number and amount of what it played, and the answer; zeros where it played nothing.
 pub fn press(bytes: &mut Bytes) -> (u16, [usize; 5], Six) {
     let Some((mut state, history)) = judged(bytes) else {
         return (10, [0; 5], six(10, Answer::ZEROS));
     };
     let mut field = history.field;
-    let Some((request, answer)) = pressed(&mut state, &mut field) else {
-        return (0, [0; 5], [0; 6]);
-    };
+    let played = pressed(&mut state, &mut field);
     *bytes = state.to_bytes();
-    (0, five(request), six(0, answer))
+    played.map_or((0, [0; 5], [0; 6]), |(request, answer)| (0, five(request), six(0, answer)))
 }
 
 /// The button held down: how many requests it played, and 1 where somebody is still present.

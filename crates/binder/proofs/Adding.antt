@@ -22,9 +22,11 @@ use Rattle.playing.proofs.Files.{answers-count}
 use Rattle.contents.specs.Contents.{fileCount, fileAt, filesFrom, filesOf}
 use Rattle.binder.specs.declared.counts.Counts.{Counts}
 use Rattle.binder.specs.Counting.{columns}
-use Rattle.binder.specs.Counts.{Small, Columned, isColumn, none, cellOf, withAnswer, withNumber, countedTo, withFile, withFiles, countsOf}
+use Rattle.week_table.specs.Table.{cellOf}
+use Rattle.binder.specs.Counts.{Small, Columned, isColumn, none, withAnswer, withNumber, countedTo, withFile, withFiles, countsOf}
 use Rattle.binder.proofs.Counted.{listed, Headed}
-use Rattle.binder.proofs.Cells.{one-low, of-few, cell-low}
+use Rattle.week_table.proofs.Cells.{one-low, of-few}
+use Rattle.binder.proofs.Cells.{cell-low}
 
 -- the counts with other moves, landings and cells
 abbrev pub countsWith : Counts → List ℕ → ℕ → ℕ → Counts

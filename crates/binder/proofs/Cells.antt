@@ -1,44 +1,19 @@
--- The table's places: the row of a kind, the column of a number, and which count a place holds. Assumes nothing.
-use mathlib.Core.Path.{_≡_, refl, sym, ap, _∙_}
-use mathlib.Core.Bool.{Bool, true, false, cond, _&&_}
+-- The table's places: the columns, and that a place of a row and a column is one of the table's. Assumes nothing.
+use mathlib.Core.Path.{_≡_, refl, ap}
+use mathlib.Core.Bool.{Bool, true, false, cond}
 use mathlib.Core.List.{List, [], _∷_}
-use Prim.Native.Nat.{ℕ, _+_, _-_, _*_, _≤_, _<_}
+use Prim.Native.Nat.{ℕ, _+_, _≤_, _<_}
 use native.Mathlib.Omega.{arith}
 use lib.Dec.{T, leb, eqb, leb→le}
 use lib.Ieee.Fits.{and-l, and-r}
-use borrow.Author.Tests.{eq-eqb, ne-eqb, eqb-true}
+use borrow.Author.Tests.{eqb-true}
 use Rattle.field.specs.Lists.{every}
 use Rattle.field.proofs.Tests.{every-from}
-use Rattle.request.specs.Input.{within}
-use Rattle.request.proofs.Tests.{within-high}
-use Rattle.playing.specs.Log.{ofKinds}
+use Rattle.week_table.specs.Table.{columnPlace, cellOf}
+use Rattle.week_table.proofs.Cells.{row-low}
 use Rattle.binder.specs.Counting.{columns}
-use Rattle.binder.specs.Counts.{isColumn, rowPlace, columnPlace, cellOf}
+use Rattle.binder.specs.Counts.{isColumn}
 use Rattle.binder.proofs.Counted.{listed}
-
--- 1 or 0 is no more than 1
-pub one-low : (b : Bool) → cond b 1 0 ≤ 1
-one-low true = omega arith
-one-low false = omega arith
-
--- one request by its kind, where it was answered 0 and where not
-module _ (kinds : ℕ → Bool) (kind number : ℕ) where
-  pub of-accepted : {b : Bool} → number ≡ 0 → kinds kind ≡ b → ofKinds kinds kind number ≡ cond b 1 0
-  of-accepted z e = ap (λ (t : Bool). cond (t && kinds kind) 1 0) (eq-eqb number 0 z) ∙ ap (λ (t : Bool). cond t 1 0) e
-
-  pub of-refused : (number ≡ 0 → ⊥) → ofKinds kinds kind number ≡ 0
-  of-refused n = ap (λ (t : Bool). cond (t && kinds kind) 1 0) (ne-eqb number 0 n)
-
-  pub of-few : ofKinds kinds kind number ≤ 1
-  of-few = one-low (eqb number 0 && kinds kind)
-
--- there are thirteen rows
-pub row-low : (kind : ℕ) → rowPlace kind ≤ 12
-row-low kind = go (within 1 12 kind) refl
-  where
-    go : (b : Bool) → within 1 12 kind ≡ b → cond b (kind - 1) 12 ≤ 12
-    go true e = let h = within-high 1 12 kind e in omega arith
-    go false e = omega arith
 
 -- a listed number is no higher than the highest
 pub listed-low : (ns : List ℕ) (most m : ℕ) → T (every (λ n. leb n most) ns) → listed ns m ≡ 1 → m ≤ most

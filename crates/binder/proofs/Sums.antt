@@ -22,9 +22,11 @@ use Rattle.playing.specs.Log.{logOf, kindAt, numberAt}
 use Rattle.playing.proofs.Logs.{here-in, kind-here}
 use Rattle.binder.specs.declared.counts.Counts.{Counts}
 use Rattle.binder.specs.Counting.{answersIn, rowOf, rows, columns, isAnswered, answered, landings, filesNumbered}
-use Rattle.binder.specs.Counts.{rowPlace, columnPlace, cellOf, rowAt, none, withAnswer, withNumber, countedTo, withFile, withFiles, countsOf}
+use Rattle.week_table.specs.Table.{rowPlace, columnPlace, cellOf}
+use Rattle.binder.specs.Counts.{rowAt, none, withAnswer, withNumber, countedTo, withFile, withFiles, countsOf}
 use Rattle.binder.proofs.Counted.{listed, Headed, headed-file}
-use Rattle.binder.proofs.Cells.{row-low, listed-low, column-low}
+use Rattle.week_table.proofs.Cells.{row-low}
+use Rattle.binder.proofs.Cells.{listed-low, column-low}
 
 -- ---- which place a row and a column have
 

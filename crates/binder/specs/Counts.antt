@@ -3,7 +3,7 @@ use Prim.Native.Nat.{ℕ, zero, suc, _+_, _-_, _*_, _≤_, _<_}
 use mathlib.Core.Path.{_≡_}
 use mathlib.Core.List.{List, [], _∷_, _++_}
 use mathlib.Core.Bool.{Bool, true, cond}
-use lib.Dec.{eqb, ltb}
+use lib.Dec.{eqb}
 use lib.ListN.{length, getD, set, replicate}
 use Rattle.request.specs.Input.{within}
 use Rattle.practice.specs.File.{fileNumber}
@@ -11,6 +11,7 @@ use Rattle.practice.specs.Sections.{stretch}
 use Rattle.questions.specs.Counts.{total}
 use Rattle.playing.specs.Playing.{answersOf}
 use Rattle.playing.specs.Log.{logOf, kindAt, numberAt, ofKinds}
+use Rattle.week_table.specs.Table.{cellOf}
 use Rattle.binder.specs.declared.counts.Counts.{Counts}
 use Rattle.binder.specs.Counting.{rows, columns}
 use Rattle.binder.specs.Week.{filesLine, refusedLine, headingLine, rowLine, movesLine, landingsLine}
@@ -20,18 +21,6 @@ use Rattle.binder.specs.Week.{filesLine, refusedLine, headingLine, rowLi
 -- whether a number heads a column
 unfoldable pub isColumn : ℕ → Bool
 isColumn number = eqb (total (λ n. cond (eqb number n) 1 0) columns) 1
-
--- the row of a kind, counted from 0: that of kinds 1 to 12, and the last for all others
-abbrev pub rowPlace : ℕ → ℕ
-rowPlace kind = cond (within 1 12 kind) (kind - 1) 12
-
--- the column of a number, counted from 0
-abbrev pub columnPlace : ℕ → ℕ
-columnPlace number = cond (ltb number 10) number (number - 5)
-
--- where the count of a kind and a number stands in the table, row by row
-unfoldable pub cellOf : ℕ → ℕ → ℕ
-cellOf kind number = 21 * rowPlace kind + columnPlace number
 
 -- the row in a place, as `rows` lists them
 abbrev pub rowAt : ℕ → ℕ

@@ -1,24 +1,21 @@
--- Document 01, "The bounds", a to g, each a test of any field, with what document 02 adds to e and g.
-use mathlib.Core.Bool.{Bool, true, false, cond, not, _&&_, _||_}
+-- Document 01, "The bounds", a to f, each a test of any field, with what document 02 adds to e, and all seven; `fits` has g.
+use mathlib.Core.Bool.{Bool, true, _&&_, _||_}
 use mathlib.Core.List.{List, [], _∷_, _++_, map}
 use Prim.Native.Nat.{ℕ}
 use lib.Dec.{eqb, leb}
 use lib.ListN.{length, drop}
-use lib.Ieee.{Float, eq}
-use Rattle.limits.specs.Limits.{fastest, desks}
-use Rattle.leg.specs.Progress.{whole, waitedWithin, withinLeg, legalLeg, legalMissedLeg}
-use Rattle.leg.specs.declared.Progress.{Progress}
-use Rattle.leg.specs.declared.Progress.the-variants.{Waiting, Flying}
+use lib.Ieee.{eq}
+use Rattle.leg.specs.Progress.{whole}
 use Rattle.field.specs.declared.Aircraft.{Aircraft}
 use Rattle.field.specs.declared.Zone.{Zone}
 use Rattle.field.specs.declared.Sequence.{Sequence}
-use Rattle.field.specs.declared.Legs.{Legs}
 use Rattle.field.specs.declared.Field.{Field}
-use Rattle.field.specs.Boxes.{right, left, isSide, opposite, at3000, at2000, lateral, missed, finalApproach, runway, zonesFrom, everywhere, isFlyingZone, zoneOf, inZone, orderOf, legOf}
+use Rattle.field.specs.Boxes.{right, left, opposite, at3000, at2000, lateral, missed, finalApproach, runway, zonesFrom, everywhere, zoneOf, orderOf}
 use Rattle.field.specs.Lists.{every}
 use Rattle.questions.specs.Counts.{howMany, isEmpty, inOperation, inArea, perFix}
 use Rattle.questions.specs.Find.{aircraftAt, fixOf, isFirst}
 use Rattle.numbers.specs.Numbers.{numbersDiffer, sequenceExact}
+use Rattle.fits.specs.Fits.{isWaiting, boundG}
 
 -- ---- a. no more than four are in zones 1 to 12, and no more than one is on the runway
 unfoldable pub boundA : Field → Bool
@@ -47,11 +44,6 @@ boundD f = leb (perFix f right) 2 && leb (perFix f left) 2
 -- whoever is at the head of final is first in the landing sequence
 unfoldable pub finalFirst : Field → Bool
 finalFirst f = isEmpty f finalApproach || isFirst (f .sequence) (aircraftAt f finalApproach 1 .number)
-
--- whether a progress is that of one who waits
-abbrev pub isWaiting : Progress → Bool
-isWaiting Waiting = true
-isWaiting (Flying miles) = false
 
 -- nobody, as a place past a length has it: waiting, and every number is 0, the desk (02, 2.10) too. Of the miles waited and the own leg (02, 2.7) it is enough
 -- that they compare equal to 0, as -0 does (02, 2.2)
@@ -83,27 +75,6 @@ alternate (s ∷ t ∷ ts) = eqb t (opposite s) && alternate (t ∷ ts)
 unfoldable pub boundF : Field → Bool
 boundF f = alternate (map (fixOf f) (orderOf (f .sequence)) ++ (f .next ∷ []))
 
--- ---- g. document 02 adds the miles waited (2.2), the own leg, against which the miles are measured (2.7), and the desk (2.10)
-
--- the own leg of one in zone z (02, 2.7): of any legal length in a missed zone; elsewhere as long as the field's leg of the zone, which is 0 where nobody flies
-unfoldable pub legFits : Legs → ℕ → Float → Bool
-legFits legs z leg = cond (eqb z (missed right) || eqb z (missed left)) (legalMissedLeg leg) (eq leg (legOf legs z))
-
--- one in zone z: its fix is a side; its speed, its desk and its miles waited are within their limits; its own leg fits; and in zones 7 to 12 it flies, its
--- miles within its own leg, while in all others it waits
-unfoldable pub fitsZone : Legs → ℕ → Aircraft → Bool
-fitsZone legs z a =
-    isSide (a .fix) && (leb 1 (a .speed) && leb (a .speed) fastest) && (leb 1 (a .desk) && leb (a .desk) desks) && waitedWithin (a .waited) && legFits legs z (a .leg)
-    && cond (isFlyingZone z) (not (isWaiting (a .progress)) && withinLeg (a .progress) (a .leg)) (isWaiting (a .progress))
-
--- the four legs of a field have legal lengths
-unfoldable pub legalLegs : Legs → Bool
-legalLegs legs = legalLeg (legs .missed) && legalLeg (legs .base) && legalLeg (legs .intermediate) && legalLeg (legs .«final_approach»)
-
--- g: everyone fits its zone, the next fix is a side, and the legs are legal
-unfoldable pub boundG : Field → Bool
-boundG f = every (λ z. every (fitsZone (f .legs) z) (inZone f z)) everywhere && isSide (f .next) && legalLegs (f .legs)
-
--- ---- all seven bounds
+-- ---- all seven bounds; `fits` has g
 unfoldable pub withinBounds : Field → Bool
 withinBounds f = boundA f && boundB f && boundC f && boundD f && boundE f && boundF f && boundG f

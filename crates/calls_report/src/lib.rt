@@ -15,18 +15,26 @@ use playing::legs_in_miles;
 use practice::FileLegs;
 use practice::legs_allowed;
 use request::Request;
+use request::word;
 use text::Buffer;
-use words::number16;
 ghost use mathlib.Core.Path.{_≡_};
 ghost use mathlib.Core.List.{_++_};
 ghost use Prim.Native.Nat.{_+_, _/_, _≤_};
 ghost use lib.ListN.{length, drop};
 ghost use Rattle.limits.specs.Limits.{mostRequests};
-ghost use Rattle.practice.specs.File.{legsOf};
+ghost use Rattle.practice.specs.File.{number16, legsOf};
 ghost use Rattle.text.specs.Buffer.{Put, room};
 ghost use Rattle.history.specs.History.{startOf};
 ghost use Rattle.taken_back.specs.Calls.{called};
 ghost use Rattle.calls_report.specs.CallsReport.{callAt, callBytes, callsIn, desksNumber, reportFrom, desksOf};
+
+// The number of 16 bits at a place of the input.
+fn number16(input: &[u8], at: usize) -> u16
+    requires { ⌜ at + 2 ≤ length (now input) ⌝ }
+    ensures { λ r. ⌜ r ≡ number16 (now (input .entry)) at ⌝ }
+{
+    word(input[at], input[at + 1])
+}
 
 // The legs of the first eight bytes.
 fn legs_in(input: &[u8]) -> FileLegs

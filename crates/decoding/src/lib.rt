@@ -8,14 +8,40 @@ use finder::Entry;
 use finder::Index;
 use finder::Indexed;
 use history::History;
+use layout::State;
 use leg::Progress;
+use request::word;
 use words::miles_of;
-use words::number16;
-use words::number64;
 ghost use mathlib.Core.Path.{_≡_};
 ghost use Prim.Native.Nat.{_+_, _≤_};
 ghost use lib.ListN.{length};
+ghost use Rattle.practice.specs.File.{number16, number32};
+ghost use Rattle.words.specs.Words.{number64};
 ghost use Rattle.layout.specs.Read.{progressOf, aircraftAt, zoneAt, sequenceAt, legsAt, fieldAt, entryAt, indexedAt, historyOf};
+
+// The number of 16 bits at a place of the bytes.
+fn number16(bytes: &[u8], at: usize) -> u16
+    requires { ⌜ at + 2 ≤ length (now bytes) ⌝ }
+    ensures { λ r. ⌜ r ≡ number16 (now (bytes .entry)) at ⌝ }
+{
+    word(bytes[at], bytes[at + 1])
+}
+
+// The number of 32 bits at a place of the bytes.
+fn number32(bytes: &[u8], at: usize) -> u32
+    requires { ⌜ at + 4 ≤ length (now bytes) ⌝ }
+    ensures { λ r. ⌜ r ≡ number32 (now (bytes .entry)) at ⌝ }
+{
+    number16(bytes, at) as u32 + 65536 * (number16(bytes, at + 2) as u32)
+}
+
+// The number of 64 bits at a place of the bytes.
+fn number64(bytes: &[u8], at: usize) -> u64
+    requires { ⌜ at + 8 ≤ length (now bytes) ⌝ }
+    ensures { λ r. ⌜ r ≡ number64 (now (bytes .entry)) at ⌝ }
+{
+    number32(bytes, at) as u64 + 4294967296 * (number32(bytes, at + 4) as u64)
+}
 
 // The progress of 64 bits.
 fn progress_of(bits: u64) -> Progress
@@ -118,7 +144,7 @@ fn entry_at(bytes: &[u8], at: usize) -> Entry
 }
 
 // The field at a place with the index behind it.
-pub fn indexed_at(bytes: &[u8], at: usize) -> Indexed
+fn indexed_at(bytes: &[u8], at: usize) -> Indexed
     requires { ⌜ at + 1733 ≤ length (now bytes) ⌝ }
     ensures { λ r. ⌜ r ≡ indexedAt (now (bytes .entry)) at ⌝ }
 {
@@ -136,10 +162,10 @@ pub fn indexed_at(bytes: &[u8], at: usize) -> Indexed
 }
 
 // The field, the eight kept ones and how many of them count.
-pub fn history_of(bytes: &[u8]) -> History
-    requires { ⌜ 15605 ≤ length (now bytes) ⌝ }
-    ensures { λ r. ⌜ r ≡ historyOf (now (bytes .entry)) ⌝ }
+pub fn history_of(state: &State) -> History
+    ensures { λ r. ⌜ r ≡ historyOf (now (state .entry)) ⌝ }
 {
+    let bytes: &[u8] = state;
     let now = indexed_at(bytes, 0);
     let first = indexed_at(bytes, 1733);
     let mut kept = [first; 8];

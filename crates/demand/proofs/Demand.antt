@@ -16,7 +16,8 @@ use Rattle.field.specs.declared.Field.{Field}
 use Rattle.field.specs.Boxes.{emptyField, zonesFrom, inZone, operation}
 use Rattle.questions.specs.Counts.{howMany, presentOn, presentFor, ownedBy, inOperation, inArea, perFix}
 use Rattle.field.specs.Lists.{every}
-use Rattle.bounds.specs.Bounds.{legalLegs, boundA, boundB, boundC, boundD, lateralRule}
+use Rattle.bounds.specs.Bounds.{boundA, boundB, boundC, boundD, lateralRule}
+use Rattle.fits.specs.Fits.{legalLegs}
 use Rattle.field.proofs.Shapes.{one-of-two}
 use Rattle.order.specs.Model.{Side, right}
 use Rattle.order.proofs.Facts.{okay-empty, okay-zones, weight-small}

@@ -16,7 +16,7 @@ use Rattle.leg.proofs.Theorems.{zero-exact, sixty-fourths-in-4096ths, sixty-fou
 use Rattle.request.specs.Input.{within}
 use Rattle.field.specs.declared.Aircraft.{Aircraft}
 use Rattle.field.specs.Boxes.{right, left, missed, finalApproach, isFlyingZone, legOf, progressInto}
-use Rattle.bounds.specs.Bounds.{fitsZone, legalLegs}
+use Rattle.fits.specs.Fits.{fitsZone, legalLegs}
 use Rattle.tick.specs.Tick.{tickedAircraft}
 use Rattle.demand.specs.Exact.{WholeLegs, inMiles, in64ths, in4096ths, pastIn, mostIn4096ths, Flight, ticking, entry, pastSoFar, onward, afterMiss, Account}
 use Rattle.field.proofs.Tests.{pass, passed, if-true, if-false, either-way, each-zone}

@@ -22,7 +22,7 @@ use Rattle.field.specs.Boxes.{sideOf, opposite, at2000, inZone, isFlyingZone, l
 use Rattle.questions.specs.Counts.{howMany, isEmpty}
 use Rattle.questions.specs.Find.{placeOf, aircraftAt, isFirst, leaderZone}
 use Rattle.field.specs.Lists.{every}
-use Rattle.bounds.specs.Bounds.{fitsZone}
+use Rattle.fits.specs.Fits.{fitsZone}
 use Rattle.order.specs.Model as model
 use Rattle.order.specs.Model.{Side, count, free, needs}
 use Rattle.order.proofs.Facts.{headKind, head-moves}

@@ -21,7 +21,8 @@ use Rattle.field.specs.Lists.{isIn, every, allDifferent}
 use Rattle.questions.specs.Counts.{howMany, isEmpty}
 use Rattle.questions.specs.Find.{aircraftAt, numbersIn}
 use Rattle.numbers.specs.Numbers.{numbersDiffer}
-use Rattle.bounds.specs.Bounds.{lateralRule, boundC, fitsZone, withinBounds}
+use Rattle.bounds.specs.Bounds.{lateralRule, boundC, withinBounds}
+use Rattle.fits.specs.Fits.{fitsZone}
 use Rattle.rules.specs.Kinds.{placeBefore, startsFrom, belongsTo, headChecks, descendNeeds, moved}
 use Rattle.rules.specs.Step.{effectOf, numberOf}
 use Rattle.rules.specs.Reason.{hasPlaces}

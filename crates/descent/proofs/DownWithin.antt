@@ -21,7 +21,8 @@ use Rattle.field.specs.Edits.{withoutHead, withTail, withZone}
 use Rattle.questions.specs.Counts.{howMany, isEmpty, inOperation, inArea, perFix}
 use Rattle.questions.specs.Find.{placeOf, aircraftAt, fixOf, isFirst, numbersIn}
 use Rattle.numbers.specs.Numbers.{numbersDiffer, sequenceExact}
-use Rattle.bounds.specs.Bounds.{boundA, boundB, lateralRule, boundC, boundD, finalFirst, zoneKept, sequenceKept, boundE, alternate, boundF, fitsZone, legalLegs, boundG, withinBounds}
+use Rattle.bounds.specs.Bounds.{boundA, boundB, lateralRule, boundC, boundD, finalFirst, zoneKept, sequenceKept, boundE, alternate, boundF, withinBounds}
+use Rattle.fits.specs.Fits.{fitsZone, legalLegs, boundG}
 use Rattle.order.specs.Model.{count}
 use Rattle.field.proofs.Arrival.{into-arrived}
 use Rattle.field.proofs.Lists.{every-listed, zone-listed}

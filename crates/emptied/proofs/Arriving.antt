@@ -19,7 +19,8 @@ use Rattle.field.specs.declared.Field.{Field}
 use Rattle.field.specs.Boxes.{isFlyingZone, inZone, legFlownOut, zonesFrom, isSide, everywhere}
 use Rattle.field.specs.Lists.{every}
 use Rattle.field.proofs.Tests.{passed, if-true, every-from}
-use Rattle.bounds.specs.Bounds.{isWaiting, fitsZone, legalLegs, boundG, withinBounds}
+use Rattle.bounds.specs.Bounds.{withinBounds}
+use Rattle.fits.specs.Fits.{isWaiting, fitsZone, legalLegs, boundG}
 use Rattle.tick.specs.Tick.{tickedAircraft, ticked}
 use Rattle.laws.proofs.BoundLaws.{within-each}
 use Rattle.laws.proofs.Fits.{fits-parts, own-legal}

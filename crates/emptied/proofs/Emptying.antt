@@ -21,7 +21,8 @@ use Rattle.field.specs.declared.Field.{Field}
 use Rattle.field.specs.Boxes.{emptyField}
 use Rattle.field.proofs.Tests.{decided, failed, zones-imply}
 use Rattle.questions.specs.Counts.{presentOn}
-use Rattle.bounds.specs.Bounds.{legalLegs, withinBounds}
+use Rattle.bounds.specs.Bounds.{withinBounds}
+use Rattle.fits.specs.Fits.{legalLegs}
 use Rattle.tick.specs.Tick.{ticked}
 use Rattle.order.specs.Model.{Side, one}
 use Rattle.rules.specs.Step.{effectOf, numberOf, stepOf}

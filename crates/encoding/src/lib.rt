@@ -1,4 +1,4 @@
-// The state that a host lends, put into its bytes. Each function yields the place after what it put.
+// The state that a host lends, put into its bytes. Each function that puts a part yields the place after it.
 use field::Aircraft;
 use field::Field;
 use field::Legs;
@@ -8,6 +8,7 @@ use finder::Entry;
 use finder::Index;
 use finder::Indexed;
 use history::History;
+use layout::State;
 use leg::Progress;
 use text::put_byte;
 use words::bits_of;
@@ -17,7 +18,7 @@ use words::put_word;
 ghost use mathlib.Core.Path.{_≡_};
 ghost use Rattle.practice.specs.Practice.{bytes16};
 ghost use Rattle.text.specs.Buffer.{Put};
-ghost use Rattle.layout.specs.Written.{bytesOfEach, progressBits, aircraftBytes, zoneBytes, sequenceBytes, legsBytes, fieldBytes, entryBytes, indexedBytes, historyBytes};
+ghost use Rattle.layout.specs.Written.{bytesOfEach, progressBits, aircraftBytes, zoneBytes, sequenceBytes, legsBytes, fieldBytes, entryBytes, indexedBytes, historyBytes, stateAfter};
 
 // The 64 bits of a progress: all of them set for one that waits.
 fn progress_bits(p: Progress) -> u64
@@ -145,7 +146,7 @@ fn put_index(out: &mut [u8], at: usize, index: Index) -> usize
 }
 
 // Puts a field with its index.
-pub fn put_indexed(out: &mut [u8], at: usize, x: Indexed) -> usize
+fn put_indexed(out: &mut [u8], at: usize, x: Indexed) -> usize
     ensures { λ r. ⌜ Put (now (out .entry)) at (indexedBytes x) (now (out .exit)) r ⌝ }
 {
     let index = put_field(out, at, x.field);
@@ -167,10 +168,27 @@ fn put_kept(out: &mut [u8], at: usize, h: History) -> usize
 }
 
 // Puts a history.
-pub fn put_history(out: &mut [u8], at: usize, h: History) -> usize
+fn put_history(out: &mut [u8], at: usize, h: History) -> usize
     ensures { λ r. ⌜ Put (now (out .entry)) at (historyBytes h) (now (out .exit)) r ⌝ }
 {
     let kept = put_indexed(out, at, h.now);
     let count = put_kept(out, kept, h);
     put_quad(out, count, h.count as u64)
+}
+
+// Writes the bytes of a history over the state.
+pub fn store(state: &mut State, h: History)
+    ensures { λ _. ⌜ now (state .exit) ≡ historyBytes h ⌝ }
+{
+    let bytes: &mut [u8] = state;
+    put_history(bytes, 0, h);
+}
+
+// Writes the bytes of the history after a call with this number over the state; a refused call leaves it.
+pub fn store_after(state: &mut State, number: u16, h: History)
+    ensures { λ _. ⌜ now (state .exit) ≡ stateAfter (now (state .entry)) number h ⌝ }
+{
+    if number == 0 {
+        store(state, h);
+    }
 }

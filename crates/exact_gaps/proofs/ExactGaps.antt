@@ -23,7 +23,8 @@ use Rattle.field.proofs.Lists.{every-listed}
 use Rattle.questions.specs.Counts.{howMany}
 use Rattle.questions.specs.Find.{placeOf, aircraftAt, numbersIn}
 use Rattle.questions.proofs.FindLaws.{Found, found-exactly, found-there}
-use Rattle.bounds.specs.Bounds.{fitsZone, legFits, boundG, withinBounds, legalLegs}
+use Rattle.bounds.specs.Bounds.{withinBounds}
+use Rattle.fits.specs.Fits.{fitsZone, legFits, boundG, legalLegs}
 use Rattle.laws.proofs.BoundLaws.{within-each}
 use Rattle.laws.proofs.Fits.{fits-parts}
 use Rattle.rules.specs.Play.{played}

@@ -19,7 +19,7 @@ use Rattle.field.specs.declared.Aircraft.{Aircraft}
 use Rattle.field.specs.Boxes.{nobody, legOf, isFlyingZone}
 use Rattle.field.specs.Lists.{every, Each}
 use Rattle.field.proofs.Tests.{each-from}
-use Rattle.bounds.specs.Bounds.{legFits}
+use Rattle.fits.specs.Fits.{legFits}
 use Rattle.demand.specs.Exact.{WholeLegs, inMiles, in64ths, Flight, Account}
 use Rattle.gaps.specs.Gaps.{toGo}
 use Rattle.exact_gaps.specs.ExactGaps.{wayFrom}

@@ -15,23 +15,16 @@ use Rattle.playing.specs.Playing.{legsInMiles}
 use Rattle.press_kept.specs.declared.PressedKept.{PressedKept}
 use Rattle.press_kept.specs.declared.HeldKept.{HeldKept}
 use Rattle.press_kept.specs.PressKept.{pressKept, heldKept}
-use Rattle.host.specs.Calls.{startNumber, startedState, pressedOf, heldOf, endNumber}
-use Rattle.taken_back.specs.Calls.{request, back, called}
+use Rattle.host.specs.Calls.{startNumber, startedState, pressedOf, heldOf}
+use Rattle.replies.specs.Replies.{endNumber}
 use Rattle.layout.specs.Read.{historyOf}
-use Rattle.layout.specs.Written.{historyBytes}
-use Rattle.lent_calls.specs.OnBytes.{stateAfter}
-
-pub state-stored : (state : List ℕ) (number : ℕ) (h : History) → number ≡ 0 → stateAfter state number h ≡ historyBytes h
-state-stored state number h e = if-true _ _ (eq-eqb number 0 e)
-
-pub state-left : (state : List ℕ) (number : ℕ) (h : History) → (number ≡ 0 → ⊥) → stateAfter state number h ≡ state
-state-left state number h n = if-false _ _ (ne-eqb number 0 n)
+use Rattle.layout.specs.Written.{historyBytes, stateAfter}
 
 -- ---- a call on the history that the bytes are read as
-pub asked : (state : List ℕ) (r : Request) {h : History} {s : SteppedHistory} → s ≡ stepHistory h r → h ≡ historyOf state → s ≡ called (historyOf state) (request r)
+pub asked : (state : List ℕ) (r : Request) {h : History} {s : SteppedHistory} → s ≡ stepHistory h r → h ≡ historyOf state → s ≡ stepHistory (historyOf state) r
 asked state r e g = e ∙ ap (λ (x : History). stepHistory x r) g
 
-pub stepped-back : (state : List ℕ) (desk : ℕ) {h : History} {s : SteppedHistory} → s ≡ stepBack h desk → h ≡ historyOf state → s ≡ called (historyOf state) (back desk)
+pub stepped-back : (state : List ℕ) (desk : ℕ) {h : History} {s : SteppedHistory} → s ≡ stepBack h desk → h ≡ historyOf state → s ≡ stepBack (historyOf state) desk
 stepped-back state desk e g = e ∙ ap (λ (x : History). stepBack x desk) g
 
 -- the state after a step that is known

@@ -1,30 +1,27 @@
 // What a host's program calls on a state that it lends as bytes (include/host.h): the start, a request, a step back, and a field of the classroom dialect.
 pub mod button;
-pub mod putting;
 pub mod views;
 
-use crate::putting::put_answer;
-use crate::putting::store;
-use crate::putting::store_after;
 use decoding::history_of;
 use dialect::coming::field_of;
+use encoding::store;
+use encoding::store_after;
 use history::start;
 use history::start_with;
 use history::step_back;
 use history::step_history;
+use layout::State;
 use playing::legs_in_miles;
 use practice::FileLegs;
 use practice::legs_allowed;
+use replies::answer_numbers;
 use request::Request;
 ghost use mathlib.Core.Path.{_≡_};
 ghost use Rattle.dialect.specs.Coming.{fieldOf};
-ghost use Rattle.taken_back.specs.Calls.{request, back, called};
+ghost use Rattle.history.specs.History.{stepHistory, stepBack};
 ghost use Rattle.layout.specs.Read.{historyOf};
-ghost use Rattle.lent_calls.specs.OnBytes.{calledBytes};
-ghost use Rattle.host.specs.Calls.{startNumber, startedState, builtState, answerNumbers};
-
-// The state in the host's memory.
-pub type State = [u8; 15605];
+ghost use Rattle.replies.specs.Replies.{answerNumbers};
+ghost use Rattle.host.specs.Calls.{startNumber, startedState, askedState, steppedBackState, builtState};
 
 // Writes the state of the empty field with these legs, or refuses them.
 #[no_mangle]
@@ -38,7 +35,6 @@ pub extern "C" fn baguymo_host_start(
     ensures { λ r. ⌜ r ≡ startNumber (record { base = base; intermediate = intermediate; last = last; missed = missed }) ⌝ }
     ensures { λ _. ⌜ now (state .exit) ≡ startedState (now (state .entry)) (record { base = base; intermediate = intermediate; last = last; missed = missed }) ⌝ }
 {
-    let bytes: &mut [u8] = state;
     let legs = FileLegs {
         base: base,
         intermediate: intermediate,
@@ -48,7 +44,7 @@ pub extern "C" fn baguymo_host_start(
     if !legs_allowed(legs) {
         return 7;
     }
-    store(bytes, start(legs_in_miles(legs)));
+    store(state, start(legs_in_miles(legs)));
     0
 }
 
@@ -63,12 +59,10 @@ pub extern "C" fn baguymo_host_ask(
     amount: u16,
     answer: &mut [usize; 6],
 ) -> u16
-    ensures { λ r. ⌜ r ≡ called (historyOf (now (state .entry))) (request (record { kind = kind; side = side; number = number; amount = amount; desk = desk })) .answer .number ⌝ }
-    ensures { λ _. ⌜ now (answer .exit) ≡ answerNumbers (called (historyOf (now (state .entry))) (request (record { kind = kind; side = side; number = number; amount = amount; desk = desk })) .answer) ⌝ }
-    ensures { λ _. ⌜ now (state .exit) ≡ calledBytes (now (state .entry)) (request (record { kind = kind; side = side; number = number; amount = amount; desk = desk })) ⌝ }
+    ensures { λ r. ⌜ r ≡ stepHistory (historyOf (now (state .entry))) (record { kind = kind; side = side; number = number; amount = amount; desk = desk }) .answer .number ⌝ }
+    ensures { λ _. ⌜ now (answer .exit) ≡ answerNumbers (stepHistory (historyOf (now (state .entry))) (record { kind = kind; side = side; number = number; amount = amount; desk = desk }) .answer) ⌝ }
+    ensures { λ _. ⌜ now (state .exit) ≡ askedState (now (state .entry)) (record { kind = kind; side = side; number = number; amount = amount; desk = desk }) ⌝ }
 {
-    let bytes: &mut [u8] = state;
-    let out: &mut [usize] = answer;
     let r = Request {
         kind: kind,
         side: side,
@@ -76,23 +70,22 @@ pub extern "C" fn baguymo_host_ask(
         amount: amount,
         desk: desk,
     };
-    let s = step_history(history_of(bytes), r);
+    let s = step_history(history_of(state), r);
     let a = s.answer;
-    put_answer(out, a);
-    store_after(bytes, a.number, s.after);
+    *answer = answer_numbers(a);
+    store_after(state, a.number, s.after);
     a.number
 }
 
 // One step back of the state by a desk: its number.
 #[no_mangle]
 pub extern "C" fn baguymo_host_back(state: &mut State, desk: u8) -> u16
-    ensures { λ r. ⌜ r ≡ called (historyOf (now (state .entry))) (back desk) .answer .number ⌝ }
-    ensures { λ _. ⌜ now (state .exit) ≡ calledBytes (now (state .entry)) (back desk) ⌝ }
+    ensures { λ r. ⌜ r ≡ stepBack (historyOf (now (state .entry))) desk .answer .number ⌝ }
+    ensures { λ _. ⌜ now (state .exit) ≡ steppedBackState (now (state .entry)) desk ⌝ }
 {
-    let bytes: &mut [u8] = state;
-    let stepped = step_back(history_of(bytes), desk);
+    let stepped = step_back(history_of(state), desk);
     let a = stepped.answer;
-    store_after(bytes, a.number, stepped.after);
+    store_after(state, a.number, stepped.after);
     a.number
 }
 
@@ -110,7 +103,6 @@ pub extern "C" fn baguymo_host_field(
     ensures { λ r. ⌜ r ≡ fieldOf (record { base = base; intermediate = intermediate; last = last; missed = missed }) speed (now (list .entry)) .number ⌝ }
     ensures { λ _. ⌜ now (state .exit) ≡ builtState (now (state .entry)) (fieldOf (record { base = base; intermediate = intermediate; last = last; missed = missed }) speed (now (list .entry))) ⌝ }
 {
-    let bytes: &mut [u8] = state;
     let legs = FileLegs {
         base: base,
         intermediate: intermediate,
@@ -118,6 +110,6 @@ pub extern "C" fn baguymo_host_field(
         missed: missed,
     };
     let b = field_of(legs, speed, list);
-    store_after(bytes, b.number, start_with(b.after));
+    store_after(state, b.number, start_with(b.after));
     b.number
 }

@@ -9,7 +9,8 @@ use Rattle.field.specs.declared.Legs.{Legs}
 use Rattle.field.specs.declared.Field.{Field}
 use Rattle.field.specs.Boxes.{emptyField}
 use Rattle.field.proofs.Tests.{pass, decided}
-use Rattle.bounds.specs.Bounds.{withinBounds, legalLegs}
+use Rattle.bounds.specs.Bounds.{withinBounds}
+use Rattle.fits.specs.Fits.{legalLegs}
 use Rattle.finder.specs.declared.Indexed.{Indexed}
 use Rattle.finder.specs.Finder.{indexOf, withinBoundsIndexed}
 use Rattle.finder.proofs.Theorems.{found-as-looked, indexed-as-looked}

@@ -20,7 +20,8 @@ use Rattle.field.specs.Boxes.{everywhere, emptyZone, zoneOf, queueOf, inZone}
 use Rattle.field.specs.Lists.{every, Each}
 use Rattle.field.proofs.Lists.{every-listed, zone-listed}
 use Rattle.field.proofs.Tests.{decided, if-false, either-way}
-use Rattle.bounds.specs.Bounds.{isWaiting, isNobody, zoneKept, withinBounds}
+use Rattle.bounds.specs.Bounds.{isNobody, zoneKept, withinBounds}
+use Rattle.fits.specs.Fits.{isWaiting}
 use Rattle.laws.proofs.BoundLaws.{within-e}
 use Rattle.rules.specs.declared.Answer.{Answer}
 use Rattle.rules.specs.Step.{stepOf}

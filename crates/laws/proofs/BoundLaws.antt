@@ -13,7 +13,8 @@ use Rattle.field.specs.declared.Field.{Field}
 use Rattle.field.specs.Boxes.{isSide, zoneOf, queueOf, inZone, orderOf, emptyField, runway, everywhere}
 use Rattle.questions.specs.Counts.{howMany, howManyWithFix, presentOn, inOperation, inArea, perFix}
 use Rattle.field.specs.Lists.{every, allDifferent}
-use Rattle.bounds.specs.Bounds.{boundA, boundB, lateralRule, boundC, boundD, finalFirst, isNobody, zoneKept, sequenceKept, boundE, boundF, legalLegs, boundG, withinBounds}
+use Rattle.bounds.specs.Bounds.{boundA, boundB, lateralRule, boundC, boundD, finalFirst, isNobody, zoneKept, sequenceKept, boundE, boundF, withinBounds}
+use Rattle.fits.specs.Fits.{legalLegs, boundG}
 use Rattle.questions.specs.Find.{numbersIn}
 use Rattle.numbers.specs.Numbers.{numbersDiffer, sequenceExact}
 use Rattle.laws.proofs.EditLaws.{Shaped, shaped-by-zones}

@@ -21,7 +21,7 @@ use Rattle.field.specs.declared.Legs.{Legs}
 use Rattle.field.specs.declared.Field.{Field}
 use Rattle.field.specs.Lists.{every}
 use Rattle.field.specs.Boxes.{right, left, missed, finalApproach, everywhere, inZone, isSide, isFlyingZone, legOf, entering, arrived, turnedAway, withFix}
-use Rattle.bounds.specs.Bounds.{isWaiting, legFits, fitsZone, legalLegs, boundG}
+use Rattle.fits.specs.Fits.{isWaiting, legFits, fitsZone, legalLegs, boundG}
 use Rattle.field.proofs.Arrival.{progress-by, leg-not-flown, Into, into-arrived, into-turned-away}
 use Rattle.field.proofs.Parts.{or-else}
 use Rattle.field.proofs.Tests.{pass, passed, decided, if-true, if-false, either-way, each-from, every-from}

@@ -20,7 +20,8 @@ use Rattle.field.specs.declared.Field.{Field}
 use Rattle.field.specs.Boxes.{nobody, emptyZone, isSide, everywhere, zoneOf, queueOf, inZone}
 use Rattle.field.specs.Edits.{withoutHead, withTail, withZone, withSequence}
 use Rattle.field.specs.Lists.{every}
-use Rattle.bounds.specs.Bounds.{isNobody, zoneKept, sequenceKept, boundE, fitsZone, legalLegs, boundG, withinBounds}
+use Rattle.bounds.specs.Bounds.{isNobody, zoneKept, sequenceKept, boundE, withinBounds}
+use Rattle.fits.specs.Fits.{fitsZone, legalLegs, boundG}
 use Rattle.tick.specs.Tick.{ticked}
 use Rattle.tick.proofs.Tick.{tickedIn, length-ticked}
 use Rattle.field.proofs.Tests.{passed, decided, either-way, if-true, if-false}

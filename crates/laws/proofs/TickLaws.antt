@@ -24,7 +24,8 @@ use Rattle.field.specs.declared.Legs.{Legs}
 use Rattle.field.specs.declared.Field.{Field}
 use Rattle.field.specs.Boxes.{isSide, everywhere, isFlyingZone, emptyZone, zoneOf, queueOf, inZone}
 use Rattle.field.specs.Lists.{every}
-use Rattle.bounds.specs.Bounds.{isWaiting, isNobody, zoneKept, sequenceKept, boundE, fitsZone, legalLegs, boundG, withinBounds}
+use Rattle.bounds.specs.Bounds.{isNobody, zoneKept, sequenceKept, boundE, withinBounds}
+use Rattle.fits.specs.Fits.{isWaiting, fitsZone, legalLegs, boundG}
 use Rattle.tick.specs.Tick.{tickedAircraft, tickedZone, tickedFrom, ticked}
 use Rattle.field.proofs.Tests.{pass, decided, either-way}
 use Rattle.questions.proofs.Listed.{numberOf}

@@ -56,7 +56,7 @@ empty-held : In emptyZone
 empty-held = record { places = refl; aircraft = (nobody-held, (nobody-held, (nobody-held, (nobody-held, tt)))) }
 
 -- ---- a zone of the field, and the aircraft at a place
-zone-held : (f : Field) (z : ℕ) → On f → In (zoneOf f z)
+pub zone-held : (f : Field) (z : ℕ) → On f → In (zoneOf f z)
 unfolding zoneOf
 zone-held f z h = each-at In (emptyZone ∷ f .zones) z emptyZone (empty-held, h .zones) empty-held
 
@@ -75,7 +75,7 @@ without-head-held q h =
       aircraft = each-append Q (drop 1 (q .aircraft)) (nobody ∷ []) (each-drop Q 1 (q .aircraft) (h .aircraft)) (nobody-held, tt);
     })
 
-with-tail-held : (q : Zone) (a : Aircraft) → In q → Q a → In (withTail q a)
+pub with-tail-held : (q : Zone) (a : Aircraft) → In q → Q a → In (withTail q a)
 unfolding withTail
 with-tail-held q a h k =
     either-way In (ltb (q .length) 4) _ q
@@ -86,7 +86,7 @@ set-one-length : {A : Type 0} (xs : List A) (z : ℕ) (x : A) → length (setFro
 set-one-length xs zero x = refl
 set-one-length xs (suc i) x = length-set xs i x
 
-with-zone-held : (f : Field) (z : ℕ) (q : Zone) → On f → In q → On (withZone f z q)
+pub with-zone-held : (f : Field) (z : ℕ) (q : Zone) → On f → In q → On (withZone f z q)
 unfolding withZone
 with-zone-held f z q h k = record { places = set-one-length (f .zones) z q ∙ h .places; zones = each-set-one In (f .zones) z q (h .zones) k; numbers = h .numbers; legs = h .legs }
 
@@ -102,7 +102,7 @@ put-held f z a h k = with-zone-held f z (withTail (zoneOf f z) a) h (with-tail-h
 abbrev Four : Sequence → Type 0
 Four s = length (s .numbers) ≡ 4
 
-appended-held : (s : Sequence) (n : ℕ) → Four s → Four (appended s n)
+pub appended-held : (s : Sequence) (n : ℕ) → Four s → Four (appended s n)
 unfolding appended
 appended-held s n h = either-way Four (ltb (s .length) 4) _ s (λ e. length-set (s .numbers) (s .length) n ∙ h) (λ e. h)
 
@@ -121,7 +121,7 @@ removed-held s n h =
     omega (arith, a1, a2, t, d, low, most, h))
     (λ e. h)
 
-with-sequence-held : (f : Field) (s : Sequence) (next : ℕ) → On f → Four s → On (withSequence f s next)
+pub with-sequence-held : (f : Field) (s : Sequence) (next : ℕ) → On f → Four s → On (withSequence f s next)
 unfolding withSequence
 with-sequence-held f s next h k = record { places = h .places; zones = h .zones; numbers = k; legs = h .legs }
 

@@ -36,7 +36,7 @@ put-each-length : (xs es : List Entry) → length (putEach xs es) ≡ length es
 put-each-length [] es = refl
 put-each-length (x ∷ xs) es = put-each-length xs (put x es) ∙ put-length x es
 
-with-index-held : (f : Field) → FieldWith MilesHeld f → In (withIndex f)
+pub with-index-held : (f : Field) → FieldWith MilesHeld f → In (withIndex f)
 unfolding withIndex indexOf
 with-index-held f h = record { field = h; entries = put-each-length (map (entryOf f) (numbersIn f everywhere)) (replicate 5 unused) }
 

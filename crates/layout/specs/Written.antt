@@ -1,6 +1,8 @@
 -- The state that a host lends, written: the one encoding of a field with its index, the eight kept ones and the count. Definitions only.
+use mathlib.Core.Bool.{cond}
 use mathlib.Core.List.{List, [], _∷_, _++_}
 use Prim.Native.Nat.{ℕ}
+use lib.Dec.{eqb}
 use Rattle.practice.specs.Practice.{bytes16}
 use Rattle.words.specs.Words.{bytes64, bitsOf}
 use Rattle.leg.specs.declared.Progress.{Progress}
@@ -62,3 +64,9 @@ indexedBytes x = fieldBytes (x .field) ++ bytesOfEach entryBytes (x .index .entr
 -- the state
 unfoldable pub historyBytes : History → List ℕ
 historyBytes h = indexedBytes (h .now) ++ bytesOfEach indexedBytes (h .kept) ++ bytes64 (h .count)
+
+-- ---- after a call
+
+-- the bytes after a call with this number on a state of these bytes: where it is 0 those of the history after it, else every byte as it was
+abbrev pub stateAfter : List ℕ → ℕ → History → List ℕ
+stateAfter bytes number after = cond (eqb number 0) (historyBytes after) bytes

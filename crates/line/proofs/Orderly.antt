@@ -16,7 +16,8 @@ use Rattle.field.specs.declared.Aircraft.{Aircraft}
 use Rattle.field.specs.declared.Legs.{Legs}
 use Rattle.field.specs.Boxes.{opposite}
 use Rattle.field.specs.Lists.{every, allDifferent}
-use Rattle.bounds.specs.Bounds.{isNobody, zoneKept, sequenceKept, alternate, fitsZone, legalLegs}
+use Rattle.bounds.specs.Bounds.{isNobody, zoneKept, sequenceKept, alternate}
+use Rattle.fits.specs.Fits.{fitsZone, legalLegs}
 use Rattle.order.specs.Model.{Side, right, left, opp, num, nextFix, count, free, all, okay}
 use Rattle.field.proofs.Tests.{pass, decided}
 use Rattle.line.proofs.Line.{zoneFor, sequenceFor, Placed, zonesIn, numbersOf, inside}

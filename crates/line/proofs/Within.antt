@@ -18,7 +18,8 @@ use Rattle.field.specs.Boxes.{isSide, at3000, at2000, lateral, missed, zonesFro
 use Rattle.field.specs.Lists.{isIn, every, allDifferent}
 use Rattle.questions.specs.Counts.{howMany, inOperation, inArea, perFix, isEmpty}
 use Rattle.questions.specs.Find.{aircraftAt, fixOf, isFirst, numbersIn}
-use Rattle.bounds.specs.Bounds.{boundA, boundB, lateralRule, boundC, boundD, finalFirst, zoneKept, sequenceKept, boundE, alternate, boundF, fitsZone, legalLegs, boundG, withinBounds}
+use Rattle.bounds.specs.Bounds.{boundA, boundB, lateralRule, boundC, boundD, finalFirst, zoneKept, sequenceKept, boundE, alternate, boundF, withinBounds}
+use Rattle.fits.specs.Fits.{fitsZone, legalLegs, boundG}
 use Rattle.numbers.specs.Numbers.{numbersDiffer, sequenceExact}
 use Rattle.order.specs.Model.{Side, right, left, num, nextFix, count, free, isNil, all, okay}
 use Rattle.order.proofs.Facts.{okay-length, okay-zones, Bounds, okay-bounds, final-first}

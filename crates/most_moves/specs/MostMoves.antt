@@ -8,7 +8,7 @@ use Rattle.limits.specs.Limits.{mostMoves}
 use Rattle.request.specs.declared.Request.{Request}
 use Rattle.field.specs.declared.Legs.{Legs}
 use Rattle.field.specs.Boxes.{emptyField}
-use Rattle.bounds.specs.Bounds.{legalLegs}
+use Rattle.fits.specs.Fits.{legalLegs}
 use Rattle.rules.specs.Play.{fieldAfter, played, accepted, addsMoves, moves}
 use Rattle.demand.specs.Demand.{AtMostMoves}
 use Rattle.most_moves.specs.Session.{sessionLegs, sessionBefore, sessionMoves}

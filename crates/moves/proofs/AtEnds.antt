@@ -17,7 +17,7 @@ use Rattle.field.specs.declared.Legs.{Legs}
 use Rattle.field.specs.declared.Field.{Field}
 use Rattle.field.specs.Boxes.{isFlyingZone, missed, entering, arrived, turnedAway, withFix}
 use Rattle.field.specs.Lists.{isIn, every, Each}
-use Rattle.bounds.specs.Bounds.{fitsZone}
+use Rattle.fits.specs.Fits.{fitsZone}
 use Rattle.order.specs.Model.{Side, right, left, opp, num, okay, firstFix, weight, one}
 use Rattle.order.proofs.Facts.{okay-length, first-leaves, misses, exit-lighter, landing-lighter}
 use Rattle.rules.specs.Step.{effectOf}

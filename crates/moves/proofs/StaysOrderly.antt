@@ -12,7 +12,7 @@ use Rattle.field.specs.declared.Aircraft.{Aircraft}
 use Rattle.field.specs.declared.Legs.{Legs}
 use Rattle.field.specs.Boxes.{isSide}
 use Rattle.field.specs.Lists.{isIn, every, allDifferent}
-use Rattle.bounds.specs.Bounds.{fitsZone}
+use Rattle.fits.specs.Fits.{fitsZone}
 use Rattle.order.specs.Model.{Side, right, left, opp, num, count, okay, firstFix}
 use Rattle.field.proofs.Lists.{absent-both}
 use Rattle.line.proofs.Lists.{map-append, every-append, every-left, every-right, different-with}

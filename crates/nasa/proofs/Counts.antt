@@ -13,7 +13,8 @@ use Rattle.field.specs.declared.Field.{Field}
 use Rattle.field.specs.Boxes.{isSide, everywhere, inZone}
 use Rattle.field.specs.Lists.{every}
 use Rattle.questions.specs.Counts.{haveFix, howManyWithFix, approachHolds, countedFor, potentialOf}
-use Rattle.bounds.specs.Bounds.{fitsZone, withinBounds}
+use Rattle.bounds.specs.Bounds.{withinBounds}
+use Rattle.fits.specs.Fits.{fitsZone}
 use Rattle.order.specs.Model.{Side, right, left, num}
 use Rattle.field.proofs.Lists.{every-listed, zone-listed}
 use Rattle.laws.proofs.BoundLaws.{within-each}

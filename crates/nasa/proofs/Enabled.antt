@@ -19,7 +19,8 @@ use Rattle.questions.specs.declared.Place.{Place}
 use Rattle.field.specs.Boxes.{nobody, inZone, everywhere}
 use Rattle.field.specs.Lists.{isIn, every}
 use Rattle.questions.specs.Find.{placeOf, aircraftAt}
-use Rattle.bounds.specs.Bounds.{fitsZone, withinBounds}
+use Rattle.bounds.specs.Bounds.{withinBounds}
+use Rattle.fits.specs.Fits.{fitsZone}
 use Rattle.rules.specs.Kinds.{placeBefore, zoneBefore, zoneAhead, startsFrom, belongsTo, absentChecks, headChecks, presenceChecks}
 use Rattle.rules.specs.Step.{needsFor, checksOf, effectOf, numberOf, stepOf}
 use Rattle.rules.specs.Reason.{Sound}

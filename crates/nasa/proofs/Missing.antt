@@ -19,7 +19,8 @@ use Rattle.field.specs.Boxes.{isSide, opposite, missed, everywhere, zoneOf, inZ
 use Rattle.field.specs.Lists.{isIn, every, allDifferent}
 use Rattle.field.specs.Edits.{before, appended, removed, withSequence}
 use Rattle.questions.specs.Counts.{howMany}
-use Rattle.bounds.specs.Bounds.{fitsZone, withinBounds}
+use Rattle.bounds.specs.Bounds.{withinBounds}
+use Rattle.fits.specs.Fits.{fitsZone}
 use Rattle.rules.specs.Kinds.{zoneBefore, startsFrom, headGone, tailPut, fixAfterMiss}
 use Rattle.rules.specs.Kinds as rules
 use Rattle.rules.specs.Step.{numberOf}

@@ -13,7 +13,7 @@ use Rattle.request.proofs.ByKind.{kind-known}
 use Rattle.field.specs.declared.Legs.{Legs}
 use Rattle.field.specs.declared.Field.{Field}
 use Rattle.field.specs.Boxes.{emptyField, inZone, zoneOf, queueOf, orderOf, orderLength}
-use Rattle.bounds.specs.Bounds.{legalLegs}
+use Rattle.fits.specs.Fits.{legalLegs}
 use Rattle.rules.specs.Kinds.{zoneBefore}
 use Rattle.rules.specs.Step.{numberOf, stepOf}
 use Rattle.rules.specs.Play.{fieldAfter}

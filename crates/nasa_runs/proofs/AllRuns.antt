@@ -19,7 +19,7 @@ use Rattle.field.specs.declared.Field.{Field}
 use Rattle.field.specs.Boxes.{nobody, emptyField, inZone, legFlownOut}
 use Rattle.field.specs.Lists.{every}
 use Rattle.questions.specs.Find.{placeOf, aircraftAt}
-use Rattle.bounds.specs.Bounds.{legalLegs}
+use Rattle.fits.specs.Fits.{legalLegs}
 use Rattle.tick.specs.Tick.{ticked}
 use Rattle.rules.specs.Step.{numberOf, stepOf}
 use Rattle.rules.specs.Play.{fieldAfter, played, allAccepted}

@@ -38,15 +38,44 @@ module _ {Place : Type 0} (c : Claim Place) where
   holds-at : (f : Side) (x : Place) → T (holds f x) → T (c .given f x) → EachHolds (c .shown f x)
   holds-at f x t g = all-hold-at (c .shown f x) (if-at (c .given f x) (allHold (c .shown f x)) t g)
 
+-- ---- several tests of every okay sequence
+
+-- a test of a sequence whose first has fix f
+abbrev pub Test : Type 0
+Test = Side → List ℕ → Bool
+
+-- the test holds of every okay sequence
+abbrev pub Passed : Test → Type 0
+Passed test = (f : Side) (zs : List ℕ) → T (okay f zs) → T (test f zs)
+
+-- all the listed tests of one sequence
+abbrev together : List Test → Test
+together [] f zs = true
+together (t ∷ ts) f zs = t f zs && together ts f zs
+
+-- where all hold of it, each does
+together-at : (ts : List Test) (f : Side) (zs : List ℕ) → T (together ts f zs) → (i : ℕ) → T (getD ts i (λ g ys. true) f zs)
+together-at [] f zs p i = tt
+together-at (t ∷ ts) f zs p zero = and-l (t f zs) (together ts f zs) p
+together-at (t ∷ ts) f zs p (suc i) = together-at ts f zs (and-r (t f zs) (together ts f zs) p) i
+
+-- the listed tests of every okay sequence: the sequences are built once for all of them
+abbrev pub ofAll : List Test → Bool
+ofAll ts = everyOkay (together ts)
+
+-- test number i of a list that passed holds of every okay sequence, counted from 0
+pub of-all : (ts : List Test) → T (ofAll ts) → (i : ℕ) → Passed (getD ts i (λ g ys. true))
+of-all ts t i f zs o = together-at ts f zs (every-okay-at (together ts) t f zs o) i
+
 -- ---- the whole sequence
 
--- the claim, tested of every okay sequence
-abbrev pub ofSequences : Claim (List ℕ) → Bool
-ofSequences c = everyOkay (holds c)
+-- the claim, tested of a sequence
+abbrev pub ofSequences : Claim (List ℕ) → Test
+ofSequences c f zs = holds c f zs
 
 -- a claim that passed holds of each
-pub of-sequence : (c : Claim (List ℕ)) → T (ofSequences c) → (f : Side) (zs : List ℕ) → T (okay f zs) → T (c .given f zs) → EachHolds (c .shown f zs)
-of-sequence c t f zs o g = holds-at c f zs (every-okay-at (holds c) t f zs o) g
+pub of-sequence : (c : Claim (List ℕ)) → Passed (ofSequences c) → (f : Side) (zs : List ℕ) → T (okay f zs) → T (c .given f zs) → EachHolds (c .shown f zs)
+of-sequence c t f zs o g = holds-at c f zs (t f zs o) g
 
 -- ---- one in a sequence
 
@@ -69,19 +98,15 @@ abbrev pub One : Type 0
 One = List ℕ × ℕ × List ℕ
 
 -- the claim, tested of each one of zs
-abbrev eachOne : Claim One → Side → List ℕ → Bool
-eachOne c f zs = everySplit (λ zs₁ z zs₂. holds c f (zs₁, z, zs₂)) [] zs
-
--- the claim, tested of each one in every okay sequence
-abbrev pub ofOnes : Claim One → Bool
-ofOnes c = everyOkay (eachOne c)
+abbrev pub ofOnes : Claim One → Test
+ofOnes c f zs = everySplit (λ zs₁ z zs₂. holds c f (zs₁, z, zs₂)) [] zs
 
 -- a claim that passed holds of any one
-pub of-one : (c : Claim One) → T (ofOnes c) → (f : Side) (zs₁ : List ℕ) (z : ℕ) (zs₂ : List ℕ) → T (okay f (zs₁ ++ z ∷ zs₂))
+pub of-one : (c : Claim One) → Passed (ofOnes c) → (f : Side) (zs₁ : List ℕ) (z : ℕ) (zs₂ : List ℕ) → T (okay f (zs₁ ++ z ∷ zs₂))
     → T (c .given f (zs₁, z, zs₂)) → EachHolds (c .shown f (zs₁, z, zs₂))
 of-one c t f zs₁ z zs₂ o g =
     holds-at c f (zs₁, z, zs₂)
-    (every-split-at (λ xs y ys. holds c f (xs, y, ys)) [] zs₁ z zs₂ (every-okay-at (eachOne c) t f (zs₁ ++ z ∷ zs₂) o)) g
+    (every-split-at (λ xs y ys. holds c f (xs, y, ys)) [] zs₁ z zs₂ (t f (zs₁ ++ z ∷ zs₂) o)) g
 
 -- ---- two in a sequence
 
@@ -94,18 +119,14 @@ abbrev eachSecond : Claim Two → Side → List ℕ → ℕ → List ℕ → Boo
 eachSecond c f zs₁ y zs = everySplit (λ zs₂ z zs₃. holds c f (zs₁, y, zs₂, z, zs₃)) [] zs
 
 -- the claim, tested of each two of zs
-abbrev eachTwo : Claim Two → Side → List ℕ → Bool
-eachTwo c f zs = everySplit (eachSecond c f) [] zs
-
--- the claim, tested of each two in every okay sequence
-abbrev pub ofTwos : Claim Two → Bool
-ofTwos c = everyOkay (eachTwo c)
+abbrev pub ofTwos : Claim Two → Test
+ofTwos c f zs = everySplit (eachSecond c f) [] zs
 
 -- a claim that passed holds of any two
-pub of-two : (c : Claim Two) → T (ofTwos c) → (f : Side) (zs₁ : List ℕ) (y : ℕ) (zs₂ : List ℕ) (z : ℕ) (zs₃ : List ℕ)
+pub of-two : (c : Claim Two) → Passed (ofTwos c) → (f : Side) (zs₁ : List ℕ) (y : ℕ) (zs₂ : List ℕ) (z : ℕ) (zs₃ : List ℕ)
     → T (okay f (zs₁ ++ y ∷ (zs₂ ++ z ∷ zs₃))) → T (c .given f (zs₁, y, zs₂, z, zs₃)) → EachHolds (c .shown f (zs₁, y, zs₂, z, zs₃))
 of-two c t f zs₁ y zs₂ z zs₃ o g =
     let zs = zs₂ ++ z ∷ zs₃ in
     holds-at c f (zs₁, y, zs₂, z, zs₃)
     (every-split-at (λ xs x ys. holds c f (zs₁, y, xs, x, ys)) [] zs₂ z zs₃
-    (every-split-at (eachSecond c f) [] zs₁ y zs (every-okay-at (eachTwo c) t f (zs₁ ++ y ∷ zs) o))) g
+    (every-split-at (eachSecond c f) [] zs₁ y zs (t f (zs₁ ++ y ∷ zs) o))) g

@@ -1,6 +1,7 @@
 -- What holds of every okay sequence: its bounds, that entries and moves lead to okay sequences again, that a move makes the weight
 -- smaller, and that the first can always go on.
--- A claim, such as `moved`, is tested of all okay sequences by computation (`moved-holds`), and the fact is read off. Assumes nothing.
+-- A claim, such as `moved`, is tested of all okay sequences by computation, with others in one declaration (`moves-computed`), and the
+-- fact is read off. Assumes nothing.
 use mathlib.Core.Path.{_≡_, refl, subst}
 use mathlib.Core.Bool.{true, cond, not, _&&_, _||_}
 use mathlib.Core.List.{List, [], _∷_, _++_}
@@ -15,7 +16,7 @@ use Rattle.field.specs.Lists.{every}
 use Rattle.order.specs.Model.{Side, right, left, opp, num, count, countFix, free, isNil, Kind, descend, approaching, merge}
 use Rattle.order.specs.Model.{final, hold, needs, target, mayComeIn, mayEnter, mayEnterLateral, firstFix, all, okay, weight, heaviest}
 use Rattle.field.proofs.Tests.{implies, implied}
-use Rattle.order.proofs.Claims.{EachHolds, Claim, One, Two, ofSequences, of-sequence, ofOnes, of-one, ofTwos, of-two}
+use Rattle.order.proofs.Claims.{EachHolds, Claim, Test, Passed, ofAll, of-all, One, Two, ofSequences, of-sequence, ofOnes, of-one, ofTwos, of-two}
 
 -- ---- the sequence as a whole
 
@@ -32,9 +33,33 @@ fitting =
       shown = λ f zs. leb (length zs) 4 ∷ all (within 1 12) zs ∷ leb (weight zs) heaviest ∷ every (λ z. leb (count zs z) 1) (zonesFrom 1 6) ∷ [];
     }
 
-fitting-holds : T (ofSequences fitting)
+-- the bounds of side s
+abbrev fittingSide : Side → Claim (List ℕ)
+fittingSide s =
+    record {
+      given = λ f zs. true;
+      shown =
+          λ f zs.
+          leb (total (count zs) (area (num s))) 2
+          ∷ (free zs (lateral (num s)) || (free zs (at3000 (num s)) && free zs (at2000 (num s)) && free zs (missed (num s))))
+          ∷ leb (total (countFix f zs (num s)) operation) 2
+          ∷ [];
+    }
+
+-- what is tested of the whole sequence: a declaration builds the sequences once, and its memory grows with all that it tests
+abbrev boundTests : List Test
+boundTests = ofSequences fitting ∷ ofSequences (fittingSide right) ∷ ofSequences (fittingSide left) ∷ []
+
+bounds-computed : T (ofAll boundTests)
 unfolding weight
-fitting-holds = tt
+bounds-computed = tt
+
+fitting-holds : Passed (ofSequences fitting)
+fitting-holds = of-all boundTests bounds-computed 0
+
+fitting-side-holds : (s : Side) → Passed (ofSequences (fittingSide s))
+fitting-side-holds right = of-all boundTests bounds-computed 1
+fitting-side-holds left = of-all boundTests bounds-computed 2
 
 -- at most four in the sequence
 pub okay-length : (f : Side) (zs : List ℕ) → T (okay f zs) → length zs ≤ 4
@@ -59,30 +84,6 @@ pub record Bounds (f : Side) (zs : List ℕ) : Type 0 where
   -- d
   pub fixes : (s : Side) → total (countFix f zs (num s)) operation ≤ 2
 
--- the bounds of side s
-abbrev fittingSide : Side → Claim (List ℕ)
-fittingSide s =
-    record {
-      given = λ f zs. true;
-      shown =
-          λ f zs.
-          leb (total (count zs) (area (num s))) 2
-          ∷ (free zs (lateral (num s)) || (free zs (at3000 (num s)) && free zs (at2000 (num s)) && free zs (missed (num s))))
-          ∷ leb (total (countFix f zs (num s)) operation) 2
-          ∷ [];
-    }
-
--- a heavy claim is tested in parts, for each side or each kind, which keeps the memory small
-fitting-right : T (ofSequences (fittingSide right))
-fitting-right = tt
-
-fitting-left : T (ofSequences (fittingSide left))
-fitting-left = tt
-
-fitting-side-holds : (s : Side) → T (ofSequences (fittingSide s))
-fitting-side-holds right = fitting-right
-fitting-side-holds left = fitting-left
-
 -- bounds b, c and d hold
 pub okay-bounds : (f : Side) (zs : List ℕ) → T (okay f zs) → Bounds f zs
 okay-bounds f zs o =
@@ -100,38 +101,30 @@ okay-bounds f zs o =
 abbrev entered : Side → Claim (List ℕ)
 entered s = record { given = λ f zs. mayEnter f zs (num s); shown = λ f zs. okay (firstFix s f zs) (zs ++ (at3000 (num s) ∷ [])) ∷ [] }
 
-entered-right : T (ofSequences (entered right))
-unfolding okay
-entered-right = tt
-
-entered-left : T (ofSequences (entered left))
-unfolding okay
-entered-left = tt
-
-entered-holds : (s : Side) → T (ofSequences (entered s))
-entered-holds right = entered-right
-entered-holds left = entered-left
-
--- an entry to 3000 leads to an okay sequence
-pub enter : (f s : Side) (zs : List ℕ) → T (okay f zs) → T (mayEnter f zs (num s)) → T (okay (firstFix s f zs) (zs ++ (at3000 (num s) ∷ [])))
-enter f s zs o u = of-sequence (entered s) (entered-holds s) f zs o u 0
-
 -- lateral entry on side s
 abbrev enteredLateral : Side → Claim (List ℕ)
 enteredLateral s =
     record { given = λ f zs. mayEnterLateral f zs (num s); shown = λ f zs. okay (firstFix s f zs) (zs ++ (lateral (num s) ∷ [])) ∷ [] }
 
-entered-lateral-right : T (ofSequences (enteredLateral right))
-unfolding okay
-entered-lateral-right = tt
+-- what is tested of entries
+abbrev entryTests : List Test
+entryTests = ofSequences (entered right) ∷ ofSequences (entered left) ∷ ofSequences (enteredLateral right) ∷ ofSequences (enteredLateral left) ∷ []
 
-entered-lateral-left : T (ofSequences (enteredLateral left))
+entries-computed : T (ofAll entryTests)
 unfolding okay
-entered-lateral-left = tt
+entries-computed = tt
 
-entered-lateral-holds : (s : Side) → T (ofSequences (enteredLateral s))
-entered-lateral-holds right = entered-lateral-right
-entered-lateral-holds left = entered-lateral-left
+entered-holds : (s : Side) → Passed (ofSequences (entered s))
+entered-holds right = of-all entryTests entries-computed 0
+entered-holds left = of-all entryTests entries-computed 1
+
+entered-lateral-holds : (s : Side) → Passed (ofSequences (enteredLateral s))
+entered-lateral-holds right = of-all entryTests entries-computed 2
+entered-lateral-holds left = of-all entryTests entries-computed 3
+
+-- an entry to 3000 leads to an okay sequence
+pub enter : (f s : Side) (zs : List ℕ) → T (okay f zs) → T (mayEnter f zs (num s)) → T (okay (firstFix s f zs) (zs ++ (at3000 (num s) ∷ [])))
+enter f s zs o u = of-sequence (entered s) (entered-holds s) f zs o u 0
 
 -- a lateral entry leads to an okay sequence
 pub enter-lateral : (f s : Side) (zs : List ℕ) → T (okay f zs) → T (mayEnterLateral f zs (num s)) → T (okay (firstFix s f zs) (zs ++ (lateral (num s) ∷ [])))
@@ -160,32 +153,21 @@ moved k =
           okay f (zs₁ ++ w ∷ zs₂) ∷ free zs₂ w ∷ not (eqb w z) ∷ within 1 12 w ∷ ltb (weight (zs₁ ++ w ∷ zs₂)) (weight (zs₁ ++ z ∷ zs₂)) ∷ [];
     }
 
-descend-holds : T (ofOnes (moved descend))
-unfolding okay weight
-descend-holds = tt
+-- what is tested of the moves
+abbrev moveTests : List Test
+moveTests =
+    ofOnes (moved descend) ∷ ofOnes (moved approaching) ∷ ofOnes (moved merge) ∷ ofOnes (moved final) ∷ ofOnes (moved hold) ∷ []
 
-approaching-holds : T (ofOnes (moved approaching))
+moves-computed : T (ofAll moveTests)
 unfolding okay weight opposite sideOf
-approaching-holds = tt
+moves-computed = tt
 
-merge-holds : T (ofOnes (moved merge))
-unfolding okay weight
-merge-holds = tt
-
-final-holds : T (ofOnes (moved final))
-unfolding okay weight
-final-holds = tt
-
-hold-holds : T (ofOnes (moved hold))
-unfolding okay weight sideOf
-hold-holds = tt
-
-moved-holds : (k : Kind) → T (ofOnes (moved k))
-moved-holds descend = descend-holds
-moved-holds approaching = approaching-holds
-moved-holds merge = merge-holds
-moved-holds final = final-holds
-moved-holds hold = hold-holds
+moved-holds : (k : Kind) → Passed (ofOnes (moved k))
+moved-holds descend = of-all moveTests moves-computed 0
+moved-holds approaching = of-all moveTests moves-computed 1
+moved-holds merge = of-all moveTests moves-computed 2
+moved-holds final = of-all moveTests moves-computed 3
+moved-holds hold = of-all moveTests moves-computed 4
 
 -- a move by a kind whose needs are met, of one at the head of its zone
 pub moves : (k : Kind) (f : Side) (zs₁ : List ℕ) (z : ℕ) (zs₂ : List ℕ)
@@ -201,7 +183,7 @@ moves k f zs₁ z zs₂ o h n =
       lighter = ltb→lt (weight (zs₁ ++ w ∷ zs₂)) (weight (zs₁ ++ z ∷ zs₂)) (m 4);
     }
 
--- ---- an entry where 3000 is occupied
+-- ---- an entry and a hold where 3000 is occupied
 
 -- the one at 3000, zone z and side z, descends, and then another may enter
 abbrev comesIn : Claim One
@@ -211,46 +193,9 @@ comesIn =
       shown = λ f (zs₁, z, zs₂). implies (mayComeIn f (zs₁ ++ z ∷ zs₂) z) (mayEnter f (zs₁ ++ at2000 z ∷ zs₂) z) ∷ [];
     }
 
-comes-in-holds : T (ofOnes comesIn)
-comes-in-holds = tt
-
--- an entry that needs only an empty 3000 may be made once the one there has descended
-pub enter-above : (f : Side) (zs₁ : List ℕ) (z : ℕ) (zs₂ : List ℕ)
-    → T (okay f (zs₁ ++ z ∷ zs₂)) → T (needs descend zs₁ z zs₂) → T (mayComeIn f (zs₁ ++ z ∷ zs₂) z) → T (mayEnter f (zs₁ ++ at2000 z ∷ zs₂) z)
-enter-above f zs₁ z zs₂ o n u =
-    implied (mayComeIn f (zs₁ ++ z ∷ zs₂) z) (mayEnter f (zs₁ ++ at2000 z ∷ zs₂) z) (of-one comesIn comes-in-holds f zs₁ z zs₂ o n 0) u
-
--- ---- a hold where 3000 is occupied
-
 -- one at 3000 leads those in the missed zone of the side
 abbrev holdingLeads : Claim One
 holdingLeads = record { given = λ f (zs₁, z, zs₂). within 7 8 z; shown = λ f (zs₁, z, zs₂). free zs₂ (at3000 (sideOf z)) ∷ [] }
-
-holding-leads-holds : T (ofOnes holdingLeads)
-unfolding sideOf
-holding-leads-holds = tt
-
--- nobody at 3000 is behind one in the missed zone of the side
-pub hold-ahead : (f : Side) (zs₁ : List ℕ) (z : ℕ) (zs₂ : List ℕ)
-    → T (within 7 8 z) → T (okay f (zs₁ ++ z ∷ zs₂)) → T (free zs₂ (at3000 (sideOf z)))
-hold-ahead f zs₁ z zs₂ u o = of-one holdingLeads holding-leads-holds f zs₁ z zs₂ o u 0
-
--- the one at 3000, zone y, has gone to 2000, zone w, and the one in the missed zone z to 3000
-pub record BothMoved (f : Side) (zs₁ : List ℕ) (y w : ℕ) (zs₂ : List ℕ) (z : ℕ) (zs₃ : List ℕ) : Type 0 where
-  pub okay-after : T (okay f (zs₁ ++ w ∷ (zs₂ ++ y ∷ zs₃)))
-  -- the one at 3000 is at its head
-  pub head-above : T (free zs₁ y)
-  -- nobody behind it is at 2000
-  pub none-below : T (free (zs₂ ++ z ∷ zs₃) w)
-  -- nobody behind the missed one is at 3000
-  pub none-behind : T (free zs₃ y)
-  -- the sequence between the two moves
-  pub okay-within : T (okay f (zs₁ ++ w ∷ (zs₂ ++ z ∷ zs₃)))
-  pub apart : T (not (eqb w y)) × T (not (eqb y z)) × T (not (eqb w z))
-  pub inside-y : T (within 1 12 y)
-  pub inside-w : T (within 1 12 w)
-  -- the weight is smaller
-  pub lighter : weight (zs₁ ++ w ∷ (zs₂ ++ y ∷ zs₃)) < weight (zs₁ ++ y ∷ (zs₂ ++ z ∷ zs₃))
 
 -- a move of two by a hold
 abbrev bothMoved : Claim Two
@@ -274,9 +219,50 @@ bothMoved =
           ∷ [];
     }
 
-both-moved-holds : T (ofTwos bothMoved)
+-- what is tested where 3000 is occupied
+abbrev aboveTests : List Test
+aboveTests = ofOnes comesIn ∷ ofOnes holdingLeads ∷ ofTwos bothMoved ∷ []
+
+above-computed : T (ofAll aboveTests)
 unfolding okay weight sideOf
-both-moved-holds = tt
+above-computed = tt
+
+comes-in-holds : Passed (ofOnes comesIn)
+comes-in-holds = of-all aboveTests above-computed 0
+
+holding-leads-holds : Passed (ofOnes holdingLeads)
+holding-leads-holds = of-all aboveTests above-computed 1
+
+both-moved-holds : Passed (ofTwos bothMoved)
+both-moved-holds = of-all aboveTests above-computed 2
+
+-- an entry that needs only an empty 3000 may be made once the one there has descended
+pub enter-above : (f : Side) (zs₁ : List ℕ) (z : ℕ) (zs₂ : List ℕ)
+    → T (okay f (zs₁ ++ z ∷ zs₂)) → T (needs descend zs₁ z zs₂) → T (mayComeIn f (zs₁ ++ z ∷ zs₂) z) → T (mayEnter f (zs₁ ++ at2000 z ∷ zs₂) z)
+enter-above f zs₁ z zs₂ o n u =
+    implied (mayComeIn f (zs₁ ++ z ∷ zs₂) z) (mayEnter f (zs₁ ++ at2000 z ∷ zs₂) z) (of-one comesIn comes-in-holds f zs₁ z zs₂ o n 0) u
+
+-- nobody at 3000 is behind one in the missed zone of the side
+pub hold-ahead : (f : Side) (zs₁ : List ℕ) (z : ℕ) (zs₂ : List ℕ)
+    → T (within 7 8 z) → T (okay f (zs₁ ++ z ∷ zs₂)) → T (free zs₂ (at3000 (sideOf z)))
+hold-ahead f zs₁ z zs₂ u o = of-one holdingLeads holding-leads-holds f zs₁ z zs₂ o u 0
+
+-- the one at 3000, zone y, has gone to 2000, zone w, and the one in the missed zone z to 3000
+pub record BothMoved (f : Side) (zs₁ : List ℕ) (y w : ℕ) (zs₂ : List ℕ) (z : ℕ) (zs₃ : List ℕ) : Type 0 where
+  pub okay-after : T (okay f (zs₁ ++ w ∷ (zs₂ ++ y ∷ zs₃)))
+  -- the one at 3000 is at its head
+  pub head-above : T (free zs₁ y)
+  -- nobody behind it is at 2000
+  pub none-below : T (free (zs₂ ++ z ∷ zs₃) w)
+  -- nobody behind the missed one is at 3000
+  pub none-behind : T (free zs₃ y)
+  -- the sequence between the two moves
+  pub okay-within : T (okay f (zs₁ ++ w ∷ (zs₂ ++ z ∷ zs₃)))
+  pub apart : T (not (eqb w y)) × T (not (eqb y z)) × T (not (eqb w z))
+  pub inside-y : T (within 1 12 y)
+  pub inside-w : T (within 1 12 w)
+  -- the weight is smaller
+  pub lighter : weight (zs₁ ++ w ∷ (zs₂ ++ y ∷ zs₃)) < weight (zs₁ ++ y ∷ (zs₂ ++ z ∷ zs₃))
 
 -- a hold of one at the head of its missed zone, where 3000 is occupied
 pub hold-both : (f : Side) (zs₁ zs₂ : List ℕ) (z : ℕ) (zs₃ : List ℕ)
@@ -313,9 +299,45 @@ firstGoes =
       shown = λ f (zs₁, z, zs₂). okay (opp f) zs₂ ∷ (eqb z 12 || needs (headKind z) [] z zs₂) ∷ [];
     }
 
-first-goes-holds : T (ofOnes firstGoes)
-unfolding okay opposite sideOf
-first-goes-holds = tt
+-- without the first, in zone v, the weight is smaller by at least n
+abbrev firstGone : ℕ → ℕ → Claim One
+firstGone v n =
+    record { given = λ f (zs₁, z, zs₂). isNil zs₁ && eqb z v; shown = λ f (zs₁, z, zs₂). leb (n + weight zs₂) (weight (z ∷ zs₂)) ∷ [] }
+
+-- the first, on final, misses its approach
+abbrev firstMisses : Claim One
+firstMisses =
+    record {
+      given = λ f (zs₁, z, zs₂). isNil zs₁ && eqb z 12;
+      shown = λ f (zs₁, z, zs₂). okay (firstFix f (opp f) zs₂) (zs₂ ++ (missed (num f) ∷ [])) ∷ [];
+    }
+
+-- the head of final leads the sequence
+abbrev finalLeads : Claim One
+finalLeads = record { given = λ f (zs₁, z, zs₂). eqb z 12 && free zs₁ 12; shown = λ f (zs₁, z, zs₂). isNil zs₁ ∷ [] }
+
+-- what is tested of the first
+abbrev firstTests : List Test
+firstTests = ofOnes firstGoes ∷ ofOnes (firstGone 11 1) ∷ ofOnes (firstGone 12 2) ∷ ofOnes firstMisses ∷ ofOnes finalLeads ∷ []
+
+first-computed : T (ofAll firstTests)
+unfolding okay weight opposite sideOf
+first-computed = tt
+
+first-goes-holds : Passed (ofOnes firstGoes)
+first-goes-holds = of-all firstTests first-computed 0
+
+first-exits-holds : Passed (ofOnes (firstGone 11 1))
+first-exits-holds = of-all firstTests first-computed 1
+
+first-lands-holds : Passed (ofOnes (firstGone 12 2))
+first-lands-holds = of-all firstTests first-computed 2
+
+first-misses-holds : Passed (ofOnes firstMisses)
+first-misses-holds = of-all firstTests first-computed 3
+
+final-leads-holds : Passed (ofOnes finalLeads)
+final-leads-holds = of-all firstTests first-computed 4
 
 -- the sequence without its first is okay
 pub first-leaves : (f : Side) (z : ℕ) (zs : List ℕ) → T (okay f (z ∷ zs)) → T (okay (opp f) zs)
@@ -324,19 +346,6 @@ first-leaves f z zs o = of-one firstGoes first-goes-holds f [] z zs o tt 0
 -- the first can go on, or is on final
 pub head-moves : (f : Side) (z : ℕ) (zs : List ℕ) → T (okay f (z ∷ zs)) → T (eqb z 12 || needs (headKind z) [] z zs)
 head-moves f z zs o = of-one firstGoes first-goes-holds f [] z zs o tt 1
-
--- without the first, in zone v, the weight is smaller by at least n
-abbrev firstGone : ℕ → ℕ → Claim One
-firstGone v n =
-    record { given = λ f (zs₁, z, zs₂). isNil zs₁ && eqb z v; shown = λ f (zs₁, z, zs₂). leb (n + weight zs₂) (weight (z ∷ zs₂)) ∷ [] }
-
-first-exits-holds : T (ofOnes (firstGone 11 1))
-unfolding weight
-first-exits-holds = tt
-
-first-lands-holds : T (ofOnes (firstGone 12 2))
-unfolding weight
-first-lands-holds = tt
 
 -- an exit of the first, on intermediate, makes the weight smaller
 pub exit-lighter : (f : Side) (z : ℕ) (zs : List ℕ) → z ≡ 11 → T (okay f (z ∷ zs)) → 1 + weight zs ≤ weight (z ∷ zs)
@@ -348,28 +357,9 @@ pub landing-lighter : (f : Side) (z : ℕ) (zs : List ℕ) → z ≡ 12 → T (o
 landing-lighter f z zs e o =
     leb→le (2 + weight zs) (weight (z ∷ zs)) (of-one (firstGone 12 2) first-lands-holds f [] z zs o (subst (λ (v : ℕ). T (eqb z v)) e (eqb-refl z)) 0)
 
--- the first, on final, misses its approach
-abbrev firstMisses : Claim One
-firstMisses =
-    record {
-      given = λ f (zs₁, z, zs₂). isNil zs₁ && eqb z 12;
-      shown = λ f (zs₁, z, zs₂). okay (firstFix f (opp f) zs₂) (zs₂ ++ (missed (num f) ∷ [])) ∷ [];
-    }
-
-first-misses-holds : T (ofOnes firstMisses)
-unfolding okay
-first-misses-holds = tt
-
 -- a missed approach leads to an okay sequence
 pub misses : (f : Side) (zs : List ℕ) → T (okay f (12 ∷ zs)) → T (okay (firstFix f (opp f) zs) (zs ++ (missed (num f) ∷ [])))
 misses f zs o = of-one firstMisses first-misses-holds f [] 12 zs o tt 0
-
--- the head of final leads the sequence
-abbrev finalLeads : Claim One
-finalLeads = record { given = λ f (zs₁, z, zs₂). eqb z 12 && free zs₁ 12; shown = λ f (zs₁, z, zs₂). isNil zs₁ ∷ [] }
-
-final-leads-holds : T (ofOnes finalLeads)
-final-leads-holds = tt
 
 -- what is tested to be empty is empty
 nil-of : (zs : List ℕ) → T (isNil zs) → zs ≡ []

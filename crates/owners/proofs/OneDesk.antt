@@ -21,7 +21,8 @@ use Rattle.field.specs.Lists.{isIn, every, Each}
 use Rattle.questions.specs.declared.Place.{Place}
 use Rattle.questions.specs.Counts.{howMany}
 use Rattle.questions.specs.Find.{placeOf, aircraftAt, numbersIn}
-use Rattle.bounds.specs.Bounds.{fitsZone, withinBounds}
+use Rattle.bounds.specs.Bounds.{withinBounds}
+use Rattle.fits.specs.Fits.{fitsZone}
 use Rattle.field.proofs.Tests.{pass, passed, failed, decided, if-true, if-false, either-way}
 use Rattle.questions.proofs.FindLaws.{found-exactly, found-there, place-within}
 use Rattle.laws.proofs.BoundLaws.{within-each}

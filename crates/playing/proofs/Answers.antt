@@ -18,7 +18,8 @@ use Rattle.questions.specs.declared.Place.{Place}
 use Rattle.field.specs.Boxes.{isSide, inZone, everywhere, nobody}
 use Rattle.questions.specs.Find.{placeFrom, findIn, placeOf, aircraftAt, fixOf}
 use Rattle.field.specs.Lists.{every}
-use Rattle.bounds.specs.Bounds.{fitsZone, legalLegs, boundG, withinBounds}
+use Rattle.bounds.specs.Bounds.{withinBounds}
+use Rattle.fits.specs.Fits.{fitsZone, legalLegs, boundG}
 use Rattle.rules.specs.declared.Answer.{Answer}
 use Rattle.rules.specs.declared.Stepped.{Stepped}
 use Rattle.rules.specs.Kinds.{zoneBefore}

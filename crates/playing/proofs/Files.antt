@@ -18,7 +18,7 @@ use Rattle.practice.proofs.Accepted.{LegKnown, legs-known}
 use Rattle.practice.proofs.Meaning.{held}
 use Rattle.field.specs.declared.Legs.{Legs}
 use Rattle.field.specs.Boxes.{emptyField}
-use Rattle.bounds.specs.Bounds.{legalLegs}
+use Rattle.fits.specs.Fits.{legalLegs}
 use Rattle.rules.specs.declared.Answer.{Answer}
 use Rattle.demand.proofs.Flights.{legs-legal}
 use Rattle.playing.specs.declared.Played.{Played}

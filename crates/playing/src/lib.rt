@@ -26,7 +26,7 @@ ghost use Rattle.limits.specs.Limits.{mostRequests};
 ghost use Rattle.practice.specs.Requests.{requestsOf};
 ghost use Rattle.practice.specs.Practice.{practiceOf};
 ghost use Rattle.field.specs.Boxes.{emptyField};
-ghost use Rattle.bounds.specs.Bounds.{legalLegs};
+ghost use Rattle.fits.specs.Fits.{legalLegs};
 ghost use Rattle.indexed.specs.Indexed.{numberIndexed, stepIndexed};
 ghost use Rattle.playing.specs.Playing.{legsInMiles, noLegs, answersFrom, presentFrom, fieldFrom, answersOf, playedOf};
 ghost use Rattle.playing.specs.Log.{logEntry, logOf};

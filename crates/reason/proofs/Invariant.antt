@@ -17,7 +17,8 @@ use Rattle.field.specs.Boxes.{isSide, opposite, at3000, at2000, lateral, missed
 use Rattle.field.specs.Lists.{isIn, every, allDifferent}
 use Rattle.questions.specs.Counts.{total, howMany, inOperation, inArea, isEmpty}
 use Rattle.questions.specs.Find.{placeOf, fixOf, numbersIn}
-use Rattle.bounds.specs.Bounds.{boundA, boundB, lateralRule, boundC, finalFirst, zoneKept, sequenceKept, boundE, alternate, boundF, fitsZone, legalLegs, boundG}
+use Rattle.bounds.specs.Bounds.{boundA, boundB, lateralRule, boundC, finalFirst, zoneKept, sequenceKept, boundE, alternate, boundF}
+use Rattle.fits.specs.Fits.{fitsZone, legalLegs, boundG}
 use Rattle.numbers.specs.Numbers.{numbersDiffer, sequenceExact}
 use Rattle.order.specs.Model.{Side, right, left, opp, num, nextFix, count, one, ofArea, number, all, chain, okay}
 use Rattle.order.specs.Model as model

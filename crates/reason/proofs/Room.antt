@@ -18,7 +18,8 @@ use Rattle.field.specs.Boxes.{isSide, area, everywhere, inZone, orderOf, nobody
 use Rattle.field.specs.Lists.{isIn, every, allDifferent}
 use Rattle.questions.specs.Counts.{total, howMany, inArea}
 use Rattle.questions.specs.Find.{placeFrom, nowhere, findIn, placeOf, aircraftAt, fixOf}
-use Rattle.bounds.specs.Bounds.{fitsZone, legalLegs, boundG, withinBounds}
+use Rattle.bounds.specs.Bounds.{withinBounds}
+use Rattle.fits.specs.Fits.{fitsZone, legalLegs, boundG}
 use Rattle.order.specs.Model.{count, one}
 use Rattle.rules.specs.Reason.{Listed, listed, along, those, isInZone, isInArea, neverFalls, eachAmong, fromLanding, approachOrder, hasRoom, roomToMiss, Reason, RoomAtSide}
 use Rattle.laws.proofs.BoundLaws.{within-each}

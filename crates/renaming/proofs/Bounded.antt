@@ -14,7 +14,8 @@ use Rattle.field.specs.Lists.{every, isIn, allDifferent}
 use Rattle.questions.specs.Counts.{total, howMany, inOperation, inArea, perFix}
 use Rattle.questions.specs.Find.{numbersIn, aircraftAt, fixOf, isFirst}
 use Rattle.numbers.specs.Numbers.{numbersDiffer, sequenceExact}
-use Rattle.bounds.specs.Bounds.{boundA, boundB, lateralRule, boundC, boundD, finalFirst, isNobody, zoneKept, sequenceKept, boundE, alternate, boundF, fitsZone, legalLegs, boundG, withinBounds}
+use Rattle.bounds.specs.Bounds.{boundA, boundB, lateralRule, boundC, boundD, finalFirst, isNobody, zoneKept, sequenceKept, boundE, alternate, boundF, withinBounds}
+use Rattle.fits.specs.Fits.{fitsZone, legalLegs, boundG}
 use Rattle.renaming.specs.Renaming.{Renaming, renamedAircraft, renamedZone, renamedSequence, renamedField}
 use Rattle.renaming.proofs.Lists.{drop-map, every-map, zero-renamed, in-renamed, different-renamed}
 use Rattle.renaming.proofs.Asked.{order-renamed, zone-renamed, queue-renamed, at-renamed, many-renamed, with-fix-renamed, numbers-renamed, fix-renamed, first-renamed}

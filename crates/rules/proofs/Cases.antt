@@ -10,7 +10,8 @@ use Rattle.field.specs.Boxes.{progressInto, entering, onLeg, arrived, turnedAwa
 use Rattle.questions.specs.Counts.{howMany, howManyWithFix, presentOn, inOperation, inArea, perFix, approachHolds, countedFor, potentialOf}
 use Rattle.questions.specs.Find.{findIn, placeOf, aircraftAt, fixOf, isFirst, leaderOf, leaderZone}
 use Rattle.field.specs.Lists.{every}
-use Rattle.bounds.specs.Bounds.{boundA, boundB, lateralRule, boundC, boundD, finalFirst, isNobody, zoneKept, sequenceKept, boundE, boundF, legFits, fitsZone, legalLegs, boundG, withinBounds}
+use Rattle.bounds.specs.Bounds.{boundA, boundB, lateralRule, boundC, boundD, finalFirst, isNobody, zoneKept, sequenceKept, boundE, boundF, withinBounds}
+use Rattle.fits.specs.Fits.{legFits, fitsZone, legalLegs, boundG}
 use Rattle.numbers.specs.Numbers.{numbersDiffer, sequenceExact}
 use Rattle.field.specs.Edits.{withoutHead, withTail, appended, removed, withZone, withSequence}
 use Rattle.tick.specs.Tick.{tickedAircraft, tickedZone, ticked}

@@ -20,7 +20,8 @@ use Rattle.field.specs.declared.Field.{Field}
 use Rattle.field.specs.Boxes.{isFlyingZone, nobody, zoneOf, everywhere}
 use Rattle.field.specs.Lists.{every}
 use Rattle.field.proofs.Tests.{pass, passed, decided, every-from}
-use Rattle.bounds.specs.Bounds.{isWaiting, isNobody, zoneKept, withinBounds}
+use Rattle.bounds.specs.Bounds.{isNobody, zoneKept, withinBounds}
+use Rattle.fits.specs.Fits.{isWaiting}
 use Rattle.tick.specs.Tick.{tickedAircraft, ticked}
 use Rattle.tick.proofs.Tick.{tickedIn}
 use Rattle.laws.proofs.BoundLaws.{within-e}

@@ -16,7 +16,7 @@ use Rattle.field.specs.declared.Field.{Field}
 use Rattle.field.specs.Boxes.{emptyField}
 use Rattle.field.proofs.Tests.{passed, fail, decided, if-true, if-false}
 use Rattle.field.proofs.Parts.{and-then}
-use Rattle.bounds.specs.Bounds.{legalLegs}
+use Rattle.fits.specs.Fits.{legalLegs}
 use Rattle.finder.specs.declared.Indexed.{Indexed}
 use Rattle.finder.specs.Finder.{withinBoundsIndexed}
 use Rattle.rules.specs.declared.Answer.{Answer}
@@ -127,12 +127,13 @@ module _ (legs : Legs) (l : T (legalLegs legs)) where
         refused : (n : ℕ) → numberBack h desk ≡ n → (n ≡ 0 → ⊥) → (n ≡ 10 → ⊥) → (n ≡ 25 → ⊥) → Answered (take (length rs - 1) rs) (stepBack h desk)
         refused n e z a b = subst⁻¹ (Answered (take (length rs - 1) rs)) (sym (numbers.back-turned-away h desk e z)) (turned-away (take (length rs - 1) rs) n z a b)
 
-  record Called (h : History) (rs : List Request) (c : Call) : Type 0 where
+  -- one call on a history that follows: it follows after it, and is answered neither 10 nor 25
+  pub record Called (h : History) (rs : List Request) (c : Call) : Type 0 where
     pub follows : Follows legs (called h c .after) (withCall rs (c, called h c .answer))
     pub not-10 : called h c .answer .number ≡ 10 → ⊥
     pub not-25 : called h c .answer .number ≡ 25 → ⊥
 
-  one-call : (h : History) (rs : List Request) → Follows legs h rs → (c : Call) → Called h rs c
+  pub one-call : (h : History) (rs : List Request) → Follows legs h rs → (c : Call) → Called h rs c
   one-call h rs p (request r) = let a = requested h rs p r in record { follows = a .follows; not-10 = a .not-10; not-25 = a .not-25 }
   one-call h rs p (back desk) = let a = stepped-back h rs p desk in record { follows = a .follows; not-10 = a .not-10; not-25 = a .not-25 }
 

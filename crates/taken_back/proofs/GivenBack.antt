@@ -118,6 +118,10 @@ module _ (h : History) (places : length (h .kept) ≡ mostKept) (w : withinBound
       (record { now = next; kept = movedUp (h .kept) (h .now); count = h .count })
       found-behind found-moved
 
+-- so a field within the bounds that comes in place of the field, which is kept, keeps the bounds
+pub keeping-within : (h : History) → length (h .kept) ≡ mostKept → withinBoundsHistory h ≡ true → (next : Indexed) → withinBoundsIndexed next ≡ true → withinBoundsHistory (keeping h next) ≡ true
+keeping-within h places w next n = found h places w next n .bounds
+
 -- an accepted request is taken back by a step back of either desk
 pub given-back : (h : History) → length (h .kept) ≡ mostKept → (r : Request) → numberHistory h r ≡ 0 → (desk : ℕ) → within 1 2 desk ≡ true → GivenBack h r desk
 unfolding givenBack

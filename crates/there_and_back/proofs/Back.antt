@@ -24,7 +24,8 @@ use Rattle.questions.specs.declared.Place.{Place}
 use Rattle.questions.specs.Counts.{howMany, isEmpty}
 use Rattle.questions.specs.Find.{placeOf, aircraftAt, fixOf}
 use Rattle.questions.proofs.FindLaws.{at, find-own}
-use Rattle.bounds.specs.Bounds.{lateralRule, boundC, fitsZone, withinBounds}
+use Rattle.bounds.specs.Bounds.{lateralRule, boundC, withinBounds}
+use Rattle.fits.specs.Fits.{fitsZone}
 use Rattle.laws.proofs.BoundLaws.{within-each, numbers-different}
 use Rattle.laws.proofs.Fits.{fits-parts}
 use Rattle.finder.specs.declared.Indexed.{Indexed}

@@ -33,7 +33,8 @@ use Rattle.questions.specs.Find as find
 use Rattle.questions.proofs.Listed.{numberOf, numbersAt}
 use Rattle.questions.proofs.FindLaws.{at, find-own, in-zones, found-exactly, found-there}
 use Rattle.numbers.specs.Numbers.{sequenceExact}
-use Rattle.bounds.specs.Bounds.{lateralRule, boundC, boundF, alternate, isWaiting, isNobody, zoneKept, fitsZone, withinBounds}
+use Rattle.bounds.specs.Bounds.{lateralRule, boundC, boundF, alternate, isNobody, zoneKept, withinBounds}
+use Rattle.fits.specs.Fits.{isWaiting, fitsZone}
 use Rattle.laws.proofs.EditLaws.{no-zone-empty}
 use Rattle.laws.proofs.BoundLaws.{within-each, within-e, numbers-different}
 use Rattle.laws.proofs.Fits.{Fits, fits-parts}

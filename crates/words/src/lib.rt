@@ -1,37 +1,9 @@
-// Numbers of 16, 32 and 64 bits and miles: read from lent bytes, and put into a lent buffer, the low byte first.
-use request::word;
+// Numbers of 16, 32 and 64 bits and miles put into a lent buffer, the low byte first, and the miles of 64 bits.
 use text::put_byte;
 ghost use mathlib.Core.Path.{_≡_};
-ghost use Prim.Native.Nat.{_+_, _≤_};
-ghost use lib.ListN.{length};
-ghost use Rattle.practice.specs.File.{number16, number32};
 ghost use Rattle.practice.specs.Practice.{bytes16, bytes32};
 ghost use Rattle.text.specs.Buffer.{Put};
-ghost use Rattle.words.specs.Words.{number64, bytes64, milesOf, bitsOf};
-
-// The number of 16 bits at a place of the bytes.
-pub fn number16(bytes: &[u8], at: usize) -> u16
-    requires { ⌜ at + 2 ≤ length (now bytes) ⌝ }
-    ensures { λ r. ⌜ r ≡ number16 (now (bytes .entry)) at ⌝ }
-{
-    word(bytes[at], bytes[at + 1])
-}
-
-// The number of 32 bits at a place of the bytes.
-pub fn number32(bytes: &[u8], at: usize) -> u32
-    requires { ⌜ at + 4 ≤ length (now bytes) ⌝ }
-    ensures { λ r. ⌜ r ≡ number32 (now (bytes .entry)) at ⌝ }
-{
-    number16(bytes, at) as u32 + 65536 * (number16(bytes, at + 2) as u32)
-}
-
-// The number of 64 bits at a place of the bytes.
-pub fn number64(bytes: &[u8], at: usize) -> u64
-    requires { ⌜ at + 8 ≤ length (now bytes) ⌝ }
-    ensures { λ r. ⌜ r ≡ number64 (now (bytes .entry)) at ⌝ }
-{
-    number32(bytes, at) as u64 + 4294967296 * (number32(bytes, at + 4) as u64)
-}
+ghost use Rattle.words.specs.Words.{bytes64, milesOf, bitsOf};
 
 // The miles of 64 bits, a NaN's too.
 pub fn miles_of(bits: u64) -> f64

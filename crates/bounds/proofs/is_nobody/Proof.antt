@@ -4,7 +4,8 @@ use mathlib.Core.Bool.{Bool, _&&_}
 use borrow.Author.Tests.{eq-eqb, ne-eqb}
 use lib.Ieee.{binary64, eq, ofBits, ofInt}
 use Rattle.field.specs.declared.Aircraft.{Aircraft}
-use Rattle.bounds.specs.Bounds.{isWaiting, isNobody}
+use Rattle.bounds.specs.Bounds.{isNobody}
+use Rattle.fits.specs.Fits.{isWaiting}
 use Rattle.field.proofs.Parts.{and-then, and-cut}
 use borrow.Author.Needs.{needs}
 use Rattle.bounds.proofs.is_nobody.Statement.{statement}

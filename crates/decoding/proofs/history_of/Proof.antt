@@ -19,10 +19,10 @@ unfolding historyOf
 made bytes x ks n t = record { now = x t; kept = ks t; count = n t }
 
 abbrev Inv-loop : tie.InvT-loop
-Inv-loop bytes now kept₀ i₀ kept i = Reading (indexedAt bytes) 1733 8 1733 kept i
+Inv-loop state bytes first kept₀ i₀ kept i = Reading (indexedAt state) 1733 8 1733 kept i
 
 abbrev μ-loop : tie.MeasureT-loop
-μ-loop bytes now kept₀ i₀ kept i = 8 - i
+μ-loop state bytes first kept₀ i₀ kept i = 8 - i
 
 indexed-at-requires : tie.Need-indexed-at-requires Inv-loop μ-loop
 indexed-at-requires c κs = search needs
@@ -33,7 +33,7 @@ indexed-at-requires-2 c κs = search needs
 loop-holds : tie.Need-loop-holds Inv-loop μ-loop
 loop-holds c =
     let a = c .before .before .before .args in
-    reading-one (indexedAt (now (a .bytes))) 1733 7 1733 _ _ refl (c .indexed-at2 .ensures)
+    reading-one (indexedAt (now (a .state))) 1733 7 1733 _ _ refl (c .indexed-at2 .ensures)
 
 mul-indexed-at : tie.Need-mul-indexed-at Inv-loop μ-loop
 mul-indexed-at c = search needs
@@ -60,7 +60,7 @@ loop-again : tie.Need-loop-again Inv-loop μ-loop
 loop-again c =
     let at = c .before .before in
     let a = at .before .before .before .before .args in
-    reading-more (indexedAt (now (a .bytes))) 1733 8 1733 (at .loop .kept) (at .loop .i) (at .loop .inv) _ (omega arith) (c .indexed-at3 .ensures)
+    reading-more (indexedAt (now (a .state))) 1733 8 1733 (at .loop .kept) (at .loop .i) (at .loop .inv) _ (omega arith) (c .indexed-at3 .ensures)
 
 number64-requires : tie.Need-number64-requires Inv-loop μ-loop
 number64-requires c κs = search needs
@@ -70,7 +70,7 @@ returns c =
     let at = c .before .before in
     let first = at .before in
     let a = first .before .before .before .args in
-    made (now (a .bytes)) (first .before .indexed-at .ensures) (reading-all (indexedAt (now (a .bytes))) 1733 8 1733 (at .loop .kept) (at .loop .i) (at .loop .inv) (omega arith)) (c .number64 .ensures)
+    made (now (a .state)) (first .before .indexed-at .ensures) (reading-all (indexedAt (now (a .state))) 1733 8 1733 (at .loop .kept) (at .loop .i) (at .loop .inv) (omega arith)) (c .number64 .ensures)
 
 pub history-of-spec : {M : Type 1} → statement M
 history-of-spec =

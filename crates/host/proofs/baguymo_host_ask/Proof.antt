@@ -3,7 +3,7 @@ use mathlib.Core.Path.{_≡_, ap, _∙_}
 use denote.Ref.{now}
 use borrow.Author.Needs.{needs}
 use Rattle.history.specs.declared.SteppedHistory.{SteppedHistory}
-use Rattle.host.specs.Calls.{answerNumbers}
+use Rattle.replies.specs.Replies.{answerNumbers}
 use Rattle.host.proofs.Stored.{asked, after-step}
 use Rattle.host.proofs.baguymo_host_ask.Statement.{statement}
 use Rattle.host.proofs.baguymo_host_ask.Tie as tie
@@ -14,19 +14,20 @@ history-of-requires c κs = search needs
 step-history-requires : tie.Need-step-history-requires
 step-history-requires c κs = search needs
 
-put-answer-requires : tie.Need-put-answer-requires
-put-answer-requires c κs = search needs
+answer-numbers-requires : tie.Need-answer-numbers-requires
+answer-numbers-requires c κs = search needs
 
 store-after-requires : tie.Need-store-after-requires
 store-after-requires c κs = search needs
 
 returns : tie.Need-returns
 returns c =
-    let k = c .before .before .before in
-    let state = now (k .before .before .before .before .before .args .state) in
+    let n = c .before .before in
+    let k = n .before .before in
+    let state = now (k .before .before .before .args .state) in
     let e = asked state _ (k .step-history .ensures) (k .before .history-of .ensures) in (
       ap (λ (s : SteppedHistory). s .answer .number) e,
-      (c .before .put-answer .ensures ∙ ap (λ (s : SteppedHistory). answerNumbers (s .answer)) e, c .store-after .ensures ∙ after-step state e),
+      (n .answer-numbers .ensures ∙ ap (λ (s : SteppedHistory). answerNumbers (s .answer)) e, c .store-after .ensures ∙ after-step state e),
     )
 
 pub baguymo-host-ask-spec : {M : Type 1} → statement M
@@ -35,6 +36,6 @@ baguymo-host-ask-spec =
     (tie.spec
     history-of-requires
     step-history-requires
-    put-answer-requires
+    answer-numbers-requires
     store-after-requires
     returns)

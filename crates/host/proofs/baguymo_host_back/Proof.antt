@@ -18,10 +18,11 @@ store-after-requires c κs = search needs
 
 returns : tie.Need-returns
 returns c =
-    let k = c .before .before in
-    let state = now (k .before .before .before .before .args .state) in
+    let k = c .before .before .before in
+    let state = now (k .before .before .before .args .state) in
     let e = stepped-back state _ (k .step-back .ensures) (k .before .history-of .ensures) in
     (ap (λ (s : SteppedHistory). s .answer .number) e, c .store-after .ensures ∙ after-step state e)
 
 pub baguymo-host-back-spec : {M : Type 1} → statement M
-baguymo-host-back-spec = tie.close (tie.spec history-of-requires step-back-requires store-after-requires returns)
+baguymo-host-back-spec =
+    tie.close (tie.spec history-of-requires step-back-requires store-after-requires returns)

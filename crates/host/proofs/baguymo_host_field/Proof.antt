@@ -4,7 +4,7 @@ use denote.Ref.{now}
 use borrow.Author.Needs.{needs}
 use Rattle.dialect.specs.declared.Built.{Built}
 use Rattle.history.specs.declared.History.{History}
-use Rattle.lent_calls.specs.OnBytes.{stateAfter}
+use Rattle.layout.specs.Written.{stateAfter}
 use Rattle.host.specs.Calls.{builtState}
 use Rattle.host.proofs.baguymo_host_field.Statement.{statement}
 use Rattle.host.proofs.baguymo_host_field.Tie as tie
@@ -20,12 +20,13 @@ store-after-requires c κs = search needs
 
 returns : tie.Need-returns
 returns c =
-    let k = c .before .before in
-    let state = now (k .before .before .before .args .state) in
+    let k = c .before .before .before in
+    let state = now (k .before .before .args .state) in
     let e = k .field-of .ensures in (
       ap (λ (b : Built). b .number) e,
       c .store-after .ensures ∙ ap (λ (h : History). stateAfter state (k .field-of .result .number) h) (c .before .start-with .ensures) ∙ ap (builtState state) e,
     )
 
 pub baguymo-host-field-spec : {M : Type 1} → statement M
-baguymo-host-field-spec = tie.close (tie.spec field-of-requires start-with-requires store-after-requires returns)
+baguymo-host-field-spec =
+    tie.close (tie.spec field-of-requires start-with-requires store-after-requires returns)

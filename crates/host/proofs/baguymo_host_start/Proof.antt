@@ -27,7 +27,7 @@ returns-2 : tie.Need-returns-2
 returns-2 c =
     let k = c .before .before in
     let e = c .before .start .ensures ∙ ap startOf (k .legs-in-miles .ensures) in
-    let t = start-stored _ _ (holds (k .before .before .legs-allowed .ensures) (k .before .if1 .left)) in
+    let t = start-stored _ _ (holds (k .before .before .before .legs-allowed .ensures) (k .before .before .if1 .left)) in
     (t .0, c .store .ensures ∙ ap historyBytes e ∙ t .1)
 
 pub baguymo-host-start-spec : {M : Type 1} → statement M

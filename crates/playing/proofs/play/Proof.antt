@@ -15,7 +15,7 @@ use Rattle.practice.specs.Requests.{requestsOf}
 use Rattle.practice.proofs.Meaning.{Held, held}
 use Rattle.field.specs.declared.Legs.{Legs}
 use Rattle.field.specs.Boxes.{emptyField}
-use Rattle.bounds.specs.Bounds.{legalLegs}
+use Rattle.fits.specs.Fits.{legalLegs}
 use Rattle.playing.specs.declared.Played.{Played}
 use Rattle.playing.specs.Playing.{legsInMiles, noLegs, answersFrom, presentFrom, fieldFrom}
 use Rattle.playing.specs.Log.{logOf}

@@ -11,7 +11,8 @@ use Rattle.request.specs.Input.{within}
 use Rattle.playing.specs.Log.{kindAt, numberAt}
 use Rattle.binder.specs.declared.counts.Counts.{Counts}
 use Rattle.binder.specs.Counts.{withAnswer, countedTo}
-use Rattle.binder.proofs.Cells.{of-few, cell-low}
+use Rattle.week_table.proofs.Cells.{of-few}
+use Rattle.binder.proofs.Cells.{cell-low}
 use Rattle.binder.proofs.Adding.{countsWith, one-more, one-larger}
 use borrow.Author.Needs.{needs}
 use Rattle.binder.proofs.counts.with_answers.Statement.{statement}

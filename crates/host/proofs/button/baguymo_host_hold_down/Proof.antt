@@ -5,7 +5,7 @@ use Prim.Native.Nat.{ℕ}
 use denote.Ref.{now}
 use borrow.Author.Needs.{needs}
 use Rattle.press_kept.specs.declared.HeldKept.{HeldKept}
-use Rattle.host.specs.Calls.{endNumber, heldNumbers}
+use Rattle.replies.specs.Replies.{endNumber, heldNumbers}
 use Rattle.host.proofs.Stored.{held, after-held}
 use Rattle.host.proofs.button.baguymo_host_hold_down.Statement.{statement}
 use Rattle.host.proofs.button.baguymo_host_hold_down.Tie as tie
@@ -16,14 +16,8 @@ history-of-requires c κs = search needs
 hold-kept-requires : tie.Need-hold-kept-requires
 hold-kept-requires c κs = search needs
 
-spent-mark-requires : tie.Need-spent-mark-requires
-spent-mark-requires c κs = search needs
-
-slice-aggregate-put-numbers : tie.Need-slice-aggregate-put-numbers
-slice-aggregate-put-numbers c = search needs
-
-put-numbers-requires : tie.Need-put-numbers-requires
-put-numbers-requires c κs = search needs
+held-numbers-requires : tie.Need-held-numbers-requires
+held-numbers-requires c κs = search needs
 
 end-number-requires : tie.Need-end-number-requires
 end-number-requires c κs = search needs
@@ -33,13 +27,12 @@ store-after-requires c κs = search needs
 
 returns : tie.Need-returns
 returns c =
-    let n = c .before in
-    let m = n .before .before .before in
-    let k = m .before in
-    let state = now (k .before .before .before .before .before .args .state) in
+    let n = c .before .before in
+    let k = n .before .before in
+    let state = now (k .before .before .before .args .state) in
     let e = held state (k .hold-kept .ensures) (k .before .history-of .ensures) in (
       n .end-number .ensures ∙ ap (λ (h : HeldKept). endNumber (h .ending)) e,
-      (n .before .put-numbers .ensures ∙ ap (λ (s : ℕ). k .hold-kept .result .played ∷ s ∷ []) (m .spent-mark .ensures) ∙ ap heldNumbers e, c .store-after .ensures ∙ after-held state (n .end-number .ensures) e),
+      (n .before .held-numbers .ensures ∙ ap (λ (h : HeldKept). heldNumbers (h .played) (h .ending)) e, c .store-after .ensures ∙ after-held state (n .end-number .ensures) e),
     )
 
 pub baguymo-host-hold-down-spec : {M : Type 1} → statement M
@@ -48,9 +41,7 @@ baguymo-host-hold-down-spec =
     (tie.spec
     history-of-requires
     hold-kept-requires
-    spent-mark-requires
-    slice-aggregate-put-numbers
-    put-numbers-requires
+    held-numbers-requires
     end-number-requires
     store-after-requires
     returns)

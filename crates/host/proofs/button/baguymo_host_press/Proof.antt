@@ -3,7 +3,8 @@ use mathlib.Core.Path.{_≡_, ap, _∙_}
 use denote.Ref.{now}
 use borrow.Author.Needs.{needs}
 use Rattle.press_kept.specs.declared.PressedKept.{PressedKept}
-use Rattle.host.specs.Calls.{answerNumbers, requestNumbers, playedState}
+use Rattle.replies.specs.Replies.{answerNumbers, requestNumbers}
+use Rattle.layout.specs.Written.{stateAfter}
 use Rattle.host.proofs.Stored.{pressed}
 use Rattle.host.proofs.button.baguymo_host_press.Statement.{statement}
 use Rattle.host.proofs.button.baguymo_host_press.Tie as tie
@@ -14,26 +15,28 @@ history-of-requires c κs = search needs
 press-kept-requires : tie.Need-press-kept-requires
 press-kept-requires c κs = search needs
 
-put-request-requires : tie.Need-put-request-requires
-put-request-requires c κs = search needs
+request-numbers-requires : tie.Need-request-numbers-requires
+request-numbers-requires c κs = search needs
 
-put-answer-requires : tie.Need-put-answer-requires
-put-answer-requires c κs = search needs
+answer-numbers-requires : tie.Need-answer-numbers-requires
+answer-numbers-requires c κs = search needs
 
-store-played-requires : tie.Need-store-played-requires
-store-played-requires c κs = search needs
+store-after-requires : tie.Need-store-after-requires
+store-after-requires c κs = search needs
 
 returns : tie.Need-returns
 returns c =
-    let k = c .before .before .before .before .before in
-    let state = now (k .before .before .before .before .before .before .args .state) in
+    let n = c .before .before in
+    let q = n .before in
+    let k = q .before .before .before in
+    let state = now (k .before .before .before .args .state) in
     let e = pressed state (k .press-kept .ensures) (k .before .history-of .ensures) in (
       ap (λ (p : PressedKept). p .stepped .answer .number) e,
       (
-        c .before .before .put-request .ensures ∙ ap (λ (p : PressedKept). requestNumbers (p .proposal)) e,
+        q .request-numbers .ensures ∙ ap (λ (p : PressedKept). requestNumbers (p .proposal)) e,
         (
-          c .before .put-answer .ensures ∙ ap (λ (p : PressedKept). answerNumbers (p .stepped .answer)) e,
-          c .store-played .ensures ∙ ap (λ (p : PressedKept). playedState state (p .proposal) (p .stepped)) e,
+          n .answer-numbers .ensures ∙ ap (λ (p : PressedKept). answerNumbers (p .stepped .answer)) e,
+          c .store-after .ensures ∙ ap (λ (p : PressedKept). stateAfter state (p .stepped .answer .number) (p .stepped .after)) e,
         ),
       ),
     )
@@ -44,7 +47,7 @@ baguymo-host-press-spec =
     (tie.spec
     history-of-requires
     press-kept-requires
-    put-request-requires
-    put-answer-requires
-    store-played-requires
+    request-numbers-requires
+    answer-numbers-requires
+    store-after-requires
     returns)

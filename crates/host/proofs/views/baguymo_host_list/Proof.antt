@@ -2,7 +2,8 @@
 use mathlib.Core.Path.{ap, _∙_}
 use borrow.Author.Needs.{needs}
 use Rattle.dialect.specs.declared.Listing.{Listing}
-use Rattle.host.specs.Calls.{listingOf, listingNumbers}
+use Rattle.replies.specs.Replies.{listingNumbers}
+use Rattle.host.specs.Calls.{listingOf}
 use Rattle.host.proofs.views.baguymo_host_list.Statement.{statement}
 use Rattle.host.proofs.views.baguymo_host_list.Tie as tie
 
@@ -12,15 +13,15 @@ history-of-requires c κs = search needs
 listing-of-requires : tie.Need-listing-of-requires
 listing-of-requires c κs = search needs
 
-put-entries-requires : tie.Need-put-entries-requires
-put-entries-requires c κs = search needs
+listing-numbers-requires : tie.Need-listing-numbers-requires
+listing-numbers-requires c κs = search needs
 
 returns : tie.Need-returns
 returns c =
     let k = c .before in
     let e = k .listing-of .ensures ∙ ap listingOf (k .before .history-of .ensures) in
-    (ap (λ (l : Listing). l .number) e, c .put-entries .ensures ∙ ap listingNumbers e)
+    (ap (λ (l : Listing). l .number) e, c .listing-numbers .ensures ∙ ap listingNumbers e)
 
 pub baguymo-host-list-spec : {M : Type 1} → statement M
 baguymo-host-list-spec =
-    tie.close (tie.spec history-of-requires listing-of-requires put-entries-requires returns)
+    tie.close (tie.spec history-of-requires listing-of-requires listing-numbers-requires returns)

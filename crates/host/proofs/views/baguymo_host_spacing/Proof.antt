@@ -4,11 +4,11 @@ use Prim.Native.Nat.{ℕ}
 use borrow.Author.Needs.{needs}
 use Rattle.history.specs.declared.History.{History}
 use Rattle.gaps.specs.declared.Spacings.{Spacings}
-use Rattle.host.specs.Calls.{spacingsOf, spacingNumbers, pairGaps}
+use Rattle.replies.specs.Replies.{spacingNumbers, pairGaps}
+use Rattle.host.specs.Calls.{spacingsOf}
 use Rattle.host.proofs.views.baguymo_host_spacing.Statement.{statement}
 use Rattle.host.proofs.views.baguymo_host_spacing.Tie as tie
 
--- the spacing of a history that is known
 spacings-on : (spacing : ℕ) {h g : History} {s : Spacings} → s ≡ spacingsOf h spacing → h ≡ g → s ≡ spacingsOf g spacing
 spacings-on spacing e f = e ∙ ap (λ (x : History). spacingsOf x spacing) f
 
@@ -18,21 +18,26 @@ history-of-requires c κs = search needs
 spacings-of-requires : tie.Need-spacings-of-requires
 spacings-of-requires c κs = search needs
 
-put-pairs-requires : tie.Need-put-pairs-requires
-put-pairs-requires c κs = search needs
+spacing-numbers-requires : tie.Need-spacing-numbers-requires
+spacing-numbers-requires c κs = search needs
 
-put-gaps-requires : tie.Need-put-gaps-requires
-put-gaps-requires c κs = search needs
+pair-gaps-requires : tie.Need-pair-gaps-requires
+pair-gaps-requires c κs = search needs
 
 returns : tie.Need-returns
 returns c =
     let k = c .before .before in
     let e = spacings-on _ (k .spacings-of .ensures) (k .before .history-of .ensures) in (
       ap (λ (s : Spacings). s .number) e,
-      (c .before .put-pairs .ensures ∙ ap spacingNumbers e, c .put-gaps .ensures ∙ ap (λ (s : Spacings). pairGaps (s .pairs)) e),
+      (c .before .spacing-numbers .ensures ∙ ap spacingNumbers e, c .pair-gaps .ensures ∙ ap (λ (s : Spacings). pairGaps (s .pairs)) e),
     )
 
 pub baguymo-host-spacing-spec : {M : Type 1} → statement M
 baguymo-host-spacing-spec =
     tie.close
-    (tie.spec history-of-requires spacings-of-requires put-pairs-requires put-gaps-requires returns)
+    (tie.spec
+    history-of-requires
+    spacings-of-requires
+    spacing-numbers-requires
+    pair-gaps-requires
+    returns)

@@ -1,0 +1,121 @@
+-- Any list of a host's calls on the bytes of a history is that on the history. Assumes nothing.
+use mathlib.Core.Path.{_≡_, refl, sym, ap, _∙_}
+use mathlib.Core.Logic.{inl, inr}
+use mathlib.Core.Bool.{Bool, true, false, cond}
+use mathlib.Core.List.{List, [], _∷_}
+use Prim.Native.Nat.{ℕ}
+use lib.Dec.{eqb}
+use lib.ListN.{length}
+use borrow.Author.Tests.{eqb-false}
+use Rattle.limits.specs.Limits.{mostPresses}
+use Rattle.practice.specs.declared.FileLegs.{FileLegs}
+use Rattle.practice.specs.File.{legsAllowed}
+use Rattle.playing.specs.Playing.{legsInMiles}
+use Rattle.field.specs.declared.Field.{Field}
+use Rattle.field.proofs.Tests.{decided, either-way, if-true, if-false}
+use Rattle.questions.specs.Counts.{presentOn}
+use Rattle.history.specs.declared.History.{History}
+use Rattle.history.specs.History.{startWith, startOf, withinBoundsHistory, stepHistory, stepBack}
+use Rattle.rules.specs.Step.{numberAndZeros}
+use Rattle.press.specs.declared.Proposal.{Proposal}
+use Rattle.press.specs.declared.Proposal.the-variants.{Refused, None, Play}
+use Rattle.press.specs.declared.Ending.{Ending}
+use Rattle.press.specs.declared.Ending.the-variants as ending
+use Rattle.press.specs.HeldDown.{thenPressed, endingOn}
+use Rattle.press_kept.specs.PressKept.{proposalKept, playedKept, pressKept, pressesKept, afterAsked, endingKept, heldKept}
+use Rattle.press_kept.proofs.Pressing.{kept-refused, asked-none, presses-ended}
+use Rattle.dialect.specs.Coming.{fieldOf}
+use Rattle.taken_back.specs.Calls.{Call, request, back, called}
+use Rattle.taken_back.proofs.GivenBack.{nothing-changed}
+use Rattle.layout.specs.Read.{historyOf}
+use Rattle.layout.specs.Written.{historyBytes, stateAfter}
+use Rattle.layout.specs.Held.{HistoryHeld}
+use Rattle.layout.proofs.Sizes.{state-size}
+use Rattle.layout.proofs.ReadBack.{read-back}
+use Rattle.layout.proofs.States.{start-held, legs-in-64ths-held}
+use Rattle.replies.specs.Replies.{endNumber}
+use Rattle.host.specs.Calls.{startNumber, pressedOf, heldOf}
+use Rattle.host_calls.specs.HostCalls.{HostCall, start, ask, back as stepBackBy, press, holdDown, spacing, list, field, replyOf, leftBy, repliesOf, leftByAll, bytesLeft, repliesOn, bytesLeftByAll, OnTheBytes}
+use Rattle.host_calls.proofs.Held.{left-held, all-held}
+
+-- ---- one call
+
+-- what begins anew, or leaves the state
+begun : (test : Bool) (h g : History) → cond test (historyBytes g) (historyBytes h) ≡ historyBytes (cond test g h)
+begun true h g = refl
+begun false h g = refl
+
+-- a request or a step back: one that is refused leaves the history
+called-bytes : (h : History) (c : Call) → stateAfter (historyBytes h) (called h c .answer .number) (called h c .after) ≡ historyBytes (called h c .after)
+called-bytes h c =
+    elim (decided (eqb (called h c .answer .number) 0)) [
+      | inl e ↦ if-true _ _ e
+      | inr e ↦ if-false _ _ e ∙ sym (ap historyBytes (nothing-changed h c (eqb-false _ 0 e) .same))
+    ]
+
+-- a press
+played-bytes : (h : History) (p : Proposal) → stateAfter (historyBytes h) (playedKept h p .answer .number) (playedKept h p .after) ≡ historyBytes (playedKept h p .after)
+unfolding numberAndZeros
+played-bytes h Refused = refl
+played-bytes h None = refl
+played-bytes h (Play r) = called-bytes h (request r)
+
+-- the button held down: where the bounds are broken it plays nothing
+pub ended-0 : (f : Field) → endNumber (endingOn f) ≡ 0
+ended-0 f = either-way (λ (e : Ending). endNumber e ≡ 0) (eqb (presentOn f) 0) ending.None ending.Spent (λ e. refl) (λ e. refl)
+
+none-played : (h : History) → withinBoundsHistory h ≡ false → afterAsked h (pressesKept mostPresses h) ≡ h
+none-played h w =
+    ap (afterAsked h) (presses-ended mostPresses h (λ others. ap (λ (p : Proposal). thenPressed p others) (sym (kept-refused h w)))) ∙ asked-none h
+
+held-bytes : (h : History) → stateAfter (historyBytes h) (endNumber (heldKept h .ending)) (heldKept h .after) ≡ historyBytes (heldKept h .after)
+unfolding heldKept
+held-bytes h =
+    let after = afterAsked h (pressesKept mostPresses h) in
+    elim (decided (withinBoundsHistory h)) [
+      | inl w ↦
+          ap (λ (b : Bool). stateAfter (historyBytes h) (endNumber (endingKept b (after .now .field))) after) w
+          ∙ ap (λ (n : ℕ). stateAfter (historyBytes h) n after) (ended-0 (after .now .field))
+      | inr w ↦ ap (λ (b : Bool). stateAfter (historyBytes h) (endNumber (endingKept b (after .now .field))) after) w ∙ sym (ap historyBytes (none-played h w))
+    ]
+
+left-bytes : (h : History) (c : HostCall) → HistoryHeld h → bytesLeft (historyBytes h) c ≡ historyBytes (leftBy h c)
+unfolding pressedOf heldOf pressKept
+left-bytes h (start legs) k = begun (eqb (startNumber legs) 0) h (startOf (legsInMiles legs))
+left-bytes h (ask r) k = ap (λ (g : History). stateAfter (historyBytes h) (stepHistory g r .answer .number) (stepHistory g r .after)) (read-back h k) ∙ called-bytes h (request r)
+left-bytes h (stepBackBy desk) k = ap (λ (g : History). stateAfter (historyBytes h) (stepBack g desk .answer .number) (stepBack g desk .after)) (read-back h k) ∙ called-bytes h (back desk)
+left-bytes h press k = ap (λ (g : History). stateAfter (historyBytes h) (playedKept g (proposalKept g) .answer .number) (playedKept g (proposalKept g) .after)) (read-back h k) ∙ played-bytes h (proposalKept h)
+left-bytes h holdDown k = ap (λ (g : History). stateAfter (historyBytes h) (endNumber (heldKept g .ending)) (heldKept g .after)) (read-back h k) ∙ held-bytes h
+left-bytes h (spacing n) k = refl
+left-bytes h list k = refl
+left-bytes h (field legs speed bytes) k = begun (eqb (fieldOf legs speed bytes .number) 0) h (startWith (fieldOf legs speed bytes .after))
+
+-- ---- any list
+
+replies-same : (h : History) (cs : List HostCall) → HistoryHeld h → repliesOn (historyBytes h) cs ≡ repliesOf h cs
+replies-same h [] k = refl
+replies-same h (c ∷ cs) k =
+    let rest = ap (λ (b : List ℕ). repliesOn b cs) (left-bytes h c k) ∙ replies-same (leftBy h c) cs (left-held h c k) in
+    λ i. replyOf (read-back h k i) c ∷ rest i
+
+bytes-same : (h : History) (cs : List HostCall) → HistoryHeld h → bytesLeftByAll (historyBytes h) cs ≡ historyBytes (leftByAll h cs)
+bytes-same h [] k = refl
+bytes-same h (c ∷ cs) k = ap (λ (b : List ℕ). bytesLeftByAll b cs) (left-bytes h c k) ∙ bytes-same (leftBy h c) cs (left-held h c k)
+
+pub on-the-bytes : (h : History) (cs : List HostCall) → HistoryHeld h → OnTheBytes h cs
+on-the-bytes h cs k =
+    let e = bytes-same h cs k in
+    let q = all-held h cs k in
+    record { replies = replies-same h cs k; bytes = e; size = ap length e ∙ state-size (leftByAll h cs) q; state = ap historyOf e ∙ read-back (leftByAll h cs) q }
+
+-- an accepted start writes the bytes of the start, whatever stood there; from there on, any list
+pub started : (b : List ℕ) (legs : FileLegs) → legsAllowed legs ≡ true → bytesLeft b (start legs) ≡ historyBytes (startOf (legsInMiles legs))
+started b legs e = ap (λ (n : ℕ). stateAfter b n (startOf (legsInMiles legs))) (if-true 0 7 e)
+
+pub on-the-bytes-from-start : (legs : FileLegs) (cs : List HostCall) → OnTheBytes (startOf (legsInMiles legs)) cs
+on-the-bytes-from-start legs cs =
+    on-the-bytes (startOf (legsInMiles legs)) cs (start-held (legsInMiles legs) (legs-in-64ths-held (legs .missed) (legs .base) (legs .intermediate) (legs .last)))
+
+-- two histories with the same bytes are the same
+pub same-state : (h g : History) → HistoryHeld h → HistoryHeld g → historyBytes h ≡ historyBytes g → h ≡ g
+same-state h g p q e = sym (read-back h p) ∙ ap historyOf e ∙ read-back g q

@@ -1,0 +1,163 @@
+// The numbers and gaps that a host's calls put into the memory that they are lent (specs/Replies.antt).
+use dialect::Entry;
+use dialect::Listing;
+use gaps::Pair;
+use gaps::Spacing;
+use gaps::Spacings;
+use press::Ending;
+use press::Proposal;
+use request::Request;
+use rules::Answer;
+ghost use mathlib.Core.Path.{_≡_};
+ghost use Rattle.replies.specs.Replies.{answerNumbers, requestNumbers, endNumber, spentMark, heldNumbers, closeMark, gapMiles, pairGaps, spacingNumbers, listingNumbers};
+
+// The six numbers of an answer.
+pub fn answer_numbers(a: Answer) -> [usize; 6]
+    ensures { λ r. ⌜ r ≡ answerNumbers a ⌝ }
+{
+    [
+        a.number as usize,
+        a.aircraft as usize,
+        a.zone,
+        a.fix as usize,
+        a.leader as usize,
+        a.along as usize,
+    ]
+}
+
+// The five numbers of the request that a press plays; zeros where it plays none.
+pub fn request_numbers(p: Proposal) -> [usize; 5]
+    ensures { λ r. ⌜ r ≡ requestNumbers p ⌝ }
+{
+    match p {
+        Proposal::Refused => [0, 0, 0, 0, 0],
+        Proposal::None => [0, 0, 0, 0, 0],
+        Proposal::Play(r) => [
+            r.desk as usize,
+            r.kind as usize,
+            r.side as usize,
+            r.number as usize,
+            r.amount as usize,
+        ],
+    }
+}
+
+// The number of the end of the button held down.
+pub fn end_number(e: Ending) -> u16
+    ensures { λ r. ⌜ r ≡ endNumber e ⌝ }
+{
+    match e {
+        Ending::Refused => 10,
+        Ending::None => 0,
+        Ending::Spent => 0,
+    }
+}
+
+// 1 where the presses are spent, else 0.
+fn spent_mark(e: Ending) -> usize
+    ensures { λ r. ⌜ r ≡ spentMark e ⌝ }
+{
+    match e {
+        Ending::Refused => 0,
+        Ending::None => 0,
+        Ending::Spent => 1,
+    }
+}
+
+// How many requests the button held down played, and whether its presses are spent.
+pub fn held_numbers(played: usize, e: Ending) -> [usize; 2]
+    ensures { λ r. ⌜ r ≡ heldNumbers played e ⌝ }
+{
+    [played, spent_mark(e)]
+}
+
+// 1 where a pair is close, else 0.
+fn close_mark(s: Spacing) -> usize
+    ensures { λ r. ⌜ r ≡ closeMark s ⌝ }
+{
+    match s {
+        Spacing::Close(_) => 1,
+        Spacing::Clear(_) => 0,
+    }
+}
+
+// The gap of a pair in miles.
+fn gap_miles(s: Spacing) -> f64
+    ensures { λ r. ⌜ r ≡ gapMiles s ⌝ }
+{
+    match s {
+        Spacing::Close(gap) => gap,
+        Spacing::Clear(gap) => gap,
+    }
+}
+
+// The count and the numbers of three pairs.
+pub fn spacing_numbers(s: Spacings) -> [usize; 10]
+    ensures { λ r. ⌜ r ≡ spacingNumbers s ⌝ }
+{
+    let first = s.pairs[0];
+    let second = s.pairs[1];
+    let third = s.pairs[2];
+    let near = first.spacing;
+    let next = second.spacing;
+    let far = third.spacing;
+    [
+        s.count,
+        first.leader as usize,
+        first.follower as usize,
+        close_mark(near),
+        second.leader as usize,
+        second.follower as usize,
+        close_mark(next),
+        third.leader as usize,
+        third.follower as usize,
+        close_mark(far),
+    ]
+}
+
+// The gaps of three pairs.
+pub fn pair_gaps(s: Spacings) -> [f64; 3]
+    ensures { λ r. ⌜ r ≡ pairGaps (s .pairs) ⌝ }
+{
+    let first = s.pairs[0];
+    let second = s.pairs[1];
+    let third = s.pairs[2];
+    let near = first.spacing;
+    let next = second.spacing;
+    let far = third.spacing;
+    [gap_miles(near), gap_miles(next), gap_miles(far)]
+}
+
+// The count and the numbers of five entries.
+pub fn listing_numbers(l: Listing) -> [usize; 21]
+    ensures { λ r. ⌜ r ≡ listingNumbers l ⌝ }
+{
+    let first = l.entries[0];
+    let second = l.entries[1];
+    let third = l.entries[2];
+    let fourth = l.entries[3];
+    let fifth = l.entries[4];
+    [
+        l.count,
+        first.number as usize,
+        first.location as usize,
+        first.place as usize,
+        first.fix as usize,
+        second.number as usize,
+        second.location as usize,
+        second.place as usize,
+        second.fix as usize,
+        third.number as usize,
+        third.location as usize,
+        third.place as usize,
+        third.fix as usize,
+        fourth.number as usize,
+        fourth.location as usize,
+        fourth.place as usize,
+        fourth.fix as usize,
+        fifth.number as usize,
+        fifth.location as usize,
+        fifth.place as usize,
+        fifth.fix as usize,
+    ]
+}
