@@ -106,7 +106,8 @@ list-over : (bytes : List ℕ) → 24576 < length bytes → listAllowed bytes �
 list-over bytes h = go (leb (length (requestsOf bytes)) mostRequests) refl
   where
     go : (t : Bool) → leb (length (requestsOf bytes)) mostRequests ≡ t → listAllowed bytes ≡ false
-    go true t = let f = leb-true (length (requestsOf bytes)) mostRequests t in left-fails (eqb (length bytes % 6) 0) (leb (length (requestsOf bytes)) mostRequests) (ne-eqb (length bytes % 6) 0 (λ z. let c = count bytes in omega arith))
+    go true t = let f = leb-true (length (requestsOf bytes)) mostRequests t in left-fails (eqb (length bytes % 6) 0)
+        (leb (length (requestsOf bytes)) mostRequests) (ne-eqb (length bytes % 6) 0 (λ z. let c = count bytes in omega arith))
     go false t = right-fails (eqb (length bytes % 6) 0) (leb (length (requestsOf bytes)) mostRequests) t
 
 number-over : (input : List ℕ) → 24584 < length input → authoredNumber input ≡ cond (legsAllowed (legsGiven input)) 5 7

@@ -10,6 +10,7 @@ use history::SteppedHistory;
 use history::start;
 use history::step_back;
 use history::step_history;
+use limits::MOST_REQUESTS;
 use playing::legs_in_miles;
 use practice::FileLegs;
 use practice::legs_allowed;
@@ -62,7 +63,7 @@ fn input_number(input: &[u8]) -> u16
     if (n - 8) % 8 != 0 {
         return 5;
     }
-    if 4096 < (n - 8) / 8 {
+    if MOST_REQUESTS < (n - 8) / 8 {
         return 5;
     }
     0

@@ -190,7 +190,8 @@ none-yet : (z k v n : ℕ) → n ≡ n + pastIn z k (v * 0)
 none-yet z k v n = let h : pastIn z k (v * 0) ≡ 0 = ap (pastIn z k) (mul-zero v) ∙ past-none z k in omega arith
 
 -- one that has come into another zone with the request: what its leg before gave is added up
-module _ (w : WholeLegs) (s : Flight) (e g : Placed) (p : Known w s (e .zone) (e .aircraft)) (speed : g .aircraft .speed ≡ e .aircraft .speed) (waited : g .aircraft .waited ≡ e .aircraft .waited) (begins : g .aircraft .progress ≡ progressInto (g .zone)) where
+module _ (w : WholeLegs) (s : Flight) (e g : Placed) (p : Known w s (e .zone) (e .aircraft)) (speed : g .aircraft .speed ≡ e .aircraft .speed)
+    (waited : g .aircraft .waited ≡ e .aircraft .waited) (begins : g .aircraft .progress ≡ progressInto (g .zone)) where
   -- what it has flown past the ends, by the field and by its flight
   so-far : s .before + pastIn (e .zone) (s .leg) (e .aircraft .speed * s .ticks) ≡ pastSoFar s
   so-far =
@@ -292,6 +293,10 @@ known-entry w speed zone z a v x l j h =
       };
       same-speed = v;
       own-leg =
-          record { range = λ u. absurd (false≢true (sym j ∙ passed {b = isFlyingZone z} u)); none = λ e. refl; all-of-final = λ e. absurd (false≢true (sym j ∙ passed {b = isFlyingZone z} (flown-final z e))) };
+          record {
+            range = λ u. absurd (false≢true (sym j ∙ passed {b = isFlyingZone z} u));
+            none = λ e. refl;
+            all-of-final = λ e. absurd (false≢true (sym j ∙ passed {b = isFlyingZone z} (flown-final z e)));
+          };
       same-flown = ap isFlyingZone h;
     }

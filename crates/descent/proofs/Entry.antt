@@ -24,7 +24,8 @@ use Rattle.questions.specs.Counts.{howMany, isEmpty, countedFor, approachHolds,
 use Rattle.questions.specs.Find.{placeOf, aircraftAt}
 use Rattle.bounds.specs.Bounds.{withinBounds}
 use Rattle.rules.specs.declared.Answer.{Answer}
-use Rattle.rules.specs.Kinds.{placeBefore, zoneBefore, zoneAhead, absentChecks, headChecks, presenceChecks, verticalNeeds, lateralNeeds, descendNeeds, approachNeeds, mergeNeeds, flownOutNeeds, landNeeds, exitNeeds, descended, entered, shownTo, shownAt3000}
+use Rattle.rules.specs.Kinds.{placeBefore, zoneBefore, zoneAhead, absentChecks, headChecks, presenceChecks, verticalNeeds, lateralNeeds, descendNeeds}
+use Rattle.rules.specs.Kinds.{approachNeeds, mergeNeeds, flownOutNeeds, landNeeds, exitNeeds, descended, entered, shownTo, shownAt3000}
 use Rattle.rules.specs.Step.{needsFor, checksOf, effectOf, numberOf, numberAndZeros, acceptance, acceptanceOn, alongFor, answerOf, stepOf}
 use Rattle.rules.specs.Reason.{hasPlaces}
 use Rattle.rules.proofs.Checks.{Never, never-without, never-append, by-kind, owned, inputNumbers, presence-refuses, checks-refuse, input-numbered, checks-at}
@@ -210,7 +211,10 @@ module _ (f : Field) (h : T (hasPlaces f)) (r : Request) (k : r .kind ≡ 1) (ac
                 ap (λ (n : ℕ). ltb n 2) (potential-down f q side b x up low) ∙ met .1 .0,
                 (
                   ap not (approach-down f q side b x up low side) ∙ met .1 .1 .0,
-                  (same-empty (missed side) (omega arith) ∙ met .1 .1 .1 .0, (same-empty (lateral side) (omega arith) ∙ met .1 .1 .1 .1 .0, (ap (λ (c : Bool). c || isEmpty g (at2000 side)) empty-above, tt))),
+                  (
+                    same-empty (missed side) (omega arith) ∙ met .1 .1 .1 .0,
+                    (same-empty (lateral side) (omega arith) ∙ met .1 .1 .1 .1 .0, (ap (λ (c : Bool). c || isEmpty g (at2000 side)) empty-above, tt)),
+                  ),
                 ),
               ),
             );

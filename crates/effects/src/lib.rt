@@ -33,7 +33,8 @@ use tick::ticked;
 ghost use mathlib.Core.Path.{_≡_};
 ghost use mathlib.Core.Bool.{cond, _&&_};
 ghost use Rattle.field.specs.Boxes.{at2000, base};
-ghost use Rattle.rules.specs.Kinds.{mayApproach, baseFree, headGone, tailPut, moved, descended, outOfSequence, fixTaken, entered, madeRoom, enteredAbove, approached, landed, exited, fixAfterMiss, missedApproach, held, shownTo, shownAt3000};
+ghost use Rattle.rules.specs.Kinds.{mayApproach, baseFree, headGone, tailPut, moved, descended, outOfSequence, fixTaken, entered, madeRoom};
+ghost use Rattle.rules.specs.Kinds.{enteredAbove, approached, landed, exited, fixAfterMiss, missedApproach, held, shownTo, shownAt3000};
 ghost use Rattle.rules.specs.Step.{effectFor};
 
 // The field with the head of a zone taken off it.

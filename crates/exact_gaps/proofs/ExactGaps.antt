@@ -130,7 +130,8 @@ module _ (w : WholeLegs) (rs : List Request) where
     unfolding wayOf wayIn4096ths
     way-is =
         let s = flightAfter w n noFlight (played (emptyField (inMiles w)) rs) in
-        subst (λ (l : Legs). Exactly (toGo l z (remaining (a .progress) (a .leg))) (wayFrom w z (min (64 * in64ths w z) (a .speed * s .ticks)))) (sym legs-are) (way-exact w a s z low high own account)
+        subst (λ (l : Legs). Exactly (toGo l z (remaining (a .progress) (a .leg))) (wayFrom w z (min (64 * in64ths w z) (a .speed * s .ticks))))
+        (sym legs-are) (way-exact w a s z low high own account)
 
   pub way-few : (n : ℕ) → wayIn4096ths w rs n < 2 ^ 53
   unfolding wayIn4096ths
@@ -170,6 +171,7 @@ module _ (w : WholeLegs) (rs : List Request) where
     exact-gaps = record {
       accepted =
           let all = listed (pairsIn f spacing (orderOf (f .sequence))) in
-          if-true (cond (withinBounds f) all (refused 10)) (refused 4) (passed {b = legalSpacing spacing} legal) ∙ if-true all (refused 10) (passed {b = withinBounds f} reached-within);
+          if-true (cond (withinBounds f) all (refused 10)) (refused 4) (passed {b = legalSpacing spacing} legal)
+          ∙ if-true all (refused 10) (passed {b = withinBounds f} reached-within);
       exact = pairs-exact (orderOf (f .sequence));
     }

@@ -60,7 +60,8 @@ module _ (w : WholeLegs) (a : Aircraft) (s : Flight) where
   middle-exact = sixtyFourths-exact (w .intermediate-leg) (let h = w .intermediate-fits in omega arith)
 
   from-base : (z : ℕ) → T (isFlyingZone z) → T (eq (a .leg) (sixtyFourths (w .base-leg))) → Account s z a
-      → Exactly (add binary64 (add binary64 (remaining (a .progress) (a .leg)) (sixtyFourths (w .intermediate-leg))) (sixtyFourths (w .final-leg))) (64 * w .base-leg - min (64 * w .base-leg) (a .speed * s .ticks) + (64 * w .intermediate-leg + 64 * w .final-leg))
+      → Exactly (add binary64 (add binary64 (remaining (a .progress) (a .leg)) (sixtyFourths (w .intermediate-leg))) (sixtyFourths (w .final-leg)))
+      (64 * w .base-leg - min (64 * w .base-leg) (a .speed * s .ticks) + (64 * w .intermediate-leg + 64 * w .final-leg))
   from-base z f e k =
       let l = 64 * w .base-leg - min (64 * w .base-leg) (a .speed * s .ticks) in
       let bf = w .base-fits in

@@ -49,7 +49,8 @@ pub record FieldKnown (f : Field) : Type 0 where
   pub places : (z : ℕ) → length (zoneOf f z .aircraft) ≡ 4
   pub numbers : length (f .sequence .numbers) ≡ 4
 
-zones-known : (zones : List Zone) (us : List Val) (i : ℕ) → shadow (each (zone.the-field .row .Denot) (zone.the-field .row .own) (map (zone.the-field .into) zones) us) → length (getD zones i emptyZone .aircraft) ≡ 4
+zones-known : (zones : List Zone) (us : List Val) (i : ℕ) → shadow (each (zone.the-field .row .Denot) (zone.the-field .row .own) (map (zone.the-field .into) zones) us)
+    → length (getD zones i emptyZone .aircraft) ≡ 4
 zones-known [] us i p = refl
 zones-known (q ∷ zones) [] i p = absurd p
 zones-known (q ∷ zones) (u ∷ us) zero p = zone-known q (p .0) .places

@@ -12,7 +12,8 @@ use leg::Progress;
 use leg::flown_out;
 use leg::missed_leg;
 ghost use mathlib.Core.Path.{_≡_};
-ghost use Rattle.field.specs.Boxes.{isSide, opposite, sideOf, isFlyingZone, nobody, emptyZone, zoneOf, queueLength, orderLength, legOf, progressInto, entering, onLeg, arrived, turnedAway, withFix, legFlownOut, emptyField};
+ghost use Rattle.field.specs.Boxes.{isSide, opposite, sideOf, isFlyingZone, nobody, emptyZone, zoneOf, queueLength, orderLength};
+ghost use Rattle.field.specs.Boxes.{legOf, progressInto, entering, onLeg, arrived, turnedAway, withFix, legFlownOut, emptyField};
 
 // Whether a number is a side.
 pub fn is_side(side: u8) -> bool

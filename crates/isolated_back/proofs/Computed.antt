@@ -14,7 +14,8 @@ use Rattle.field.proofs.Lists.{every-listed, zone-listed}
 use lib.Ieee.{neg, add, sub, mul, div, ofInt, round, lt, le, eq}
 use Rattle.leg.specs.Progress.{advanced, pastEnd, waitedAfter, missedLeg}
 use Rattle.request.specs.Input.{deskAllowed, kindAllowed, sideAllowed, numberAllowed, amountAllowed, inputNumber}
-use Rattle.field.specs.Boxes.{everywhere, isSide, sideOf, opposite, isFlyingZone, zoneOf, queueOf, inZone, orderOf, legOf, progressInto, entering, onLeg, arrived, turnedAway, withFix, legFlownOut, emptyField}
+use Rattle.field.specs.Boxes.{everywhere, isSide, sideOf, opposite, isFlyingZone, zoneOf, queueOf, inZone, orderOf}
+use Rattle.field.specs.Boxes.{legOf, progressInto, entering, onLeg, arrived, turnedAway, withFix, legFlownOut, emptyField}
 use Rattle.questions.specs.Counts.{howMany, howManyWithFix, presentOn, inOperation, inArea, perFix, approachHolds, countedFor, potentialOf}
 use Rattle.questions.specs.Find.{findIn, placeOf, aircraftAt, fixOf, isFirst, leaderOf, leaderZone}
 use Rattle.bounds.specs.Bounds.{boundA, boundB, lateralRule, boundC, boundD, finalFirst, isNobody, zoneKept, sequenceKept, boundE, boundF, withinBounds}
@@ -22,7 +23,8 @@ use Rattle.fits.specs.Fits.{legFits, fitsZone, legalLegs, boundG}
 use Rattle.numbers.specs.Numbers.{numbersDiffer, sequenceExact}
 use Rattle.field.specs.Edits.{withoutHead, withTail, appended, removed, withZone, withSequence}
 use Rattle.tick.specs.Tick.{tickedAircraft, tickedZone, ticked}
-use Rattle.rules.specs.Kinds.{startsFrom, mayApproach, baseFree, mayMerge, headGone, tailPut, moved, outOfSequence, fixTaken, entered, madeRoom, enteredAbove, approached, landed, exited, fixAfterMiss, missedApproach, held, belongsTo, shownTo, shownAt3000}
+use Rattle.rules.specs.Kinds.{startsFrom, mayApproach, baseFree, mayMerge, headGone, tailPut, moved, outOfSequence, fixTaken, entered, madeRoom}
+use Rattle.rules.specs.Kinds.{enteredAbove, approached, landed, exited, fixAfterMiss, missedApproach, held, belongsTo, shownTo, shownAt3000}
 use Rattle.rules.specs.Step.{checksOf, effectOf, numberOf, numberAndZeros, acceptance, answerOf, stepOf}
 use Rattle.finder.specs.Finder.{entryOf, isBefore, firstOf, secondOf, indexOf, sameEntry, sameIndex, withinBoundsIndexed}
 use Rattle.finder.specs.declared.Indexed.{Indexed}
@@ -64,8 +66,10 @@ stay-on π f t z w =
 
 stay-on-each : (π : ℕ → ℕ) (l : List Indexed) → T (every (λ (x : Indexed). staysOn π (x .field)) l) → Each (λ (x : Indexed). FixesAircraft 1 π (x .field)) l
 stay-on-each π [] t = tt
-stay-on-each π (x ∷ l) t =
-    (stay-on π (x .field) (and-l (staysOn π (x .field)) (every (λ (x : Indexed). staysOn π (x .field)) l) t), stay-on-each π l (and-r (staysOn π (x .field)) (every (λ (x : Indexed). staysOn π (x .field)) l) t))
+stay-on-each π (x ∷ l) t = (
+  stay-on π (x .field) (and-l (staysOn π (x .field)) (every (λ (x : Indexed). staysOn π (x .field)) l) t),
+  stay-on-each π l (and-r (staysOn π (x .field)) (every (λ (x : Indexed). staysOn π (x .field)) l) t),
+)
 
 -- ---- the lists
 abbrev after : List Call → History

@@ -22,7 +22,8 @@ use Rattle.field.proofs.Lists.{every-listed, zone-listed}
 
 -- The empty field is within the bounds exactly where its legs are legal.
 pub empty-within : (legs : Legs) → withinBounds (emptyField legs) ≡ legalLegs legs
-unfolding withinBounds boundA boundB boundC boundD boundE boundF boundG lateralRule numbersDiffer sequenceExact finalFirst isNobody zoneKept sequenceKept emptyField zoneOf queueOf inZone orderOf isSide howMany howManyWithFix presentOn inOperation inArea perFix eq ofInt
+unfolding withinBounds boundA boundB boundC boundD boundE boundF boundG lateralRule numbersDiffer sequenceExact finalFirst isNobody zoneKept sequenceKept emptyField zoneOf queueOf inZone
+    orderOf isSide howMany howManyWithFix presentOn inOperation inArea perFix eq ofInt
 empty-within legs = refl
 
 -- The seven bounds, one by one: a field is within the bounds exactly where it is within each.

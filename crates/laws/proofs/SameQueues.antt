@@ -201,7 +201,8 @@ same-with f g z q p s t =
 
     each : (w : ℕ) → (eqb w z ≡ true) ⊎ (eqb w z ≡ false) → (leb 1 z ≡ true) ⊎ (leb 1 z ≡ false) → (leb z 13 ≡ true) ⊎ (leb z 13 ≡ false)
         → SameZone (zoneOf (withZone f z q) w) (zoneOf (withZone g z p) w)
-    each w (inr e) a b = let d = eqb-false w z e in subst (λ (x : Zone). SameZone x (zoneOf (withZone g z p) w)) (sym (zone-kept f z q w d)) (subst (SameZone (zoneOf f w)) (sym (zone-kept g z p w d)) (s .zone w))
+    each w (inr e) a b = let d = eqb-false w z e in subst (λ (x : Zone). SameZone x (zoneOf (withZone g z p) w))
+        (sym (zone-kept f z q w d)) (subst (SameZone (zoneOf f w)) (sym (zone-kept g z p w d)) (s .zone w))
     each w (inl e) (inl a) (inl b) =
         let in-range : Between 1 13 z = record { least = leb-true 1 z a; most = leb-true z 13 b } in
         let here = eqb-true w z e in
@@ -239,7 +240,12 @@ module _ (f g : Field) (s : Same f g) where
 
   pub alike : Alike f g
   alike =
-      record { numbers = λ z. ap (λ (h : ℕ → List Aircraft). map numberOf (h z)) queues-same; fixes = λ z. ap (λ (h : ℕ → List Aircraft). map fixOfOne (h z)) queues-same; sequence = s .sequence; next = s .next }
+      record {
+        numbers = λ z. ap (λ (h : ℕ → List Aircraft). map numberOf (h z)) queues-same;
+        fixes = λ z. ap (λ (h : ℕ → List Aircraft). map fixOfOne (h z)) queues-same;
+        sequence = s .sequence;
+        next = s .next;
+      }
 
   -- Within the bounds is the one where the other is.
   pub within-same : T (withinBounds f) → T (withinBounds g)

@@ -109,7 +109,8 @@ module _ (amount z : ℕ) where
     where
       -- where it waits nothing changes, and where it flies it is somebody before and after
       go : (a : Aircraft) (p : Progress) (leg : Float)
-          → (zeros a && eq (waitedWith p (a .waited) (a .speed) amount leg) (whole 0) && eq (a .leg) (whole 0) && isWaiting (progressAfter p (a .speed) amount leg)) ≡ (zeros a && eq (a .waited) (whole 0) && eq (a .leg) (whole 0) && isWaiting p)
+          → (zeros a && eq (waitedWith p (a .waited) (a .speed) amount leg) (whole 0) && eq (a .leg) (whole 0)
+          && isWaiting (progressAfter p (a .speed) amount leg)) ≡ (zeros a && eq (a .waited) (whole 0) && eq (a .leg) (whole 0) && isWaiting p)
       go a Waiting leg = refl
       go a (Flying miles) leg =
           never (zeros a && eq (waitedWith (Flying miles) (a .waited) (a .speed) amount leg) (whole 0) && eq (a .leg) (whole 0))

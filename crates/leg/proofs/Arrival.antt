@@ -83,11 +83,13 @@ module _ (most : ℕ) (few : most < 2 ^ 41) (leg : Float) (l : T (legUpTo most l
       (rest .0, rest .1, subst (λ (z : ℕ). Along z (rest .0)) (joined n speed amount (addedUp amounts)) (rest .2))
 
   -- the bound's miles of ticks end the leg
-  pub arrives : (miles : Float) (amounts : List ℕ) → TickAmounts amounts → T (withinLeg (Flying miles) leg) → most * 4096 ≤ speed * addedUp amounts → T (flownOut (afterTicks (Flying miles) speed amounts leg) leg)
+  pub arrives : (miles : Float) (amounts : List ℕ) → TickAmounts amounts → T (withinLeg (Flying miles) leg)
+      → most * 4096 ≤ speed * addedUp amounts → T (flownOut (afterTicks (Flying miles) speed amounts leg) leg)
   unfolding ofInt
   arrives miles amounts r w h =
       let ends = along-ticks 0 miles amounts r w (inr (mul-pos (most-above most few leg l) (lit< tt), and-l (le (whole 0) miles) (le miles leg) w)) in
-      subst (λ (q : Progress). T (flownOut q leg)) (sym (ends .1)) (elim (ends .2) [ inl e ↦ e | inr k ↦ absurd (not-le-of-lt (k .0) (le-trans h (le-of-eq (sym (zero-add (speed * addedUp amounts)))))) ])
+      subst (λ (q : Progress). T (flownOut q leg)) (sym (ends .1))
+      (elim (ends .2) [ inl e ↦ e | inr k ↦ absurd (not-le-of-lt (k .0) (le-trans h (le-of-eq (sym (zero-add (speed * addedUp amounts)))))) ])
 
 -- ---- equal ticks
 pub added-same : (n a : ℕ) → addedUp (replicate n a) ≡ n * a

@@ -1,5 +1,6 @@
--- One tick on any leg, on the grid or off it: on one that is finite and above zero the miles stay between 0 and the leg (`bounds-kept`) and are a number (`miles-worth`), and on one of fewer than 2 ^ 41
--- miles its end is not left again (`end-kept`). The last holds of a leg that is no `f64`'s value too: of the grid's points one lies from the leg to a step past it, and rounding keeps the order.
+-- One tick on any leg, on the grid or off it: on one that is finite and above zero the miles stay between 0 and the leg (`bounds-kept`) and are a number
+-- (`miles-worth`), and on one of fewer than 2 ^ 41 miles its end is not left again (`end-kept`). The last holds of a leg that is no `f64`'s value too: of
+-- the grid's points one lies from the leg to a step past it, and rounding keeps the order.
 -- Assumes nothing.
 use mathlib.Core.Path.{_≡_, refl, sym, ap, _∙_, subst}
 use Prim.Native.Nat.{ℕ, _+_, _*_, _/_, _^_, _≤_, _<_, zero-le}
@@ -38,7 +39,8 @@ module _ (most : ℕ) (few : most < 2 ^ 41) (leg : Float) (l : T (legUpTo most l
 
   pub most-above : 0 < most
   most-above =
-      let h : 1 * 1 ≤ most * 64 = worth-of-le (sixtyFourths 1) (whole most) 1 64 most 1 least-value (value→worth (whole most) most 1 most-value) (le-up (sixtyFourths 1) leg (whole most) least-positive at-least at-most) in
+      let h : 1 * 1 ≤ most * 64 = worth-of-le (sixtyFourths 1) (whole most) 1 64 most 1 least-value (value→worth (whole most) most 1 most-value)
+      (le-up (sixtyFourths 1) leg (whole most) least-positive at-least at-most) in
       omega arith
 
   most-positive : T (positive (whole most))
@@ -86,7 +88,8 @@ bounds-kept miles leg {speed} {amount} p s a h k =
     subst (λ (z : Float). T (le (whole 0) z) × T (le z leg)) (sym (advanced-is s a miles leg (num miles) (den miles) (den-pos miles) (miles-worth miles leg p h k)))
     (clamped (lt x leg) leg x refl p (zero-least b c (mul-pos (den-pos miles) (lit< tt))))
 
-pub flying-within : (miles leg : Float) {speed amount : ℕ} → T (positive leg) → Between 1 fastest speed → Between 1 longestTick amount → T (withinLeg (Flying miles) leg) → T (withinLeg (Flying (advanced miles speed amount leg)) leg)
+pub flying-within : (miles leg : Float) {speed amount : ℕ} → T (positive leg) → Between 1 fastest speed → Between 1 longestTick amount
+    → T (withinLeg (Flying miles) leg) → T (withinLeg (Flying (advanced miles speed amount leg)) leg)
 flying-within miles leg {speed} {amount} p s a w =
     let kept = bounds-kept miles leg p s a (and-l (le (whole 0) miles) (le miles leg) w) (and-r (le (whole 0) miles) (le miles leg) w) in
     and-i (le (whole 0) (advanced miles speed amount leg)) (le (advanced miles speed amount leg) leg) (kept .0) (kept .1)
@@ -105,7 +108,8 @@ eq-value (fin false m e) (fin false n d) p h = (refl, eqb→eq (m * up e * down 
 eq-value (fin true m e) (fin false n d) p h =
     let a = m * up e * down d in
     let b = n * up d * down e in
-    absurd (lt-irrefl 0 (subst (λ (z : ℕ). 0 < z) (sym (eqb→eq a b (and-l (eqb a b) (eqb a 0) h)) ∙ eqb→eq a 0 (and-r (eqb a b) (eqb a 0) h)) (mul-pos (mul-pos (ltb→lt 0 n p) (up-pos d)) (down-pos e))))
+    absurd (lt-irrefl 0 (subst (λ (z : ℕ). 0 < z) (sym (eqb→eq a b (and-l (eqb a b) (eqb a 0) h)) ∙ eqb→eq a 0 (and-r (eqb a b) (eqb a 0) h))
+    (mul-pos (mul-pos (ltb→lt 0 n p) (up-pos d)) (down-pos e))))
 
 -- the first point of the grid past b / c
 abbrev past : ℕ → ℕ → ℕ

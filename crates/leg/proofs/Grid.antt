@@ -69,12 +69,14 @@ upTo-grid leg k n r = go (decLe k n)
         let least : k ≡ min k n = omega arith in
         let p = positive-of-value leg k 4096 (r .exact) (r .some) in
         let here : T (le leg (parts k)) = le-of-values leg (parts k) k 4096 k 4096 (lit< tt) (lit< tt) (r .exact) (parts-value k (r .few)) (le-refl (k * 4096)) in
-        subst (λ (x : Float). Exactly x (min k n)) (sym (upTo-no leg (parts n) (lt-false (parts n) leg p (le-up leg (parts k) (parts n) p here (parts-mono k n h))))) (subst (Exactly leg) least (r .exact))
+        subst (λ (x : Float). Exactly x (min k n)) (sym (upTo-no leg (parts n) (lt-false (parts n) leg p (le-up leg (parts k) (parts n) p here (parts-mono k n h)))))
+        (subst (Exactly leg) least (r .exact))
     go (no g) =
         let h : n < k = lt-of-not-le g in
         let least : n ≡ min k n = omega arith in
         let v = parts-value n (lt-trans h (r .few)) in
-        subst (λ (x : Float). Exactly x (min k n)) (sym (upTo-yes leg (parts n) (lt-of-values (parts n) leg n 4096 k 4096 (lit< tt) (lit< tt) v (r .exact) (mul-lt-mul-of-pos-right h (lit< tt))))) (subst (Exactly (parts n)) least v)
+        subst (λ (x : Float). Exactly x (min k n)) (sym (upTo-yes leg (parts n) (lt-of-values (parts n) leg n 4096 k 4096 (lit< tt) (lit< tt) v (r .exact) (mul-lt-mul-of-pos-right h (lit< tt)))))
+        (subst (Exactly (parts n)) least v)
 
 -- ---- one tick
 module _ {speed amount : ℕ} (s : Between 1 fastest speed) (a : Between 1 longestTick amount) where
@@ -82,7 +84,8 @@ module _ {speed amount : ℕ} (s : Between 1 fastest speed) (a : Between 1 longe
   step-is =
       let sv = sixtyFourths-value speed (omega arith) in
       let av = sixtyFourths-value amount (omega arith) in
-      mul-at binary64 (sixtyFourths speed) (sixtyFourths amount) speed 64 amount 64 (positive-of-value (sixtyFourths speed) speed 64 sv (s .least)) (positive-of-value (sixtyFourths amount) amount 64 av (a .least)) (lit< tt) (lit< tt) sv av
+      mul-at binary64 (sixtyFourths speed) (sixtyFourths amount) speed 64 amount 64 (positive-of-value (sixtyFourths speed) speed 64 sv (s .least))
+      (positive-of-value (sixtyFourths amount) amount 64 av (a .least)) (lit< tt) (lit< tt) sv av
 
   pub step-pos : 0 < speed * amount
   step-pos = mul-pos (s .least) (a .least)

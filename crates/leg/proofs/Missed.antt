@@ -40,7 +40,8 @@ whole-leg leg l =
 miles-under : (miles leg : Float) → T (positive leg) → T (le (whole 0) miles) → T (le miles leg) → num miles * den leg ≤ num leg * den miles
 miles-under nan leg p h k = absurd (miles-worth nan leg p h k)
 miles-under (inf s) leg p h k = absurd (miles-worth (inf s) leg p h k)
-miles-under (fin false m e) leg p h k = worth-of-le (fin false m e) leg (num (fin false m e)) (den (fin false m e)) (num leg) (den leg) (refl, refl) (value→worth leg (num leg) (den leg) (own-value leg p)) k
+miles-under (fin false m e) leg p h k = worth-of-le (fin false m e) leg (num (fin false m e)) (den (fin false m e))
+    (num leg) (den leg) (refl, refl) (value→worth leg (num leg) (den leg) (own-value leg p)) k
 miles-under (fin true m e) leg p h k =
     let none : num (fin true m e) ≡ 0 = miles-worth (fin true m e) leg p h k .1 in
     le-trans (le-of-eq (ap (λ (z : ℕ). z * den leg) none ∙ zero-mul (den leg))) zero-le
@@ -56,7 +57,8 @@ left-under miles leg l h k =
     let A = num leg * den miles - num miles * den leg in
     let C = den leg * den miles in
     let C0 = mul-pos (den-pos leg) (den-pos miles) in
-    let is : sub binary64 leg miles ≡ round binary64 false A C = sub-worth binary64 leg miles (num leg) (den leg) (num miles) (den miles) (den-pos leg) (den-pos miles) (own-value leg p) (miles-worth miles leg p h k) (miles-under miles leg p h k) in
+    let is : sub binary64 leg miles ≡ round binary64 false A C = sub-worth binary64 leg miles (num leg) (den leg) (num miles) (den miles)
+    (den-pos leg) (den-pos miles) (own-value leg p) (miles-worth miles leg p h k) (miles-under miles leg p h k) in
     let small : num leg * 1 * den miles ≤ longestLegMiles * den leg * den miles = mul-le-mul-right (den miles) (leg-small longestLegMiles (lit< tt) leg l) in
     let cross : A * 1 ≤ longestLegMiles * C = omega (arith, mul-assoc longestLegMiles (den leg) (den miles), ap (λ (z : ℕ). z * den miles) (mul-one (num leg))) in
     let high : T (le (round binary64 false A C) (whole longestLegMiles)) = round-mono binary64 A C longestLegMiles 1 C0 (lit< tt) cross in
@@ -64,7 +66,8 @@ left-under miles leg l h k =
     (elim (rounded A C C0) [
       | inl i ↦ absurd (finite-under (round binary64 false A C) i high)
       | inr v ↦
-          let few = worth-of-le (round binary64 false A C) (whole longestLegMiles) (v .0) (v .1) longestLegMiles 1 (v .3) (value→worth (whole longestLegMiles) longestLegMiles 1 (whole-value longestLegMiles (lit≤ tt))) high in
+          let few = worth-of-le (round binary64 false A C) (whole longestLegMiles) (v .0) (v .1) longestLegMiles 1 (v .3)
+          (value→worth (whole longestLegMiles) longestLegMiles 1 (whole-value longestLegMiles (lit≤ tt))) high in
           record { n = v .0; d = v .1; some = v .2; value = v .3; few = omega arith }
     ])
 
@@ -111,7 +114,8 @@ pub equal-legal : (own leg : Float) → T (legalLeg leg) → T (eq own leg) → 
 equal-legal own leg l e =
     let p = leg-positive longestLegMiles (lit< tt) leg l in
     let v = eq-value own leg p e in
-    let low = worth-of-le (sixtyFourths 1) leg 1 64 (num leg) (den leg) (least-value longestLegMiles (lit< tt) leg l) (value→worth leg (num leg) (den leg) (own-value leg p)) (at-least longestLegMiles (lit< tt) leg l) in
+    let low = worth-of-le (sixtyFourths 1) leg 1 64 (num leg) (den leg) (least-value longestLegMiles (lit< tt) leg l)
+    (value→worth leg (num leg) (den leg) (own-value leg p)) (at-least longestLegMiles (lit< tt) leg l) in
     and-i (le (sixtyFourths 1) own) (le own (whole longestLegMiles))
     (le-of-values (sixtyFourths 1) own 1 64 (num leg) (den leg) (lit< tt) (den-pos leg) (least-value longestLegMiles (lit< tt) leg l) v low)
     (le-of-values own (whole longestLegMiles) (num leg) (den leg) longestLegMiles 1 (den-pos leg) (lit< tt) v (whole-value longestLegMiles (lit≤ tt)) (leg-small longestLegMiles (lit< tt) leg l))
@@ -123,4 +127,5 @@ pub longer-legal : (leg : Float) → T (legalLeg leg) → T (legalMissedLeg leg)
 longer-legal leg l =
     and-i (le (sixtyFourths 1) leg) (le leg (whole longestOwnLegMiles)) (at-least longestLegMiles (lit< tt) leg l)
     (le-up leg (whole longestLegMiles) (whole longestOwnLegMiles) (leg-positive longestLegMiles (lit< tt) leg l) (at-most longestLegMiles (lit< tt) leg l)
-    (le-of-values (whole longestLegMiles) (whole longestOwnLegMiles) longestLegMiles 1 longestOwnLegMiles 1 (lit< tt) (lit< tt) (whole-value longestLegMiles (lit≤ tt)) (whole-value longestOwnLegMiles (lit≤ tt)) (lit≤ tt)))
+    (le-of-values (whole longestLegMiles) (whole longestOwnLegMiles) longestLegMiles 1 longestOwnLegMiles 1 (lit< tt) (lit< tt)
+    (whole-value longestLegMiles (lit≤ tt)) (whole-value longestOwnLegMiles (lit≤ tt)) (lit≤ tt)))

@@ -69,7 +69,8 @@ one-tick-exact-in-4096ths Waiting leg k m r s a h = absurd h
 one-tick-exact-in-4096ths (Flying miles) leg k m r s a h = grid-tick s a miles leg k m r h
 
 -- With n / 4096 miles waited before it, exactly min (4096 * mostWaited) (n + (m + speed * amount - k)) / 4096 after it: what exceeds the leg is added.
-pub one-tick-waited-in-4096ths : (p : Progress) (leg waited : Float) (k m n : ℕ) {speed amount : ℕ} → LegIn4096ths leg k → Between 1 fastest speed → Between 1 longestTick amount → m < 2 ^ 52 → FlownExactly p m
+pub one-tick-waited-in-4096ths : (p : Progress) (leg waited : Float) (k m n : ℕ) {speed amount : ℕ} → LegIn4096ths leg k
+    → Between 1 fastest speed → Between 1 longestTick amount → m < 2 ^ 52 → FlownExactly p m
     → Exactly waited n → Exactly (waitedWith p waited speed amount leg) (min (4096 * mostWaited) (n + (m + speed * amount - k)))
 one-tick-waited-in-4096ths Waiting leg waited k m n r s a few h w = absurd h
 one-tick-waited-in-4096ths (Flying miles) leg waited k m n r s a few h w = waited-grid s a miles leg waited k m n r few h w
@@ -99,7 +100,8 @@ pub one-tick-exact : (p : Progress) (k m : ℕ) {speed amount : ℕ} → Between
 one-tick-exact p k m r = one-tick-exact-in-4096ths p (sixtyFourths k) (64 * k) m (sixty-fourths-in-4096ths k r)
 
 -- with min (4096 * mostWaited) (n + (m + speed * amount - 64 k)) / 4096 miles waited,
-pub one-tick-waited : (p : Progress) (waited : Float) (k m n : ℕ) {speed amount : ℕ} → Between 1 longestLeg k → Between 1 fastest speed → Between 1 longestTick amount → m ≤ 64 * k → FlownExactly p m → Exactly waited n
+pub one-tick-waited : (p : Progress) (waited : Float) (k m n : ℕ) {speed amount : ℕ} → Between 1 longestLeg k
+    → Between 1 fastest speed → Between 1 longestTick amount → m ≤ 64 * k → FlownExactly p m → Exactly waited n
     → Exactly (waitedWith p waited speed amount (sixtyFourths k)) (min (4096 * mostWaited) (n + (m + speed * amount - 64 * k)))
 one-tick-waited p waited k m n r s a few = one-tick-waited-in-4096ths p (sixtyFourths k) waited (64 * k) m n (sixty-fourths-in-4096ths k r) s a (omega arith)
 
@@ -122,10 +124,12 @@ module _ (most : ℕ) (few : most < 2 ^ 41) where
   within-kept-up-to (Flying miles) leg l s a w = flying-within miles leg (leg-positive most few leg l) s a w
 
   -- The miles waited stay between 0 and the most.
-  pub waited-kept-up-to : (p : Progress) (leg waited : Float) {speed amount : ℕ} → T (legUpTo most leg) → Between 1 fastest speed → Between 1 longestTick amount → T (withinLeg p leg) → T (waitedWithin waited)
+  pub waited-kept-up-to : (p : Progress) (leg waited : Float) {speed amount : ℕ} → T (legUpTo most leg)
+      → Between 1 fastest speed → Between 1 longestTick amount → T (withinLeg p leg) → T (waitedWithin waited)
       → T (waitedWithin (waitedWith p waited speed amount leg))
   waited-kept-up-to Waiting leg waited l s a w h = h
-  waited-kept-up-to (Flying miles) leg waited l s a w h = waited-stays s a miles leg waited (leg-positive most few leg l) (and-l (le (whole 0) miles) (le miles leg) w) (and-r (le (whole 0) miles) (le miles leg) w) h
+  waited-kept-up-to (Flying miles) leg waited l s a w h = waited-stays s a miles leg waited (leg-positive most few leg l)
+      (and-l (le (whole 0) miles) (le miles leg) w) (and-r (le (whole 0) miles) (le miles leg) w) h
 
   -- Flown out stays flown out.
   pub flown-out-kept-up-to : (p : Progress) (leg : Float) {speed amount : ℕ} → T (legUpTo most leg) → Between 1 fastest speed → Between 1 longestTick amount → T (flownOut p leg)
@@ -158,7 +162,8 @@ module _ (most : ℕ) (few : most < 2 ^ 41) where
       (subst (λ (z : ℕ). most * 4096 ≤ speed * z) (sym (added-same n longestTick)) (le-trans (le-of-eq (sym (one-mul (most * 4096)))) (mul-le-mul (s .least) slowest)))
 
 -- The same on every legal leg. Within the leg stays within the leg.
-pub within-kept : (p : Progress) (leg : Float) {speed amount : ℕ} → T (legalLeg leg) → Between 1 fastest speed → Between 1 longestTick amount → T (withinLeg p leg) → T (withinLeg (progressAfter p speed amount leg) leg)
+pub within-kept : (p : Progress) (leg : Float) {speed amount : ℕ} → T (legalLeg leg) → Between 1 fastest speed
+    → Between 1 longestTick amount → T (withinLeg p leg) → T (withinLeg (progressAfter p speed amount leg) leg)
 within-kept = within-kept-up-to longestLegMiles (lit< tt)
 
 -- The miles waited stay between 0 and the most.
@@ -167,7 +172,8 @@ pub waited-kept : (p : Progress) (leg waited : Float) {speed amount : ℕ} → T
 waited-kept = waited-kept-up-to longestLegMiles (lit< tt)
 
 -- Flown out stays flown out.
-pub flown-out-kept : (p : Progress) (leg : Float) {speed amount : ℕ} → T (legalLeg leg) → Between 1 fastest speed → Between 1 longestTick amount → T (flownOut p leg) → T (flownOut (progressAfter p speed amount leg) leg)
+pub flown-out-kept : (p : Progress) (leg : Float) {speed amount : ℕ} → T (legalLeg leg) → Between 1 fastest speed
+    → Between 1 longestTick amount → T (flownOut p leg) → T (flownOut (progressAfter p speed amount leg) leg)
 flown-out-kept = flown-out-kept-up-to longestLegMiles (lit< tt)
 
 -- Miles within the leg are neither a NaN nor an infinity,
@@ -175,11 +181,13 @@ pub within-finite : (p : Progress) (leg : Float) → T (legalLeg leg) → T (wit
 within-finite = within-finite-up-to longestLegMiles (lit< tt)
 
 -- nor are they after a tick.
-pub finite-kept : (p : Progress) (leg : Float) {speed amount : ℕ} → T (legalLeg leg) → Between 1 fastest speed → Between 1 longestTick amount → T (withinLeg p leg) → T (finiteMiles (progressAfter p speed amount leg))
+pub finite-kept : (p : Progress) (leg : Float) {speed amount : ℕ} → T (legalLeg leg) → Between 1 fastest speed
+    → Between 1 longestTick amount → T (withinLeg p leg) → T (finiteMiles (progressAfter p speed amount leg))
 finite-kept = finite-kept-up-to longestLegMiles (lit< tt)
 
 -- From any miles within the leg, ticks that fly 64 miles (262144 of the 4096ths) or more between them leave it flown out.
-pub arrival : (miles leg : Float) {speed : ℕ} (amounts : List ℕ) → T (legalLeg leg) → Between 1 fastest speed → TickAmounts amounts → T (withinLeg (Flying miles) leg) → 262144 ≤ speed * addedUp amounts
+pub arrival : (miles leg : Float) {speed : ℕ} (amounts : List ℕ) → T (legalLeg leg) → Between 1 fastest speed
+    → TickAmounts amounts → T (withinLeg (Flying miles) leg) → 262144 ≤ speed * addedUp amounts
     → T (flownOut (afterTicks (Flying miles) speed amounts leg) leg)
 arrival = arrival-up-to longestLegMiles (lit< tt)
 
@@ -194,10 +202,12 @@ arrival-in-4096 = arrival-in-ticks-up-to longestLegMiles (lit< tt)
 pub missed-leg-legal : (missed last : Float) (p : Progress) → T (legalLeg missed) → T (legalLeg last) → T (withinLeg p last) → T (legalMissedLeg (missedLeg missed p last))
 unfolding missedLeg
 missed-leg-legal missed last Waiting l r w = leg-ahead missed last l (whole-leg last r)
-missed-leg-legal missed last (Flying miles) l r w = leg-ahead missed (sub binary64 last miles) l (left-under miles last r (and-l (le (whole 0) miles) (le miles last) w) (and-r (le (whole 0) miles) (le miles last) w))
+missed-leg-legal missed last (Flying miles) l r w = leg-ahead missed (sub binary64 last miles) l
+    (left-under miles last r (and-l (le (whole 0) miles) (le miles last) w) (and-r (le (whole 0) miles) (le miles last) w))
 
 -- With a missed leg of j / 4096 miles and m / 4096 miles flown of k / 4096 it is exactly (j + (k - m)) / 4096 miles.
-pub missed-leg-exact : (missed last : Float) (p : Progress) (j k m : ℕ) → Exactly missed j → Exactly last k → FlownExactly p m → m ≤ k → j + k < 2 ^ 53 → Exactly (missedLeg missed p last) (j + (k - m))
+pub missed-leg-exact : (missed last : Float) (p : Progress) (j k m : ℕ) → Exactly missed j → Exactly last k
+    → FlownExactly p m → m ≤ k → j + k < 2 ^ 53 → Exactly (missedLeg missed p last) (j + (k - m))
 unfolding missedLeg
 missed-leg-exact missed last Waiting j k m h g f under few = absurd f
 missed-leg-exact missed last (Flying miles) j k m h g f under few = ahead-grid missed (sub binary64 last miles) j (k - m) h (left-grid miles last k m g f under (omega arith)) (omega arith)

@@ -56,7 +56,8 @@ past-above leg p a c C = go (lt leg s) refl
           let n = v .0 in
           let d = v .1 in
           let more = worth-of-le leg s (num leg) (den leg) n d (own-value leg p) (value→worth s n d (v .3)) (lt→le leg s e) in
-          subst Above (sym (sub-values binary64 s leg n d (num leg) (den leg) (v .2) (den-pos leg) (v .3) (own-value leg p) more)) (rounded (n * den leg - num leg * d) (d * den leg) (mul-pos (v .2) (den-pos leg)))
+          subst Above (sym (sub-values binary64 s leg n d (num leg) (den leg) (v .2) (den-pos leg) (v .3) (own-value leg p) more))
+          (rounded (n * den leg - num leg * d) (d * den leg) (mul-pos (v .2) (den-pos leg)))
     ]
 
     go : (b : Bool) → lt leg s ≡ b → Above (beyond leg s)
@@ -90,26 +91,30 @@ stays waited past h above =
       | inl i ↦
           let is : sum ≡ inf false = ap (add binary64 waited) i ∙ add-inf waited (num waited) (den waited) w in
           let low-end : T (le (whole 0) (inf false)) = tt in
-          subst (λ (x : Float). T (le (whole 0) (upTo (whole mostWaited) x)) × T (le (upTo (whole mostWaited) x) (whole mostWaited))) (sym is) (clamped false (whole mostWaited) (inf false) (inf-not-under (whole mostWaited)) most-positive low-end)
+          subst (λ (x : Float). T (le (whole 0) (upTo (whole mostWaited) x)) × T (le (upTo (whole mostWaited) x) (whole mostWaited)))
+          (sym is) (clamped false (whole mostWaited) (inf false) (inf-not-under (whole mostWaited)) most-positive low-end)
       | inr v ↦
           let n = v .0 in
           let d = v .1 in
           let a = num waited * d + n * den waited in
           let c = den waited * d in
           let C = mul-pos (den-pos waited) (v .2) in
-          subst (λ (x : Float). T (le (whole 0) (upTo (whole mostWaited) x)) × T (le (upTo (whole mostWaited) x) (whole mostWaited))) (sym (add-worth binary64 waited past (num waited) (den waited) n d (den-pos waited) (v .2) w (v .3)))
+          subst (λ (x : Float). T (le (whole 0) (upTo (whole mostWaited) x)) × T (le (upTo (whole mostWaited) x) (whole mostWaited)))
+          (sym (add-worth binary64 waited past (num waited) (den waited) n d (den-pos waited) (v .2) w (v .3)))
           (clamped (lt (round binary64 false a c) (whole mostWaited)) (whole mostWaited) (round binary64 false a c) refl most-positive (zero-least a c C))
     ] in
     and-i (le (whole 0) (upTo (whole mostWaited) sum)) (le (upTo (whole mostWaited) sum) (whole mostWaited)) (kept .0) (kept .1)
 
 module _ {speed amount : ℕ} (s : Between 1 fastest speed) (a : Between 1 longestTick amount) where
-  pub waited-stays : (miles leg waited : Float) → T (positive leg) → T (le (whole 0) miles) → T (le miles leg) → T (waitedWithin waited) → T (waitedWithin (waitedAfter waited (pastEnd miles speed amount leg)))
+  pub waited-stays : (miles leg waited : Float) → T (positive leg) → T (le (whole 0) miles) → T (le miles leg)
+      → T (waitedWithin waited) → T (waitedWithin (waitedAfter waited (pastEnd miles speed amount leg)))
   unfolding pastEnd
   waited-stays miles leg waited p low high h =
       let b = num miles * 4096 + speed * amount * den miles in
       let c = den miles * 4096 in
       stays waited (pastEnd miles speed amount leg) h
-      (subst (λ (x : Float). Above (beyond leg x)) (sym (sum-is s a miles (num miles) (den miles) (den-pos miles) (miles-worth miles leg p low high))) (past-above leg p b c (mul-pos (den-pos miles) (lit< tt))))
+      (subst (λ (x : Float). Above (beyond leg x)) (sym (sum-is s a miles (num miles) (den miles) (den-pos miles) (miles-worth miles leg p low high)))
+      (past-above leg p b c (mul-pos (den-pos miles) (lit< tt))))
 
 -- ---- on the grid
 -- what n / 4096 miles exceed a leg of k / 4096 by
@@ -143,12 +148,15 @@ unfolding ofInt
 most-exact = record { exact = (refl, refl); some = lit< tt; few = lit< tt }
 
 -- from m / 4096 miles on a leg of k / 4096, with n / 4096 waited: nothing is rounded
-pub waited-grid : {speed amount : ℕ} → Between 1 fastest speed → Between 1 longestTick amount → (miles leg waited : Float) (k m n : ℕ) → LegIn4096ths leg k → m < 2 ^ 52 → Exactly miles m → Exactly waited n
+pub waited-grid : {speed amount : ℕ} → Between 1 fastest speed → Between 1 longestTick amount
+    → (miles leg waited : Float) (k m n : ℕ) → LegIn4096ths leg k → m < 2 ^ 52 → Exactly miles m → Exactly waited n
     → Exactly (waitedAfter waited (pastEnd miles speed amount leg)) (min (4096 * mostWaited) (n + (m + speed * amount - k)))
 unfolding pastEnd waitedAfter
 waited-grid {speed} {amount} s a miles leg waited k m n r few h w =
     let d = m + speed * amount in
     let small = step-small s a in
     let some = step-pos s a in
-    let past : Exactly (pastEnd miles speed amount leg) (d - k) = subst (λ (x : Float). Exactly (beyond leg x) (d - k)) (sym (sum-grid s a miles m h)) (beyond-grid leg k d r (omega arith) (omega arith)) in
-    subst (λ (x : Float). Exactly (upTo (whole mostWaited) x) (min (4096 * mostWaited) (n + (d - k)))) (sym (add-grid waited (pastEnd miles speed amount leg) n (d - k) w past)) (upTo-grid (whole mostWaited) (4096 * mostWaited) (n + (d - k)) most-exact)
+    let past : Exactly (pastEnd miles speed amount leg) (d - k) = subst (λ (x : Float). Exactly (beyond leg x) (d - k)) (sym (sum-grid s a miles m h))
+    (beyond-grid leg k d r (omega arith) (omega arith)) in
+    subst (λ (x : Float). Exactly (upTo (whole mostWaited) x) (min (4096 * mostWaited) (n + (d - k)))) (sym (add-grid waited (pastEnd miles speed amount leg) n (d - k) w past))
+    (upTo-grid (whole mostWaited) (4096 * mostWaited) (n + (d - k)) most-exact)

@@ -1,9 +1,12 @@
 // An aircraft's progress along one leg, in miles as an `f64`. A tick of `amount` 64ths of a minute at
 // `speed` 64ths of a mile a minute adds (speed / 64) * (amount / 64) miles, but flies no further than the leg is long.
 // Every function is total: on every `u16`, and on every `f64`, NaN and the infinities included.
+use limits::LONGEST_LEG_MILES;
 use limits::LONGEST_OWN_LEG;
 use limits::MOST_WAITED;
 ghost use mathlib.Core.Path.{_≡_};
+ghost use mathlib.Core.Bool.{_&&_};
+ghost use lib.Ieee.{le};
 ghost use Rattle.leg.specs.Progress.{upTo, beyond, advancing, waitedAfter, waitedWithin, flownOut, remaining, missedLeg, withinLeg, legalLeg, legalMissedLeg, sixtyFourths};
 
 // The progress of an aircraft (01, "The boxes"): it waits, or it flies and has flown these miles of its leg.
@@ -99,22 +102,25 @@ pub fn within(p: Progress, leg: f64) -> bool
     }
 }
 
-// Whether a leg's length is from 1/64 of a mile to 64 miles.
+// Whether a leg's length is from 1/64 of a mile to these miles.
+fn leg_up_to(most: f64, leg: f64) -> bool
+    ensures { λ r. ⌜ r ≡ (le (sixtyFourths 1) leg && le leg most) ⌝ }
+{
+    if 0.015625 <= leg { leg <= most } else { false }
+}
+
+// Whether a leg's length is from 1/64 of a mile to the longest.
 pub fn legal(leg: f64) -> bool
     ensures { λ r. ⌜ r ≡ legalLeg leg ⌝ }
 {
-    if 0.015625 <= leg { leg <= 64.0 } else { false }
+    leg_up_to(LONGEST_LEG_MILES, leg)
 }
 
 // Whether the leg ahead after a miss is from 1/64 of a mile to the longest.
 pub fn legal_missed(leg: f64) -> bool
     ensures { λ r. ⌜ r ≡ legalMissedLeg leg ⌝ }
 {
-    if 0.015625 <= leg {
-        leg <= LONGEST_OWN_LEG
-    } else {
-        false
-    }
+    leg_up_to(LONGEST_OWN_LEG, leg)
 }
 
 // A leg of k 64ths of a mile.

@@ -12,8 +12,14 @@ pub const DESKS: u16 = 2;
 // The longest leg of a practice file, in 64ths of a mile.
 pub const LONGEST_LEG: u16 = 4096;
 
+// The same length in miles, as a field holds it.
+pub const LONGEST_LEG_MILES: f64 = 64.0;
+
 // The longest leg of an aircraft's own, in miles.
 pub const LONGEST_OWN_LEG: f64 = 128.0;
+
+// The most requests of a practice file.
+pub const MOST_REQUESTS: usize = 4096;
 
 // The most miles past the ends of legs that are added up of an aircraft.
 pub const MOST_WAITED: f64 = 4096.0;

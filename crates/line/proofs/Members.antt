@@ -95,7 +95,10 @@ every-in xs ys h = go xs (λ n. count-le n)
       where
         positive : (n : ℕ) → isIn n xs ≡ true → 1 ≤ count xs n
         positive n e =
-            elim (decided (leb 1 (count xs n))) [ inl t ↦ leb→le 1 (count xs n) (pass t) | inr t ↦ absurd (true≢false (sym e ∙ absent-count xs n (let k = borrow.Author.Tests.leb-false 1 (count xs n) t in omega arith))) ]
+            elim (decided (leb 1 (count xs n))) [
+              | inl t ↦ leb→le 1 (count xs n) (pass t)
+              | inr t ↦ absurd (true≢false (sym e ∙ absent-count xs n (let k = borrow.Author.Tests.leb-false 1 (count xs n) t in omega arith)))
+            ]
 
     go : (zs : List ℕ) → ((n : ℕ) → isIn n zs ≡ true → isIn n ys ≡ true) → T (every (λ n. isIn n ys) zs)
     go [] k = tt

@@ -100,7 +100,8 @@ module _ (f : Side) (a : List Placed) (e : Placed) (b : List Placed) (runway : L
   fit-here = and-l (placedFits legs e) (every (placedFits legs) b) (Rattle.line.proofs.Lists.every-right (placedFits legs) a (e ∷ b) (o .fit-line))
 
   -- a move that the model allows, to zone w
-  module _ (w : ℕ) (heads : T (free (zonesIn a) (e .zone))) (behind : T (free (zonesIn b) w)) (other : T (not (eqb w (e .zone)))) (in-zone : T (within 1 12 w)) (after : T (okay f (zonesIn a ++ w ∷ zonesIn b))) where
+  module _ (w : ℕ) (heads : T (free (zonesIn a) (e .zone))) (behind : T (free (zonesIn b) w)) (other : T (not (eqb w (e .zone))))
+      (in-zone : T (within 1 12 w)) (after : T (okay f (zonesIn a ++ w ∷ zonesIn b))) where
     may-move : MayMove a e b w
     may-move =
         record {

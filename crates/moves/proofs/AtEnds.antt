@@ -181,7 +181,8 @@ pub after-entry : (s f : Side) (line : List Placed) (runway : List Aircraft) (le
     → DeskKnown (r .desk) → (r .kind ≡ 12 → ⊥) → T (not (leaves (r .kind))) → After f line runway legs r
 unfolding entering
 after-entry s f line runway legs o r w t u side kind eff k n d fast desk tick stays =
-    let room = let p = okay-length (firstFix s f (zonesIn line)) (zonesIn line ++ (w ∷ [])) k in let q = length-append (zonesIn line) (w ∷ []) in let v = length-zones line in let g : length line < 4 = omega arith in g in
+    let room = let p = okay-length (firstFix s f (zonesIn line)) (zonesIn line ++ (w ∷ [])) k in let q = length-append (zonesIn line) (w ∷ []) in
+    let v = length-zones line in let g : length line < 4 = omega arith in g in
     let e = entrant s f line runway legs r w t room side in
     record {
       first-after = firstFix s f (zonesIn line);
@@ -205,8 +206,10 @@ after-entry s f line runway legs o r w t u side kind eff k n d fast desk tick st
           λ v.
           record {
             carry =
-                λ Q p q.
-                (each-append (Came legs r Q) line (e ∷ []) (stay-all legs r Q line (absent-left (r .number) (numbersOf line) (numbers runway) d) p) (came-in new, tt), stay-runway legs r Q runway (absent-right (r .number) (numbersOf line) (numbers runway) d) q);
+                λ Q p q. (
+                  each-append (Came legs r Q) line (e ∷ []) (stay-all legs r Q line (absent-left (r .number) (numbersOf line) (numbers runway) d) p) (came-in new, tt),
+                  stay-runway legs r Q runway (absent-right (r .number) (numbersOf line) (numbers runway) d) q,
+                );
           };
       ticked-on = λ v. absurd (tick v);
       runway-on = λ v. absurd (tick v);

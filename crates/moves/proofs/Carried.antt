@@ -116,8 +116,10 @@ carried-one legs r a e g b runway d named k on =
       carry =
           λ Q p q.
           let rest = each-right Q a (e ∷ b) p in (
-            each-append (Came legs r Q) a (g ∷ b) (stay-all legs r Q a (ap (λ (m : ℕ). isIn m (numbersOf a)) named ∙ al .ahead) (each-left Q a (e ∷ b) p))
-                (went e (rest .0) on (sym named) k, stay-all legs r Q b (ap (λ (m : ℕ). isIn m (numbersOf b)) named ∙ absent-left (e .aircraft .number) (numbersOf b) (numbers runway) (al .behind)) (rest .1)),
+            each-append (Came legs r Q) a (g ∷ b) (stay-all legs r Q a (ap (λ (m : ℕ). isIn m (numbersOf a)) named ∙ al .ahead) (each-left Q a (e ∷ b) p)) (
+              went e (rest .0) on (sym named) k,
+              stay-all legs r Q b (ap (λ (m : ℕ). isIn m (numbersOf b)) named ∙ absent-left (e .aircraft .number) (numbersOf b) (numbers runway) (al .behind)) (rest .1),
+            ),
             stay-runway legs r Q runway (ap (λ (m : ℕ). isIn m (numbers runway)) named ∙ absent-right (e .aircraft .number) (numbersOf b) (numbers runway) (al .behind)) q,
           );
     }

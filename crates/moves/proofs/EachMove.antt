@@ -125,7 +125,8 @@ module _ (f : Side) (line : List Placed) (runway : List Aircraft) (legs : Legs) 
 
   -- the aircraft of a request whose kind starts from a zone of the line
   moving : (k : ℕ) → r .kind ≡ k → T (within 1 13 k) → (k ≡ 8 → ⊥) → firstRefused (headChecks k (placeBefore G r) (owned G r) ++ besides G r k) ≡ 0
-      → ((h : Heading f line runway legs r) → Orderly f (h .ahead ++ h .here ∷ h .behind) runway legs → firstRefused (besides (fieldOf f (h .ahead ++ h .here ∷ h .behind) runway legs) r k) ≡ 0 → After f (h .ahead ++ h .here ∷ h .behind) runway legs r)
+      → ((h : Heading f line runway legs r) → Orderly f (h .ahead ++ h .here ∷ h .behind) runway legs
+      → firstRefused (besides (fieldOf f (h .ahead ++ h .here ∷ h .behind) runway legs) r k) ≡ 0 → After f (h .ahead ++ h .here ∷ h .behind) runway legs r)
       → After f line runway legs r
   moving k h t n c go =
       let p = head-passed k (placeBefore G r) (owned G r) (besides G r k) c in
@@ -178,7 +179,8 @@ module _ (f : Side) (line : List Placed) (runway : List Aircraft) (legs : Legs) 
             let t = zone-in f (h .ahead) (h .here) (h .behind) runway legs q in
             let z = eqb-true (h .here .zone) 13 (passed (taxi-from (h .here .zone) (lower (h .here .zone) t) (subst (λ (j : ℕ). T (startsFrom j (h .here .zone))) k (h .starts)))) in
             absurd (let u = leb→le (h .here .zone) 12 (and-r (leb 1 (h .here .zone)) (leb (h .here .zone) 12) t) in omega arith)
-        | inr d ↦ subst (λ (l : List Aircraft). After f line l legs r) (sym (d .whole)) (after-8 f line (d .one) legs (subst (λ (l : List Aircraft). Orderly f line l legs) (d .whole) o) r (d .named) k (d .owned-by))
+        | inr d ↦ subst (λ (l : List Aircraft). After f line l legs r) (sym (d .whole))
+            (after-8 f line (d .one) legs (subst (λ (l : List Aircraft). Orderly f line l legs) (d .whole) o) r (d .named) k (d .owned-by))
       ]
 
   -- kind 9

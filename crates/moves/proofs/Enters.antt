@@ -112,7 +112,8 @@ module _ (s f : Side) (line : List Placed) (runway : List Aircraft) (legs : Legs
       ∙ ended s f line entrant runway legs room
 
 -- ---- kind 10
-module _ (f : Side) (e : Placed) (b : List Placed) (runway : List Aircraft) (legs : Legs) (r : Request) (h : e .zone ≡ 12) (room : length b < 4) (fix : e .aircraft .fix ≡ num f) (number : r .number ≡ e .aircraft .number) (d : T (allDifferent (numbersOf (e ∷ b) ++ numbers runway))) where
+module _ (f : Side) (e : Placed) (b : List Placed) (runway : List Aircraft) (legs : Legs) (r : Request) (h : e .zone ≡ 12) (room : length b < 4) (fix : e .aircraft .fix ≡ num f)
+    (number : r .number ≡ e .aircraft .number) (d : T (allDifferent (numbersOf (e ∷ b) ++ numbers runway))) where
   abbrev F₁₀ : Field
   F₁₀ = fieldOf f (e ∷ b) runway legs
 

@@ -77,7 +77,8 @@ module _ (f : Side) (line : List Placed) (runway : List Aircraft) (legs : Legs) 
   abbrev n : ℕ
   n = r .number
 
-  module _ (known : not (eqb (zoneBefore F r) 0) ≡ true) (own : belongsTo F (placeOf F n) (r .desk) ≡ true) (from : startsFrom (r .kind) (zoneBefore F r) ≡ true) (first : eqb (placeOf F n .place) 1 ≡ true) where
+  module _ (known : not (eqb (zoneBefore F r) 0) ≡ true) (own : belongsTo F (placeOf F n) (r .desk) ≡ true)
+      (from : startsFrom (r .kind) (zoneBefore F r) ≡ true) (first : eqb (placeOf F n .place) 1 ≡ true) where
     -- the desk of the one at the place is the request's
     desk-is : {g : Field} {p : Place} {a : Aircraft} → F ≡ g → placeOf g n ≡ p → aircraftAt g (p .zone) (p .place) ≡ a → r .desk ≡ a .desk
     unfolding belongsTo
@@ -122,7 +123,14 @@ module _ (f : Side) (line : List Placed) (runway : List Aircraft) (legs : Legs) 
               let c : n ≡ x .number = sym (eqb-true (x .number) n b) in
               let p : placeOf (fieldOf f line (x ∷ []) legs) n ≡ at 13 1 =
               ap (placeOf (fieldOf f line (x ∷ []) legs)) c ∙ located-runway f line x legs (ap (λ (m : ℕ). isIn m (numbersOf line)) (sym c) ∙ d) in
-              record { one = x; whole = e; named = c; place-is = p; starts = pass (ap (λ (y : Place). startsFrom (r .kind) (y .zone)) (sym (q ∙ p)) ∙ from); owned-by = desk-is (ap (λ (l : List Aircraft). fieldOf f line l legs) e) p (runway-head f line x legs) }
+              record {
+                one = x;
+                whole = e;
+                named = c;
+                place-is = p;
+                starts = pass (ap (λ (y : Place). startsFrom (r .kind) (y .zone)) (sym (q ∙ p)) ∙ from);
+                owned-by = desk-is (ap (λ (l : List Aircraft). fieldOf f line l legs) e) p (runway-head f line x legs);
+              }
           | inr b ↦ absurd (false≢true (ap (λ (y : Place). not (eqb (y .zone) 0)) (sym (q ∙ not-located f line (x ∷ []) legs n d (ap (λ (t : Bool). t || false) b))) ∙ known))
         ]
     on-the-runway (x ∷ y ∷ rest) e h d = absurd (omega arith)

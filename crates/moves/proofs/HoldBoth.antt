@@ -58,7 +58,8 @@ unfolding isFlyingZone sideOf
 waits-above z t u = failed {b = isFlyingZone (at3000 (sideOf z))} (zones-imply (within 7 8) (λ z. not (isFlyingZone (at3000 (sideOf z)))) tt z t u)
 
 -- ---- the line a, g, b, e, c: g at 3000 and e in the missed zone
-module _ (f : Side) (a : List Placed) (g : Placed) (b : List Placed) (e : Placed) (c : List Placed) (runway : List Aircraft) (legs : Legs) (o : Orderly f (a ++ g ∷ (b ++ e ∷ c)) runway legs) (r : Request)
+module _ (f : Side) (a : List Placed) (g : Placed) (b : List Placed) (e : Placed) (c : List Placed) (runway : List Aircraft)
+    (legs : Legs) (o : Orderly f (a ++ g ∷ (b ++ e ∷ c)) runway legs) (r : Request)
     (named : r .number ≡ e .aircraft .number) (missed-zone : T (within 7 8 (e .zone))) (above : g .zone ≡ at3000 (sideOf (e .zone))) (heads : T (free (zonesIn (a ++ g ∷ b)) (e .zone))) where
   abbrev z : ℕ
   z = e .zone

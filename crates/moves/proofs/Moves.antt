@@ -95,7 +95,8 @@ pub record MayMove (a : List Placed) (e : Placed) (b : List Placed) (w : ℕ) : 
   pub none-behind : inside w b ≡ []
   pub room : length (a ++ e ∷ b) ≤ 4
 
-module _ (f : Side) (a : List Placed) (e : Placed) (b : List Placed) (runway : List Aircraft) (legs : Legs) (w : ℕ) (m : MayMove a e b w) (d : T (allDifferent (numbersOf (a ++ e ∷ b) ++ numbers runway))) where
+module _ (f : Side) (a : List Placed) (e : Placed) (b : List Placed) (runway : List Aircraft) (legs : Legs) (w : ℕ)
+    (m : MayMove a e b w) (d : T (allDifferent (numbersOf (a ++ e ∷ b) ++ numbers runway))) where
   abbrev F : Field
   F = fieldOf f (a ++ e ∷ b) runway legs
 

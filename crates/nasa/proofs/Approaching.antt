@@ -180,7 +180,8 @@ module _ (f : Field) (h : T (hasPlaces f)) (r : Request) (k : r .kind ≡ 4) (e 
       asked = initiates f (bounded f h r e) r (lez s) at a u s own ∙ and-comm free may
 
       to : (w : Zone) (g : ℕ → ℕ) → T (differing (lez s) w) → g (num s) ≡ zoneNumber w → effectOf f r ≡ moved f z₀ (g (sideOf z₀))
-          → lateralApproachInitiation s (stateOf f) ≡ add (put (stateOf f) (lez s) (map (seen f (zoneNumber (lez s))) (a .rest))) w (seen f (zoneNumber (lez s)) (a .x)) ∷ [] → Is f r (lateralApproachInitiation s)
+          → lateralApproachInitiation s (stateOf f) ≡ add (put (stateOf f) (lez s) (map (seen f (zoneNumber (lez s))) (a .rest))) w (seen f (zoneNumber (lez s)) (a .x))
+          ∷ [] → Is f r (lateralApproachInitiation s)
       to w g d q p i =
           leads f r (lateralApproachInitiation s) (there f h r e (lez s) w at a d) (moved f (zoneNumber (lez s)) (zoneNumber w)) e
           (p ∙ ap (λ (y : ℕ). moved f z₀ (g y)) own ∙ ap (moved f z₀) q ∙ ap (λ (y : ℕ). moved f y (zoneNumber w)) at) i (goes f h r e (lez s) w at a d)

@@ -139,7 +139,8 @@ module _ (f : Field) (h : T (hasPlaces f)) (r : Request) (k : r .kind ≡ 1) (e 
       all-five {a} {b} {c} {d} {g} p q u v w = rw (p, q, u, v, w)
 
 -- ---- kind 1, where somebody is at 3000: the descend of that one, and then the entry
-module _ (f : Field) (h : T (hasPlaces f)) (r : Request) (k : r .kind ≡ 1) (e : numberOf f r ≡ 0) (s : Side) (asks : r .side ≡ num s) (b : Between 1 2 (r .side)) (taken : isEmpty f (zoneNumber (holding3 s)) ≡ false) where
+module _ (f : Field) (h : T (hasPlaces f)) (r : Request) (k : r .kind ≡ 1) (e : numberOf f r ≡ 0) (s : Side) (asks : r .side ≡ num s)
+    (b : Between 1 2 (r .side)) (taken : isEmpty f (zoneNumber (holding3 s)) ≡ false) where
   abbrev up : ℕ
   up = zoneNumber (holding3 s)
 

@@ -22,9 +22,11 @@ use Rattle.rules.proofs.Checks.{checks-at}
 use Rattle.field.proofs.Tests.{passed, if-true, if-false}
 use Rattle.nasa.specs.Definitions.{Zone, holding3, holding2, lez, maz, base, intermediate, final, runway, SCA, approachAssigned, virtual}
 use Rattle.nasa.specs.Definitions as model
-use Rattle.nasa.specs.Rules.{Transition, nobodyIn, zoneNumber, mayInitiate, verticalEntry, lateralEntry, holdingPatternDescend, verticalApproachInitiation, lateralApproachInitiation, merging, exit, finalSegment, landing, taxing, missedApproach, lowestAvailableAltitude}
+use Rattle.nasa.specs.Rules.{Transition, nobodyIn, zoneNumber, mayInitiate, verticalEntry, lateralEntry, holdingPatternDescend, verticalApproachInitiation}
+use Rattle.nasa.specs.Rules.{lateralApproachInitiation, merging, exit, finalSegment, landing, taxing, missedApproach, lowestAvailableAltitude}
 use Rattle.nasa.specs.Stands.{sideNamed, seen, stateOf, entryAbove}
-use Rattle.nasa.specs.Enabled.{vertically, laterally, descends, initiates, initiatesLateral, merges, holds, exits, goesFinal, lands, taxies, misses, Entrant, entryRequest, headRequest, mayCome, LeadsTo, Enabled}
+use Rattle.nasa.specs.Enabled.{vertically, laterally, descends, initiates, initiatesLateral, merges, holds, exits, goesFinal}
+use Rattle.nasa.specs.Enabled.{lands, taxies, misses, Entrant, entryRequest, headRequest, mayCome, LeadsTo, Enabled}
 use Rattle.nasa.proofs.Heads.{first-of, nobody-in}
 use Rattle.nasa.proofs.Moves.{each-side}
 use Rattle.nasa.proofs.Approaching as asked

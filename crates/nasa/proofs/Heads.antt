@@ -133,7 +133,8 @@ module _ (f : Field) (h : T (hasPlaces f)) (r : Request) (e : numberOf f r ≡ 0
     heads =
         let present : isIn (r .number) (numbersIn f everywhere) ≡ true = is-in (isIn (r .number) (numbersIn f everywhere)) (found-exactly f (r .number)) (heading .known) in
         let p = found-there f (r .number) present in
-        go (inZone f (zoneBefore f r)) refl (subst (λ (y : Place). y .place ≤ howMany f (zoneBefore f r)) found (p .last)) (subst (λ (y : Place). aircraftAt f (zoneBefore f r) (y .place) .number ≡ r .number) found (p .has))
+        go (inZone f (zoneBefore f r)) refl (subst (λ (y : Place). y .place ≤ howMany f (zoneBefore f r)) found (p .last))
+        (subst (λ (y : Place). aircraftAt f (zoneBefore f r) (y .place) .number ≡ r .number) found (p .has))
       where
         is-in : (b : Bool) → eqb (zoneBefore f r) 0 ≡ not b → not (eqb (zoneBefore f r) 0) ≡ true → b ≡ true
         is-in true a c = refl

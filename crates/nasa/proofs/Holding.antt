@@ -79,7 +79,8 @@ module _ (f : Field) (h : T (hasPlaces f)) (r : Request) (k : r .kind ≡ 11) (e
     g = moved f up down
 
     apart : (z w : Side → Zone) → T (differing (z right) (w right)) → T (differing (z left) (w left)) → zoneNumber (z s) ≢ zoneNumber (w s)
-    apart z w p q = each-side (λ s. zoneNumber (z s) ≢ zoneNumber (w s)) (unlike (zoneNumber (z right)) (zoneNumber (w right)) p) (unlike (zoneNumber (z left)) (zoneNumber (w left)) q) s
+    apart z w p q = each-side (λ s. zoneNumber (z s) ≢ zoneNumber (w s)) (unlike (zoneNumber (z right)) (zoneNumber (w right)) p)
+        (unlike (zoneNumber (z left)) (zoneNumber (w left)) q) s
       where
         unlike : (m n : ℕ) → T (within 1 12 m && within 1 12 n && not (eqb m n)) → m ≢ n
         unlike m n t = eqb-false m n (failed (and-r (within 1 12 m && within 1 12 n) (not (eqb m n)) t))
@@ -148,7 +149,8 @@ module _ (f : Field) (h : T (hasPlaces f)) (r : Request) (k : r .kind ≡ 11) (e
       go (inr p) q =
           let top = begins (inZone f up) p in
           let below : at2000 up ≡ down = each-side (λ s. at2000 (zoneNumber (holding3 s)) ≡ zoneNumber (holding2 s)) refl refl s in
-          leads f r (lowestAvailableAltitude s) (add (put (between (top .0) (top .1) (top .2)) (maz s) (map (seen f zn) (a .rest))) (holding3 s) (seen f zn (a .x))) (moved (moved f up down) zn up) e
+          leads f r (lowestAvailableAltitude s) (add (put (between (top .0) (top .1) (top .2)) (maz s) (map (seen f zn) (a .rest))) (holding3 s) (seen f zn (a .x)))
+          (moved (moved f up down) zn up) e
           (effect ∙ if-false _ _ (ap (isEmpty f) upper ∙ p) ∙ ap (λ (y : ℕ). moved (descended f y) z₀ y) upper
           ∙ ap (λ (y : ℕ). moved (moved f up y) z₀ up) below ∙ ap (λ (y : ℕ). moved (moved f up down) y up) at)
           (first-of f (maz s) (a .x) (a .rest) in-missed _ ∙ if-false _ _ (nobody-in f (holding3 s) ∙ p) ∙ first-of f (holding3 s) (top .0) (top .1) (top .2) _)

@@ -45,7 +45,8 @@ pub one-fewer : (n : ℕ) (ns : List ℕ) → suc (length ns) ≡ lowered (suc (
 one-fewer n ns = let e : suc (length ns) ≡ suc (suc (length ns)) - 1 = omega arith in e ∙ sym (if-false 1 (suc (suc (length ns)) - 1) (ne-eqb (suc (suc (length ns))) 1 (λ q. omega arith)))
 
 -- ---- kind 7
-module _ (f : Field) (h : T (hasPlaces f)) (r : Request) (k : r .kind ≡ 7) (e : numberOf f r ≡ 0) (x : field.Aircraft) (rest : List field.Aircraft) (here : inZone f 12 ≡ x ∷ rest) (named : x .number ≡ r .number)
+module _ (f : Field) (h : T (hasPlaces f)) (r : Request) (k : r .kind ≡ 7) (e : numberOf f r ≡ 0) (x : field.Aircraft)
+    (rest : List field.Aircraft) (here : inZone f 12 ≡ x ∷ rest) (named : x .number ≡ r .number)
     (free : isEmpty f 13 ≡ true) (ns : List ℕ) (o : orderOf (f .sequence) ≡ x .number ∷ ns) where
   abbrev g : Field
   g = landed f r
@@ -150,7 +151,8 @@ land-is f h r k e =
     (landed-state f h r k e (a .x) (a .rest) here (a .named) free (b .0) (b .1))
 
 -- ---- kind 9
-module _ (f : Field) (h : T (hasPlaces f)) (r : Request) (k : r .kind ≡ 9) (e : numberOf f r ≡ 0) (x : field.Aircraft) (rest : List field.Aircraft) (here : inZone f 11 ≡ x ∷ rest) (named : x .number ≡ r .number)
+module _ (f : Field) (h : T (hasPlaces f)) (r : Request) (k : r .kind ≡ 9) (e : numberOf f r ≡ 0) (x : field.Aircraft)
+    (rest : List field.Aircraft) (here : inZone f 11 ≡ x ∷ rest) (named : x .number ≡ r .number)
     (ns : List ℕ) (o : orderOf (f .sequence) ≡ x .number ∷ ns) where
   abbrev g₉ : Field
   g₉ = exited f r

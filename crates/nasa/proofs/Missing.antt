@@ -75,7 +75,8 @@ decrease-append [] q = refl
 decrease-append (a ∷ p) q = ap (λ (l : List Aircraft). record { seq = a .seq - 1; mahf = a .mahf } ∷ l) (decrease-append p q)
 
 -- ---- kind 10
-module _ (f : Field) (h : T (hasPlaces f)) (r : Request) (k : r .kind ≡ 10) (e : numberOf f r ≡ 0) (x : field.Aircraft) (rest : List field.Aircraft) (here : inZone f 12 ≡ x ∷ rest) (named : x .number ≡ r .number)
+module _ (f : Field) (h : T (hasPlaces f)) (r : Request) (k : r .kind ≡ 10) (e : numberOf f r ≡ 0) (x : field.Aircraft)
+    (rest : List field.Aircraft) (here : inZone f 12 ≡ x ∷ rest) (named : x .number ≡ r .number)
     (ns : List ℕ) (o : orderOf (f .sequence) ≡ x .number ∷ ns) where
   abbrev g : Field
   g = rules.missedApproach f r

@@ -13,7 +13,8 @@ use Rattle.questions.specs.Find.{placeOf, aircraftAt}
 use Rattle.rules.specs.Step.{stepOf}
 use Rattle.order.specs.Model.{Side, num}
 use Rattle.nasa.specs.Definitions.{Zone, holding3, holding2, lez, maz, base, intermediate, final, runway, SCA}
-use Rattle.nasa.specs.Rules.{Transition, zoneNumber, verticalEntry, lateralEntry, holdingPatternDescend, verticalApproachInitiation, lateralApproachInitiation, merging, exit, finalSegment, landing, taxing, missedApproach, lowestAvailableAltitude}
+use Rattle.nasa.specs.Rules.{Transition, zoneNumber, verticalEntry, lateralEntry, holdingPatternDescend, verticalApproachInitiation, lateralApproachInitiation}
+use Rattle.nasa.specs.Rules.{merging, exit, finalSegment, landing, taxing, missedApproach, lowestAvailableAltitude}
 use Rattle.nasa.specs.Stands.{stateOf}
 
 -- ---- the transitions by name

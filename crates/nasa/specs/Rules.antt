@@ -6,7 +6,8 @@ use Prim.Native.Nat.{ℕ, _-_}
 use lib.Dec.{eqb, leb, ltb}
 use lib.ListN.{length}
 use Rattle.order.specs.Model.{Side, right, left, opp}
-use Rattle.nasa.specs.Definitions.{Aircraft, Zone, holding3, holding2, lez, maz, base, intermediate, final, runway, SCA, first, isFirst, leader, next, onZone, decrease, onApproach, approachAssigned, virtual, aircraft, reassign}
+use Rattle.nasa.specs.Definitions.{Aircraft, Zone, holding3, holding2, lez, maz, base, intermediate, final, runway, SCA}
+use Rattle.nasa.specs.Definitions.{first, isFirst, leader, next, onZone, decrease, onApproach, approachAssigned, virtual, aircraft, reassign}
 
 -- ---- what transitions are made of
 

@@ -36,7 +36,8 @@ use Rattle.emptied.proofs.Arriving.{FlownAfter, all-arrive, after-tick, all-flo
 use Rattle.nasa.specs.Definitions.{Zone, maz, base, intermediate, final, SCA}
 use Rattle.nasa.specs.Rules.{zoneNumber, merging, exit, finalSegment, landing, lowestAvailableAltitude}
 use Rattle.nasa.specs.Stands.{stateOf}
-use Rattle.nasa.specs.Enabled.{Name, vertically, laterally, descends, initiates, initiatesLateral, merges, holds, exits, goesFinal, lands, taxies, misses, transition, Entrant, requestFor, mayCome, flownOutIn, ready}
+use Rattle.nasa.specs.Enabled.{Name, vertically, laterally, descends, initiates, initiatesLateral, merges, holds, exits, goesFinal}
+use Rattle.nasa.specs.Enabled.{lands, taxies, misses, transition, Entrant, requestFor, mayCome, flownOutIn, ready}
 use Rattle.nasa.specs.Runs.{start, onward}
 use Rattle.nasa.proofs.Moves.{each-side}
 use Rattle.nasa.proofs.Steps.{ticked-state}

@@ -27,7 +27,8 @@ ghost use lib.Dec.{eqb};
 ghost use Rattle.request.specs.Input.{within, firstRefused};
 ghost use Rattle.field.specs.Boxes.{at3000, at2000, lateral, missed};
 ghost use Rattle.questions.specs.Counts.{isEmpty};
-ghost use Rattle.rules.specs.Kinds.{startsFrom, belongsTo, headChecks, presenceChecks, flownOutCheck, mayApproach, mayMerge, baseFree, verticalNeeds, lateralNeeds, descendNeeds, approachNeeds, mergeNeeds, flownOutNeeds, landNeeds, exitNeeds};
+ghost use Rattle.rules.specs.Kinds.{startsFrom, belongsTo, headChecks, presenceChecks, flownOutCheck, mayApproach, mayMerge, baseFree};
+ghost use Rattle.rules.specs.Kinds.{verticalNeeds, lateralNeeds, descendNeeds, approachNeeds, mergeNeeds, flownOutNeeds, landNeeds, exitNeeds};
 ghost use Rattle.rules.specs.Step.{needsFor, checksFor};
 
 // Whether a kind starts from a zone.

@@ -13,7 +13,8 @@ use Rattle.request.specs.Input.{within}
 use Rattle.field.specs.Boxes.{opposite, sideOf, at3000, at2000, lateral, missed, area, operation, zonesFrom}
 use Rattle.questions.specs.Counts.{total}
 use Rattle.field.specs.Lists.{every}
-use Rattle.order.specs.Model.{Side, right, left, opp, num, count, countFix, free, isNil, Kind, descend, approaching, merge, final, hold, needs, target, mayComeIn, mayEnter, mayEnterLateral, firstFix, all, okay, weight, heaviest}
+use Rattle.order.specs.Model.{Side, right, left, opp, num, count, countFix, free, isNil, Kind, descend, approaching, merge}
+use Rattle.order.specs.Model.{final, hold, needs, target, mayComeIn, mayEnter, mayEnterLateral, firstFix, all, okay, weight, heaviest}
 use Rattle.field.proofs.Tests.{implies, implied}
 use Rattle.order.proofs.Claims.{EachHolds, Claim, Test, Passed, ofAll, of-all, One, Two, ofSequences, of-sequence, ofOnes, of-one, ofTwos, of-two}
 

@@ -14,14 +14,16 @@ use Rattle.field.specs.declared.Aircraft.{Aircraft}
 use Rattle.field.specs.declared.Zone.{Zone}
 use Rattle.field.specs.declared.Sequence.{Sequence}
 use Rattle.field.specs.declared.Field.{Field}
-use Rattle.field.specs.Boxes.{opposite, sideOf, at3000, at2000, lateral, missed, base, intermediate, finalApproach, runway, isFlyingZone, nobody, emptyZone, zoneOf, queueOf, inZone, entering, onLeg, arrived, turnedAway, withFix}
+use Rattle.field.specs.Boxes.{opposite, sideOf, at3000, at2000, lateral, missed, base, intermediate, finalApproach, runway, isFlyingZone}
+use Rattle.field.specs.Boxes.{nobody, emptyZone, zoneOf, queueOf, inZone, entering, onLeg, arrived, turnedAway, withFix}
 use Rattle.field.specs.Edits.{withoutHead, withTail, appended, removed, withZone, withSequence}
 use Rattle.field.specs.Lists.{Each}
 use Rattle.field.proofs.Tests.{decided, either-way}
 use Rattle.questions.specs.Counts.{isEmpty}
 use Rattle.questions.specs.Find.{aircraftAt}
 use Rattle.tick.specs.Tick.{tickedAircraft, tickedZone, tickedFrom, ticked}
-use Rattle.rules.specs.Kinds.{zoneBefore, zoneAhead, headGone, tailPut, moved, descended, outOfSequence, fixTaken, entered, madeRoom, enteredAbove, mayApproach, baseFree, approached, landed, exited, fixAfterMiss, missedApproach, held}
+use Rattle.rules.specs.Kinds.{zoneBefore, zoneAhead, headGone, tailPut, moved, descended, outOfSequence, fixTaken, entered, madeRoom}
+use Rattle.rules.specs.Kinds.{enteredAbove, mayApproach, baseFree, approached, landed, exited, fixAfterMiss, missedApproach, held}
 use Rattle.rules.specs.Step.{effectFor, effectOf, numberOf, stepOf}
 use Rattle.rules.proofs.Checks.{by-kind}
 use Rattle.rules.proofs.StepLaws.{field-accepted, field-refused}

@@ -31,7 +31,8 @@ use Rattle.rules.specs.declared.Answer.{Answer}
 use Rattle.rules.specs.Kinds.{placeBefore, startsFrom, belongsTo, absentChecks, headChecks, presenceChecks}
 use Rattle.rules.specs.Step.{checksOf, effectOf, numberOf, stepOf}
 use Rattle.rules.specs.Play.{played}
-use Rattle.rules.proofs.Checks.{Never, never-without, never-append, owned, besides, inputNumbers, refused-append, by-kind, presence-refuses, checks-refuse, input-numbered, needNumbers, refused-by, checks-numbered}
+use Rattle.rules.proofs.Checks.{Never, never-without, never-append, owned, besides, inputNumbers, refused-append}
+use Rattle.rules.proofs.Checks.{by-kind, presence-refuses, checks-refuse, input-numbered, needNumbers, refused-by, checks-numbered}
 use Rattle.rules.proofs.StepLaws.{number-is}
 use Rattle.owners.specs.Owners.{AllAskedBy, NoDeskRefuses, OneDesk}
 use Rattle.owners.proofs.Everyone.{HoldsIn, Everyone, at-stays, step-stays}

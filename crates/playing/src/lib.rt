@@ -87,7 +87,12 @@ fn put_entry(log: &mut [u16], at: usize, r: Request, a: Answer)
 fn play_body(body: &[u8], legs: Legs, judged: bool, log: &mut [u16]) -> Played
     requires { ⌜ (length (requestsOf (now body)) ≤ mostRequests) × (7 * mostRequests ≤ length (now log)) ⌝ }
     requires { ⌜ T (legalLegs legs) ⌝ }
-    ensures { λ r. ⌜ r ≡ record { number = 0; requests = length (requestsOf (now (body .entry))); present = presentFrom legs (requestsOf (now (body .entry))); field = fieldFrom legs (requestsOf (now (body .entry))) } ⌝ }
+    ensures { λ r. ⌜ r ≡ record {
+      number = 0;
+      requests = length (requestsOf (now (body .entry)));
+      present = presentFrom legs (requestsOf (now (body .entry)));
+      field = fieldFrom legs (requestsOf (now (body .entry)));
+    } ⌝ }
     ensures { λ r. ⌜ now (log .exit) ≡ sets (now (log .entry)) 0 (logOf (answersFrom legs (requestsOf (now (body .entry))))) ⌝ }
 {
     let empty = with_index(empty_field(legs));

@@ -41,7 +41,8 @@ pub record Order (before : List ℕ) (at : ℕ) (s : Sequence) (end : ℕ) (out 
   pub long : end ≡ length (orderOf s)
   pub left : Left before at (numbersText (orderOf s)) out next (numbersText (drop i (orderOf s)))
 
-pub order-more : {before m n : List ℕ} {at : ℕ} {s : Sequence} {end e f i : ℕ} → Order before at s end m e i → i < end → Put m e (another (getD (s .numbers) i 0)) n f → Order before at s end n f (i + 1)
+pub order-more : {before m n : List ℕ} {at : ℕ} {s : Sequence} {end e f i : ℕ} → Order before at s end m e i
+    → i < end → Put m e (another (getD (s .numbers) i 0)) n f → Order before at s end n f (i + 1)
 order-more {s = s} {i = i} w h p = record {
   within = omega arith;
   few = w .few;

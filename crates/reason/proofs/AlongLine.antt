@@ -21,7 +21,8 @@ use Rattle.request.specs.Input.{within}
 use Rattle.order.specs.Model.{Side, right, left, opp, num, sameArea, ofArea, isLateral, one, rank, height, number, all, mayLead, mayHead, chain, okay}
 use Rattle.order.specs.Model as model
 use Rattle.order.proofs.Facts.{okay-zones}
-use Rattle.rules.specs.Reason.{Listed, listed, along, those, isInZone, isInArea, hasFix, neverFalls, eachAmong, fromLanding, approachOrder, heightIn, areaOrder, hasRoom, roomToMiss, lateralFree, lateralOrder, Reason}
+use Rattle.rules.specs.Reason.{Listed, listed, along, those, isInZone, isInArea, hasFix, neverFalls, eachAmong}
+use Rattle.rules.specs.Reason.{fromLanding, approachOrder, heightIn, areaOrder, hasRoom, roomToMiss, lateralFree, lateralOrder, Reason}
 use Rattle.field.proofs.Tests.{each-operation, pass, failed, fail, decided, or-left, or-right}
 use Rattle.line.proofs.Line.{Placed, zonesIn, numbersOf, inside, fieldOf, order-for}
 use Rattle.line.proofs.Counted.{Alternates, in-line}
@@ -66,7 +67,8 @@ module _ (f : Side) (line : List Placed) (runway : List Aircraft) (legs : Legs) 
       go (e ∷ l) = by (eqb (e .zone) z) (go l)
         where
           by : (b : Bool) → map (λ (a : Aircraft). a .number) (inside z l) ≡ map (λ (a : Listed). a .number) (those (isInZone z) (map asListed l))
-              → map (λ (a : Aircraft). a .number) (cond b (e .aircraft ∷ inside z l) (inside z l)) ≡ map (λ (a : Listed). a .number) (cond b (asListed e ∷ those (isInZone z) (map asListed l)) (those (isInZone z) (map asListed l)))
+              → map (λ (a : Aircraft). a .number) (cond b (e .aircraft ∷ inside z l) (inside z l)) ≡ map (λ (a : Listed). a .number)
+              (cond b (asListed e ∷ those (isInZone z) (map asListed l)) (those (isInZone z) (map asListed l)))
           by true h = ap (λ (ns : List ℕ). e .aircraft .number ∷ ns) h
           by false h = h
 
@@ -90,11 +92,35 @@ height-is left =
 lateral-side : (s : Side) (z : ℕ) → T (within 1 12 z) → T (isLateral z) → ofArea s z ≡ false → eqb (num s) (sideOf z) ≡ false
 unfolding sideOf
 lateral-side right =
-    each-operation (λ z. T (isLateral z) → ofArea right z ≡ false → eqb 1 (sideOf z) ≡ false)
-    ((λ t e. absurd t), (λ t e. absurd t), (λ t e. absurd t), (λ t e. absurd t), (λ t e. e), (λ t e. refl), (λ t e. absurd t), (λ t e. absurd t), (λ t e. absurd t), (λ t e. absurd t), (λ t e. absurd t), (λ t e. absurd t))
+    each-operation (λ z. T (isLateral z) → ofArea right z ≡ false → eqb 1 (sideOf z) ≡ false) (
+      (λ t e. absurd t),
+      (λ t e. absurd t),
+      (λ t e. absurd t),
+      (λ t e. absurd t),
+      (λ t e. e),
+      (λ t e. refl),
+      (λ t e. absurd t),
+      (λ t e. absurd t),
+      (λ t e. absurd t),
+      (λ t e. absurd t),
+      (λ t e. absurd t),
+      (λ t e. absurd t),
+    )
 lateral-side left =
-    each-operation (λ z. T (isLateral z) → ofArea left z ≡ false → eqb 2 (sideOf z) ≡ false)
-    ((λ t e. absurd t), (λ t e. absurd t), (λ t e. absurd t), (λ t e. absurd t), (λ t e. refl), (λ t e. e), (λ t e. absurd t), (λ t e. absurd t), (λ t e. absurd t), (λ t e. absurd t), (λ t e. absurd t), (λ t e. absurd t))
+    each-operation (λ z. T (isLateral z) → ofArea left z ≡ false → eqb 2 (sideOf z) ≡ false) (
+      (λ t e. absurd t),
+      (λ t e. absurd t),
+      (λ t e. absurd t),
+      (λ t e. absurd t),
+      (λ t e. refl),
+      (λ t e. e),
+      (λ t e. absurd t),
+      (λ t e. absurd t),
+      (λ t e. absurd t),
+      (λ t e. absurd t),
+      (λ t e. absurd t),
+      (λ t e. absurd t),
+    )
 
 -- ---- who may lead whom
 record Leads (f : Side) (z w : ℕ) : Type 0 where
@@ -301,9 +327,11 @@ clear-behind f e ahead (w ∷ zs) h u m t =
     and-i (clear (asListed e ∷ ahead) w) (all (clear (asListed e ∷ ahead)) zs)
     (clear-more f e ahead w h (and-l (within 1 12 w) (all (within 1 12) zs) u)
     (leads f (e .zone) w (and-l (mayLead f (e .zone) w) (all (mayLead f (e .zone)) zs) m)) (and-l (clear ahead w) (all (clear ahead) zs) t))
-    (clear-behind f e ahead zs h (and-r (within 1 12 w) (all (within 1 12) zs) u) (and-r (mayLead f (e .zone) w) (all (mayLead f (e .zone)) zs) m) (and-r (clear ahead w) (all (clear ahead) zs) t))
+    (clear-behind f e ahead zs h (and-r (within 1 12 w) (all (within 1 12) zs) u)
+    (and-r (mayLead f (e .zone) w) (all (mayLead f (e .zone)) zs) m) (and-r (clear ahead w) (all (clear ahead) zs) t))
 
-pub lateral-line : (f : Side) (ahead : List Listed) (l : List Placed) → Alternates f l → T (chain f (zonesIn l)) → T (all (clear ahead) (zonesIn l)) → T (eachAmong lateralFree ahead (map asListed l))
+pub lateral-line : (f : Side) (ahead : List Listed) (l : List Placed) → Alternates f l → T (chain f (zonesIn l))
+    → T (all (clear ahead) (zonesIn l)) → T (eachAmong lateralFree ahead (map asListed l))
 lateral-line f ahead [] a t c = tt
 lateral-line f ahead (e ∷ l) a t c =
     let k = link f (e .zone) (zonesIn l) t in

@@ -85,25 +85,85 @@ unfiltered p q (x ∷ xs) t = go (p x) t (unfiltered p q xs)
 -- ---- sides of zones
 area-side : (z : ℕ) → T (within 1 12 z) → T (leb z 8) → (s : Side) × T (ofArea s z)
 area-side =
-    each-operation (λ z. T (leb z 8) → (s : Side) × T (ofArea s z))
-    ((λ t. (right, tt)), (λ t. (left, tt)), (λ t. (right, tt)), (λ t. (left, tt)), (λ t. (right, tt)), (λ t. (left, tt)), (λ t. (right, tt)), (λ t. (left, tt)), (λ t. absurd t), (λ t. absurd t), (λ t. absurd t), (λ t. absurd t))
+    each-operation (λ z. T (leb z 8) → (s : Side) × T (ofArea s z)) (
+      (λ t. (right, tt)),
+      (λ t. (left, tt)),
+      (λ t. (right, tt)),
+      (λ t. (left, tt)),
+      (λ t. (right, tt)),
+      (λ t. (left, tt)),
+      (λ t. (right, tt)),
+      (λ t. (left, tt)),
+      (λ t. absurd t),
+      (λ t. absurd t),
+      (λ t. absurd t),
+      (λ t. absurd t),
+    )
 
 lateral-is : (s : Side) (z : ℕ) → T (within 1 12 z) → T (isLateral z) → T (ofArea s z) → z ≡ lateral (num s)
 lateral-is right =
-    each-operation (λ z. T (isLateral z) → T (ofArea right z) → z ≡ 5)
-    ((λ t u. absurd t), (λ t u. absurd t), (λ t u. absurd t), (λ t u. absurd t), (λ t u. refl), (λ t u. absurd u), (λ t u. absurd t), (λ t u. absurd t), (λ t u. absurd t), (λ t u. absurd t), (λ t u. absurd t), (λ t u. absurd t))
+    each-operation (λ z. T (isLateral z) → T (ofArea right z) → z ≡ 5) (
+      (λ t u. absurd t),
+      (λ t u. absurd t),
+      (λ t u. absurd t),
+      (λ t u. absurd t),
+      (λ t u. refl),
+      (λ t u. absurd u),
+      (λ t u. absurd t),
+      (λ t u. absurd t),
+      (λ t u. absurd t),
+      (λ t u. absurd t),
+      (λ t u. absurd t),
+      (λ t u. absurd t),
+    )
 lateral-is left =
-    each-operation (λ z. T (isLateral z) → T (ofArea left z) → z ≡ 6)
-    ((λ t u. absurd t), (λ t u. absurd t), (λ t u. absurd t), (λ t u. absurd t), (λ t u. absurd u), (λ t u. refl), (λ t u. absurd t), (λ t u. absurd t), (λ t u. absurd t), (λ t u. absurd t), (λ t u. absurd t), (λ t u. absurd t))
+    each-operation (λ z. T (isLateral z) → T (ofArea left z) → z ≡ 6) (
+      (λ t u. absurd t),
+      (λ t u. absurd t),
+      (λ t u. absurd t),
+      (λ t u. absurd t),
+      (λ t u. absurd u),
+      (λ t u. refl),
+      (λ t u. absurd t),
+      (λ t u. absurd t),
+      (λ t u. absurd t),
+      (λ t u. absurd t),
+      (λ t u. absurd t),
+      (λ t u. absurd t),
+    )
 
 lateral-other : (s : Side) (z : ℕ) → T (within 1 12 z) → T (isLateral z) → eqb (num s) (sideOf z) ≡ false → ofArea s z ≡ false
 unfolding sideOf
 lateral-other right =
-    each-operation (λ z. T (isLateral z) → eqb 1 (sideOf z) ≡ false → ofArea right z ≡ false)
-    ((λ t e. absurd t), (λ t e. absurd t), (λ t e. absurd t), (λ t e. absurd t), (λ t e. e), (λ t e. refl), (λ t e. absurd t), (λ t e. absurd t), (λ t e. absurd t), (λ t e. absurd t), (λ t e. absurd t), (λ t e. absurd t))
+    each-operation (λ z. T (isLateral z) → eqb 1 (sideOf z) ≡ false → ofArea right z ≡ false) (
+      (λ t e. absurd t),
+      (λ t e. absurd t),
+      (λ t e. absurd t),
+      (λ t e. absurd t),
+      (λ t e. e),
+      (λ t e. refl),
+      (λ t e. absurd t),
+      (λ t e. absurd t),
+      (λ t e. absurd t),
+      (λ t e. absurd t),
+      (λ t e. absurd t),
+      (λ t e. absurd t),
+    )
 lateral-other left =
-    each-operation (λ z. T (isLateral z) → eqb 2 (sideOf z) ≡ false → ofArea left z ≡ false)
-    ((λ t e. absurd t), (λ t e. absurd t), (λ t e. absurd t), (λ t e. absurd t), (λ t e. refl), (λ t e. e), (λ t e. absurd t), (λ t e. absurd t), (λ t e. absurd t), (λ t e. absurd t), (λ t e. absurd t), (λ t e. absurd t))
+    each-operation (λ z. T (isLateral z) → eqb 2 (sideOf z) ≡ false → ofArea left z ≡ false) (
+      (λ t e. absurd t),
+      (λ t e. absurd t),
+      (λ t e. absurd t),
+      (λ t e. absurd t),
+      (λ t e. refl),
+      (λ t e. e),
+      (λ t e. absurd t),
+      (λ t e. absurd t),
+      (λ t e. absurd t),
+      (λ t e. absurd t),
+      (λ t e. absurd t),
+      (λ t e. absurd t),
+    )
 
 -- in the area of z's side
 same-area : (s : Side) (z w : ℕ) → T (ofArea s z) → T (sameArea z w) → T (ofArea s w)

@@ -22,7 +22,8 @@ use Rattle.fits.specs.Fits.{fitsZone, legalLegs, boundG}
 use Rattle.numbers.specs.Numbers.{numbersDiffer, sequenceExact}
 use Rattle.order.specs.Model.{Side, right, left, opp, num, nextFix, count, one, ofArea, number, all, chain, okay}
 use Rattle.order.specs.Model as model
-use Rattle.rules.specs.Reason.{Listed, along, those, isInArea, neverFalls, eachAmong, fromLanding, approachOrder, heightIn, areaOrder, hasRoom, roomToMiss, lateralFree, lateralOrder, Reason, hasPlaces, Sound}
+use Rattle.rules.specs.Reason.{Listed, along, those, isInArea, neverFalls, eachAmong, fromLanding, approachOrder, heightIn}
+use Rattle.rules.specs.Reason.{areaOrder, hasRoom, roomToMiss, lateralFree, lateralOrder, Reason, hasPlaces, Sound}
 use Rattle.field.proofs.Lists.{every-listed}
 use Rattle.laws.proofs.BoundLaws.{Within, within-each}
 use Rattle.field.proofs.Tests.{each-operation, passed, pass, decided}

@@ -15,16 +15,20 @@ use Rattle.field.specs.declared.Aircraft.{Aircraft}
 use Rattle.field.specs.declared.Legs.{Legs}
 use Rattle.field.specs.declared.Sequence.{Sequence}
 use Rattle.field.specs.declared.Field.{Field}
-use Rattle.field.specs.Boxes.{right, left, opposite, sideOf, at3000, at2000, lateral, missed, base, intermediate, finalApproach, runway, area, approach, operation, everywhere, nobody, zoneOf, inZone, orderOf, entering, arrived, turnedAway, withFix, legFlownOut}
+use Rattle.field.specs.Boxes.{right, left, opposite, sideOf, at3000, at2000, lateral, missed, base, intermediate, finalApproach, runway, area}
+use Rattle.field.specs.Boxes.{approach, operation, everywhere, nobody, zoneOf, inZone, orderOf, entering, arrived, turnedAway, withFix, legFlownOut}
 use Rattle.field.specs.Edits.{appended, removed}
 use Rattle.field.specs.Lists.{isIn, every}
 use Rattle.questions.specs.declared.Place.{Place}
 use Rattle.questions.specs.Counts.{total, haveFix, howMany, howManyWithFix, isEmpty, approachHolds, countedFor, potentialOf}
 use Rattle.questions.specs.Find.{placeOf, aircraftAt, fixOf, isFirst, leaderOf, leaderZone}
 use Rattle.bounds.specs.Bounds.{withinBounds}
-use Rattle.rules.specs.Kinds.{placeBefore, zoneBefore, zoneAhead, presenceChecks, belongsTo, mayApproach, baseFree, mayMerge, verticalNeeds, approachNeeds, mergeNeeds, flownOutCheck, landNeeds, headGone, tailPut, moved, outOfSequence, fixTaken, entered, madeRoom, enteredAbove, approached, landed, exited, fixAfterMiss, missedApproach, held}
+use Rattle.rules.specs.Kinds.{placeBefore, zoneBefore, zoneAhead, presenceChecks, belongsTo, mayApproach, baseFree, mayMerge, verticalNeeds}
+use Rattle.rules.specs.Kinds.{approachNeeds, mergeNeeds, flownOutCheck, landNeeds, headGone, tailPut, moved, outOfSequence, fixTaken}
+use Rattle.rules.specs.Kinds.{entered, madeRoom, enteredAbove, approached, landed, exited, fixAfterMiss, missedApproach, held}
 use Rattle.rules.specs.Step.{byKind, needsFor, effectFor, checksFor, checksOf, effectOf, numberOf, stepOf}
-use Rattle.rules.specs.Reason.{Listed, listed, along, those, isInZone, isInArea, neverFalls, eachAmong, fromLanding, heightIn, hasRoom, lateralFree, approachOrder, areaOrder, roomToMiss, lateralOrder, Reason, hasPlaces, Sound, KeptBy}
+use Rattle.rules.specs.Reason.{Listed, listed, along, those, isInZone, isInArea, neverFalls, eachAmong, fromLanding, heightIn}
+use Rattle.rules.specs.Reason.{hasRoom, lateralFree, approachOrder, areaOrder, roomToMiss, lateralOrder, Reason, hasPlaces, Sound, KeptBy}
 use Rattle.field.proofs.Tests.{pass, passed, decided}
 use Rattle.line.proofs.Orderly.{every-zone}
 use Rattle.laws.proofs.SameQueues.{Same, same-head, same-tail, same-with, same-sequence, same-ticked, queues-same, alike, within-same}
@@ -250,8 +254,20 @@ module _ (f g : Field) (s : Same f g) (r : Request) where
     where
       each : (z ahead : ℕ) → Same (effectFor (r .kind) f r z ahead) (effectFor (r .kind) g r z ahead)
       each z ahead =
-          by-kinds Same (r .kind)
-          (above-same, entered-same f g s r (lateral (r .side)), moved-same f g s z (at2000 z), approached-same z ahead, moved-same f g s z intermediate, moved-same f g s intermediate finalApproach, landed-same, gone-same f g s runway, exited-same, missed-same, held-same z, same-ticked f g (r .amount) s)
+          by-kinds Same (r .kind) (
+            above-same,
+            entered-same f g s r (lateral (r .side)),
+            moved-same f g s z (at2000 z),
+            approached-same z ahead,
+            moved-same f g s z intermediate,
+            moved-same f g s intermediate finalApproach,
+            landed-same,
+            gone-same f g s runway,
+            exited-same,
+            missed-same,
+            held-same z,
+            same-ticked f g (r .amount) s,
+          )
 
 -- ---- the step
 both-ways : (a b : Bool) → (T a → T b) → (T b → T a) → a ≡ b

@@ -13,7 +13,8 @@ use Rattle.field.specs.Boxes.{opposite, sideOf, at3000, at2000, lateral, missed
 use Rattle.field.specs.Edits.{withoutHead, withTail, appended, removed, withZone, withSequence}
 use Rattle.questions.specs.declared.Place.{Place}
 use Rattle.questions.specs.Find.{aircraftAt}
-use Rattle.rules.specs.Kinds.{zoneBefore, zoneAhead, headGone, tailPut, moved, descended, outOfSequence, fixTaken, entered, madeRoom, enteredAbove, mayApproach, baseFree, approached, landed, exited, fixAfterMiss, missedApproach, held}
+use Rattle.rules.specs.Kinds.{zoneBefore, zoneAhead, headGone, tailPut, moved, descended, outOfSequence, fixTaken, entered, madeRoom}
+use Rattle.rules.specs.Kinds.{enteredAbove, mayApproach, baseFree, approached, landed, exited, fixAfterMiss, missedApproach, held}
 use Rattle.rules.specs.Step.{byKind, effectFor, effectOf}
 use Rattle.renaming.specs.Renaming.{Renaming, renamedAircraft, renamedSequence, renamedField, renamedRequest}
 use Rattle.renaming.proofs.Lists.{either-made, by-test}

@@ -71,7 +71,8 @@ module _ {π : ℕ → ℕ} (p : Renaming π) where
           let z = at .zone in
           λ i.
           byKind (r .kind)
-          ((16, ltb (potential-renamed side i) 2) ∷ (17, not (holds-renamed side i)) ∷ (18, empty-renamed (missed side) i) ∷ (19, empty-renamed (lateral side) i) ∷ (20, empty-renamed (at3000 side) i || empty-renamed (at2000 side) i) ∷ [])
+          ((16, ltb (potential-renamed side i) 2) ∷ (17, not (holds-renamed side i)) ∷ (18, empty-renamed (missed side) i)
+          ∷ (19, empty-renamed (lateral side) i) ∷ (20, empty-renamed (at3000 side) i || empty-renamed (at2000 side) i) ∷ [])
           ((16, eqb (potential-renamed side i) 0) ∷ [])
           ((21, empty-renamed (at2000 z) i) ∷ [])
           ((22, within 5 6 z || may-approach-renamed n ahead i) ∷ (23, within 5 6 z || base-renamed (sideOf z) i) ∷ [])

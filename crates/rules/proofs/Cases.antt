@@ -5,7 +5,8 @@ use lib.Dec.{T}
 use lib.Ieee.{neg, add, sub, mul, div, ofInt, round, lt, le, eq}
 use Rattle.leg.specs.Progress.{advanced, pastEnd, waitedAfter, missedLeg}
 use Rattle.request.specs.Input.{deskAllowed, kindAllowed, sideAllowed, numberAllowed, amountAllowed, inputNumber}
-use Rattle.field.specs.Boxes.{isSide, sideOf, opposite, isFlyingZone, zoneOf, queueOf, inZone, orderOf, legOf, progressInto, entering, onLeg, arrived, turnedAway, withFix, legFlownOut, emptyField}
+use Rattle.field.specs.Boxes.{isSide, sideOf, opposite, isFlyingZone, zoneOf, queueOf, inZone, orderOf, legOf}
+use Rattle.field.specs.Boxes.{progressInto, entering, onLeg, arrived, turnedAway, withFix, legFlownOut, emptyField}
 use Rattle.questions.specs.Counts.{howMany, howManyWithFix, presentOn, inOperation, inArea, perFix, approachHolds, countedFor, potentialOf}
 use Rattle.questions.specs.Find.{findIn, placeOf, aircraftAt, fixOf, isFirst, leaderOf, leaderZone}
 use Rattle.field.specs.Lists.{every}
@@ -14,7 +15,8 @@ use Rattle.fits.specs.Fits.{legFits, fitsZone, legalLegs, boundG}
 use Rattle.numbers.specs.Numbers.{numbersDiffer, sequenceExact}
 use Rattle.field.specs.Edits.{withoutHead, withTail, appended, removed, withZone, withSequence}
 use Rattle.tick.specs.Tick.{tickedAircraft, tickedZone, ticked}
-use Rattle.rules.specs.Kinds.{startsFrom, mayApproach, baseFree, mayMerge, headGone, tailPut, moved, outOfSequence, fixTaken, entered, madeRoom, enteredAbove, approached, landed, exited, fixAfterMiss, missedApproach, held, belongsTo, shownTo, shownAt3000}
+use Rattle.rules.specs.Kinds.{startsFrom, mayApproach, baseFree, mayMerge, headGone, tailPut, moved, outOfSequence, fixTaken, entered, madeRoom}
+use Rattle.rules.specs.Kinds.{enteredAbove, approached, landed, exited, fixAfterMiss, missedApproach, held, belongsTo, shownTo, shownAt3000}
 use Rattle.rules.specs.Step.{checksOf, effectOf, numberOf, numberAndZeros, acceptance, answerOf, stepOf}
 use Rattle.rules.specs.Reason.{along, approachOrder, areaOrder, roomToMiss, lateralOrder, QueueAgrees}
 use Rattle.rules.specs.Cases.{marked, caseHolds}
@@ -22,7 +24,8 @@ use Rattle.rules.specs.Examples.{examples, exits, entries, earlyMisses, 
 use Rattle.field.proofs.Tests.{each-operation}
 
 -- all together, so that what is computed is unfolded once
-computed : T (every caseHolds marked) × T (every caseHolds examples) × T (every caseHolds exits) × T (every caseHolds entries) × T (every caseHolds earlyMisses) × T (every caseHolds twoDesks) × JudgedAfterBoth onePlace entryOfEight × BoundsNotEnough crowded missOfSeven × NobodyMoves stuck
+computed : T (every caseHolds marked) × T (every caseHolds examples) × T (every caseHolds exits) × T (every caseHolds entries) × T (every caseHolds earlyMisses)
+    × T (every caseHolds twoDesks) × JudgedAfterBoth onePlace entryOfEight × BoundsNotEnough crowded missOfSeven × NobodyMoves stuck
 unfolding
     advanced pastEnd waitedAfter missedLeg deskAllowed kindAllowed sideAllowed numberAllowed amountAllowed inputNumber isSide opposite isFlyingZone zoneOf queueOf inZone orderOf progressInto entering
     onLeg arrived turnedAway withFix legOf legFlownOut emptyField howMany howManyWithFix presentOn inOperation inArea perFix approachHolds countedFor potentialOf findIn placeOf

@@ -141,7 +141,8 @@ never-append n cs ds k p q e = either-way (λ (m : ℕ). m ≡ n → ⊥) (eqb (
 
 -- what holds of each entry of a table by kind, where that is the kind, holds of the kind's own
 pub by-kind {ℓ} : {A : Type ℓ} (P : A → Type 0) (kind : ℕ) {k1 k2 k3 k4 k5 k6 k7 k8 k9 k10 k11 k12 : A}
-    → (kind ≡ 1 → P k1) × (kind ≡ 2 → P k2) × (kind ≡ 3 → P k3) × (kind ≡ 4 → P k4) × (kind ≡ 5 → P k5) × (kind ≡ 6 → P k6) × (kind ≡ 7 → P k7) × (kind ≡ 8 → P k8) × (kind ≡ 9 → P k9) × (kind ≡ 10 → P k10) × (kind ≡ 11 → P k11) × P k12 → P (byKind kind k1 k2 k3 k4 k5 k6 k7 k8 k9 k10 k11 k12)
+    → (kind ≡ 1 → P k1) × (kind ≡ 2 → P k2) × (kind ≡ 3 → P k3) × (kind ≡ 4 → P k4) × (kind ≡ 5 → P k5) × (kind ≡ 6 → P k6) × (kind ≡ 7 → P k7) × (kind ≡ 8 → P k8)
+    × (kind ≡ 9 → P k9) × (kind ≡ 10 → P k10) × (kind ≡ 11 → P k11) × P k12 → P (byKind kind k1 k2 k3 k4 k5 k6 k7 k8 k9 k10 k11 k12)
 by-kind {A = A} P kind (p1, p2, p3, p4, p5, p6, p7, p8, p9, p10, p11, p12) =
     pick 1 p1 (pick 2 p2 (pick 3 p3 (pick 4 p4 (pick 5 p5 (pick 6 p6 (pick 7 p7 (pick 8 p8 (pick 9 p9 (pick 10 p10 (pick 11 p11 p12))))))))))
   where

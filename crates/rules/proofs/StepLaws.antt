@@ -53,4 +53,7 @@ zone-answered f r e k =
 pub input-of : (f : Field) (r : Request) → numberOf f r ≡ 0 → inputNumber r ≡ 0
 unfolding numberOf
 input-of f r h =
-    elim (decided (eqb (inputNumber r) 0)) [ inl e ↦ eqb-true (inputNumber r) 0 e | inr e ↦ sym (if-false (firstRefused ((10, withinBounds f) ∷ checksOf f r ++ ((25, withinBounds (effectOf f r)) ∷ []))) (inputNumber r) e) ∙ h ]
+    elim (decided (eqb (inputNumber r) 0)) [
+      | inl e ↦ eqb-true (inputNumber r) 0 e
+      | inr e ↦ sym (if-false (firstRefused ((10, withinBounds f) ∷ checksOf f r ++ ((25, withinBounds (effectOf f r)) ∷ []))) (inputNumber r) e) ∙ h
+    ]

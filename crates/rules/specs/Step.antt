@@ -14,7 +14,9 @@ use Rattle.bounds.specs.Bounds.{withinBounds}
 use Rattle.tick.specs.Tick.{ticked}
 use Rattle.rules.specs.declared.Answer.{Answer}
 use Rattle.rules.specs.declared.Stepped.{Stepped}
-use Rattle.rules.specs.Kinds.{placeBefore, zoneBefore, zoneAhead, presenceChecks, verticalNeeds, lateralNeeds, descendNeeds, approachNeeds, mergeNeeds, flownOutNeeds, landNeeds, exitNeeds, moved, descended, headGone, entered, enteredAbove, approached, landed, exited, missedApproach, held, belongsTo, shownTo, shownAt3000}
+use Rattle.rules.specs.Kinds.{placeBefore, zoneBefore, zoneAhead, presenceChecks, verticalNeeds, lateralNeeds, descendNeeds, approachNeeds, mergeNeeds}
+use Rattle.rules.specs.Kinds.{flownOutNeeds, landNeeds, exitNeeds, moved, descended, headGone, entered, enteredAbove, approached}
+use Rattle.rules.specs.Kinds.{landed, exited, missedApproach, held, belongsTo, shownTo, shownAt3000}
 
 -- the entry of the twelve, for kinds 1 to 12, that belongs to the kind; the last for any other number
 abbrev pub byKind {ℓ} : {A : Type ℓ} → ℕ → A → A → A → A → A → A → A → A → A → A → A → A → A

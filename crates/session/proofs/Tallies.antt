@@ -39,7 +39,12 @@ module _ (t : Tally) {u : Tally} (kind number : ℕ) where
   pub counted-none : (number ≡ 0 → ⊥) → u ≡ t → u ≡ counted t kind number
   unfolding counted
   counted-none z e =
-      e ∙ λ i. record { entries = same isEntry (t .entries) i; taxis = same (λ kind. eqb kind 8) (t .taxis) i; exits = same (λ kind. eqb kind 9) (t .exits) i; misses = same (λ kind. eqb kind 10) (t .misses) i }
+      e ∙ λ i. record {
+        entries = same isEntry (t .entries) i;
+        taxis = same (λ kind. eqb kind 8) (t .taxis) i;
+        exits = same (λ kind. eqb kind 9) (t .exits) i;
+        misses = same (λ kind. eqb kind 10) (t .misses) i;
+      }
     where
       same : (kinds : ℕ → Bool) (n : ℕ) → n ≡ n + ofKinds kinds kind number
       same kinds n = let a : n ≡ n + 0 = omega arith in a ∙ sym (ap (λ (b : Bool). n + unit (b && kinds kind)) (ne-eqb number 0 z))

@@ -107,7 +107,8 @@ pub fn turned_away(f: Field, number: u16) -> Stepped
 
 // What a request that keeps the input rules does to a field that is judged: the first need that is not met refuses it, else it takes effect.
 fn unjudged(f: Field, r: Request) -> Stepped
-    ensures { λ s. ⌜ s ≡ cond (eqb (firstRefused (checksOf f r)) 0) (record { answer = answerOf f r; field = effectOf f r }) (record { answer = numberAndZeros (firstRefused (checksOf f r)); field = f }) ⌝ }
+    ensures { λ s. ⌜ s ≡ cond (eqb (firstRefused (checksOf f r)) 0) (record { answer = answerOf f r; field = effectOf f r })
+        (record { answer = numberAndZeros (firstRefused (checksOf f r)); field = f }) ⌝ }
 {
     let at = place_of(f, r.number);
     let ahead = zone_ahead(f, r);

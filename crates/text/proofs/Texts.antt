@@ -98,7 +98,8 @@ put-fits b at (x ∷ xs) h =
     ∙ ap (λ (n : ℕ). (sets (set b at x) (suc at) xs, n)) {x = suc at + length xs} {y = at + suc (length xs)} (omega arith)
 
 -- what is put from the buffer's first byte on, and fits, is written
-pub put-whole : {before after bytes : List ℕ} {n : ℕ} (size : ℕ) → Put before 0 bytes after n → length before ≡ size → length bytes ≤ size → (n ≡ length bytes) × ((after ≡ bytes ++ drop n before) × (n ≤ size))
+pub put-whole : {before after bytes : List ℕ} {n : ℕ} (size : ℕ) → Put before 0 bytes after n → length before ≡ size
+    → length bytes ≤ size → (n ≡ length bytes) × ((after ≡ bytes ++ drop n before) × (n ≤ size))
 put-whole {before} {after} {bytes} {n} size p l h =
     let all = put-fits before 0 bytes (omega arith) in
     let long : n ≡ length bytes = let e = ap (λ (q : List ℕ × ℕ). q .1) all in omega (arith, p .next) in (

@@ -14,7 +14,12 @@ pub read-back : (es : List Entry) → entriesIn (listBytes es) ≡ es
 read-back [] = refl
 read-back (e ∷ es) =
     let same : _≡_ {A = Entry}
-    (record { number = e .number % 256 + 256 * (e .number / 256); location = e .location % 256 + 256 * (e .location / 256); place = e .place % 256 + 256 * (e .place / 256); fix = e .fix % 256 + 256 * (e .fix / 256) })
+    (record {
+      number = e .number % 256 + 256 * (e .number / 256);
+      location = e .location % 256 + 256 * (e .location / 256);
+      place = e .place % 256 + 256 * (e .place / 256);
+      fix = e .fix % 256 + 256 * (e .fix / 256);
+    })
     e
     = λ i. record { number = halves (e .number) i; location = halves (e .location) i; place = halves (e .place) i; fix = halves (e .fix) i } in
     ap (λ (x : Entry). x ∷ entriesIn (listBytes es)) same ∙ ap (λ (l : List Entry). e ∷ l) (read-back es)

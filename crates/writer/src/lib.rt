@@ -1,5 +1,6 @@
 // Writing a practice file (document 02, 2.11): from four legs and requests that are lent as bytes, the one file that is read as those, into a
 // lent buffer.
+use limits::MOST_REQUESTS;
 use practice::FileLegs;
 use practice::Reading;
 use practice::legs_allowed;
@@ -34,7 +35,7 @@ fn list_allowed(size: usize) -> bool
     if size % 6 != 0 {
         return false;
     }
-    size / 6 <= 4096
+    size / 6 <= MOST_REQUESTS
 }
 
 // Whether the file of n requests fits into a buffer of so many bytes.
@@ -144,7 +145,8 @@ fn put_legs(out: &mut [u8], at: usize, legs: FileLegs) -> usize
 // The whole file, from the buffer's first byte on: the letters, the count, the two entries and the two bodies.
 fn put_file(out: &mut [u8], legs: FileLegs, requests: &[u8]) -> usize
     requires { ⌜ length (now requests) ≤ 24576 ⌝ }
-    ensures { λ r. ⌜ Put (now (out .entry)) 0 (letters ++ bytes16 2 ++ entryBytes 1 26 8 ++ entryBytes 2 34 (length (now (requests .entry))) ++ legBytes legs ++ now (requests .entry)) (now (out .exit)) r ⌝ }
+    ensures { λ r. ⌜ Put (now (out .entry)) 0 (letters ++ bytes16 2 ++ entryBytes 1 26 8 ++ entryBytes 2 34 (length (now (requests .entry))) ++ legBytes legs ++ now (requests .entry))
+        (now (out .exit)) r ⌝ }
 {
     let size = requests.len() as u32;
     let count = put_text(out, 0, b"SCAP");
@@ -187,7 +189,8 @@ pub extern "C" fn baguymo_write(
 ) -> u16
     ensures { λ r. ⌜ r ≡ writingNumber (record { base = base; intermediate = intermediate; last = last; missed = missed }) (now (requests .entry)) (length (now (out .entry))) ⌝ }
     ensures { λ r. ⌜ now (out .exit) ≡ bufferAfter (record { base = base; intermediate = intermediate; last = last; missed = missed }) (now (requests .entry)) (now (out .entry)) ⌝ }
-    ensures { λ r. ⌜ now (size .exit) ≡ writingOf (record { base = base; intermediate = intermediate; last = last; missed = missed }) (now (requests .entry)) (length (now (out .entry))) .length ∷ [] ⌝ }
+    ensures { λ r. ⌜ now (size .exit) ≡ writingOf (record { base = base; intermediate = intermediate; last = last; missed = missed })
+        (now (requests .entry)) (length (now (out .entry))) .length ∷ [] ⌝ }
 {
     let legs = FileLegs {
         base: base,

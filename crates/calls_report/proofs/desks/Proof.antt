@@ -56,7 +56,8 @@ returns-2 c =
     let k = l .before .before in
     let input = now (k .before .before .before .before .args .input) in
     let legs = l .legs-in-miles .ensures ∙ ap legsInMiles (l .before .legs-in .ensures) in
-    ends (c .put-calls .ensures .0) (k .before .before .bytes .given .0 .1) (c .put-calls .ensures .1) (ap (λ (x : Legs). reportFrom 0 (startOf x) (callsIn input)) legs ∙ printed-report input (accepted k))
+    ends (c .put-calls .ensures .0) (k .before .before .bytes .given .0 .1) (c .put-calls .ensures .1)
+    (ap (λ (x : Legs). reportFrom 0 (startOf x) (callsIn input)) legs ∙ printed-report input (accepted k))
 
 pub desks-spec : {M : Type 1} → statement M
 desks-spec =

@@ -51,7 +51,8 @@ loop-again c =
     let w = c .before .before .before in
     let s = w .before .before in
     let l = s .before in
-    answered-more _ (s .call-at .result) (l .before .loop .inv) (l .loop-test .taken) (l .before .before .before .before .before .pre .1) (s .call-at .ensures) (omega (arith, s .call-at .ok)) (omega (arith, s .call-at .ok)) (omega (arith, s .call-at .ok)) (w .put-answer .ensures)
+    answered-more _ (s .call-at .result) (l .before .loop .inv) (l .loop-test .taken) (l .before .before .before .before .before .pre .1) (s .call-at .ensures)
+    (omega (arith, s .call-at .ok)) (omega (arith, s .call-at .ok)) (omega (arith, s .call-at .ok)) (w .put-answer .ensures)
 
 put-last-requires : tie.Need-put-last-requires Inv-loop μ-loop
 put-last-requires c κs = search needs

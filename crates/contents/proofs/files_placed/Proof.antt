@@ -66,7 +66,8 @@ loop-again : tie.Need-loop-again Inv-loop μ-loop
 loop-again c =
     let l = c .before .before .before .before in
     let r = c .before .before in
-    passed-more (now (l .before .before .before .args .binder)) (l .loop .inv) (c .number322 .result) (r .before .loop-test .taken) (let o = r .number32 .ensures in omega arith) (c .number322 .ensures)
+    passed-more (now (l .before .before .before .args .binder)) (l .loop .inv) (c .number322 .result)
+    (r .before .loop-test .taken) (let o = r .number32 .ensures in omega arith) (c .number322 .ensures)
 
 returns-2 : tie.Need-returns-2 Inv-loop μ-loop
 returns-2 c =

@@ -52,7 +52,8 @@ waited-within-requires c κs = search needs
 
 -- and so does the desk, where the miles waited are tested
 desk-fits : (c : tie.Else4)
-    → let a = c .before .before .before .before .before .before .before .before .args .a in (isSide (a .fix) && (leb 1 (a .speed) && leb (a .speed) fastest) && (leb 1 (a .desk) && leb (a .desk) desks)) ≡ true
+    → let a = c .before .before .before .before .before .before .before .before .args .a in
+    (isSide (a .fix) && (leb 1 (a .speed) && leb (a .speed) fastest) && (leb 1 (a .desk) && leb (a .desk) desks)) ≡ true
 desk-fits c = and-then (numbers-fit (c .before .before)) (holds (c .before .is-desk .ensures) (c .if4 .left))
 
 returns-5 : tie.Need-returns-5

@@ -24,10 +24,12 @@ returns : tie.Need-returns
 returns c = search needs
 
 returns-2 : tie.Need-returns-2
-returns-2 c = sym (known (c .before .before .before .before .args .p) (c .before .before .p .given .0 .0) (c .before .before .before .before .args .leg) (c .before .before .p .given .1) (c .if1 .taken))
+returns-2 c = sym (known (c .before .before .before .before .args .p) (c .before .before .p .given .0 .0)
+    (c .before .before .before .before .args .leg) (c .before .before .p .given .1) (c .if1 .taken))
 
 returns-3 : tie.Need-returns-3
-returns-3 c = sym (known (c .before .before .before .before .args .p) (c .before .before .p .given .0 .0) (c .before .before .before .before .args .leg) (c .before .before .p .given .1) (c .if1 .left))
+returns-3 c = sym (known (c .before .before .before .before .args .p) (c .before .before .p .given .0 .0)
+    (c .before .before .before .before .args .leg) (c .before .before .p .given .1) (c .if1 .left))
 
 pub within-spec : {M : Type 1} → statement M
 within-spec = tie.close (tie.spec enum-told enum-known-p returns returns-2 returns-3)

@@ -27,7 +27,8 @@ returns c =
     let k = c .before .before in
     let b = k .before .before .before .before .before in
     let s = b .before .before .before .before in
-    subst⁻¹ (λ (bytes : List ℕ). Put (now (s .args .out)) (s .args .at) bytes (k .put-fraction .last .0) (k .put-fraction .result)) (miles-below (s .args .miles) (b .before .before .if1 .taken) (k .before .in-4096ths .ensures))
+    subst⁻¹ (λ (bytes : List ℕ). Put (now (s .args .out)) (s .args .at) bytes (k .put-fraction .last .0) (k .put-fraction .result))
+    (miles-below (s .args .miles) (b .before .before .if1 .taken) (k .before .in-4096ths .ensures))
     (put-more (b .put-byte .ensures) (k .put-fraction .ensures))
 
 in-4096ths-requires-2 : tie.Need-in-4096ths-requires-2
@@ -43,7 +44,8 @@ returns-2 : tie.Need-returns-2
 returns-2 c =
     let k = c .before .before in
     let s = k .before .before .before .before .before in
-    subst⁻¹ (λ (bytes : List ℕ). Put (now (s .args .out)) (s .args .at) bytes (k .put-fraction2 .last .0) (k .put-fraction2 .result)) (miles-above (s .args .miles) (k .before .before .before .if1 .left) (k .before .in-4096ths2 .ensures)) (k .put-fraction2 .ensures)
+    subst⁻¹ (λ (bytes : List ℕ). Put (now (s .args .out)) (s .args .at) bytes (k .put-fraction2 .last .0) (k .put-fraction2 .result))
+    (miles-above (s .args .miles) (k .before .before .before .if1 .left) (k .before .in-4096ths2 .ensures)) (k .put-fraction2 .ensures)
 
 pub put-miles-spec : {M : Type 1} → statement M
 put-miles-spec =

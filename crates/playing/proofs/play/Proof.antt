@@ -99,7 +99,12 @@ returns-2 c =
     ap (λ (p : Played). p .requests) (c .play-body .ensures .0) ∙ ap length rs ∙ sym (length-answers (legsHeld file) (requestsInside file)) in
     let n = length-answers (legsHeld file) (requestsInside file) in (
       c .play-body .ensures .0
-          ∙ ap (λ (l : Legs). record { number = 0; requests = length (requestsOf (take (length file - 34) (drop 34 file))); present = presentFrom l (requestsOf (take (length file - 34) (drop 34 file))); field = fieldFrom l (requestsOf (take (length file - 34) (drop 34 file))) }) legs
+          ∙ ap (λ (l : Legs). record {
+            number = 0;
+            requests = length (requestsOf (take (length file - 34) (drop 34 file)));
+            present = presentFrom l (requestsOf (take (length file - 34) (drop 34 file)));
+            field = fieldFrom l (requestsOf (take (length file - 34) (drop 34 file)));
+          }) legs
           ∙ ap (λ (r : List Request). record { number = 0; requests = length r; present = presentFrom (legsHeld file) r; field = fieldFrom (legsHeld file) r }) rs
           ∙ sym (played-held file (accepted k)),
       c .play-body .ensures .1

@@ -92,7 +92,8 @@ same-length c = c .before .before .before .loop .inv .left .same
 returns : tie.Need-returns Inv-loop μ-loop
 returns c =
     let l = c .before .before .before in
-    subst (λ (f : Field). Put (now (start l .args .out)) 0 (linesFrom 1 f (requests l)) (l .loop .out) (l .loop .at)) (l .before .empty-field .ensures) (fields-all (requests l) (l .loop .inv) (no-reading c))
+    subst (λ (f : Field). Put (now (start l .args .out)) 0 (linesFrom 1 f (requests l)) (l .loop .out) (l .loop .at))
+    (l .before .empty-field .ensures) (fields-all (requests l) (l .loop .inv) (no-reading c))
 
 pub put-body-spec : {M : Type 1} → statement M
 put-body-spec =

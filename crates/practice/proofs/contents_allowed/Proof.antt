@@ -69,7 +69,13 @@ returns-5 : tie.Need-returns-5
 unfolding contentsAllowed
 returns-5 c =
     let f = c .before .before .before .before .before in
-    simp (count-read (f .before .before), first-read f, second-read (c .before .before), sixes-read (c .before), lt-leb _ 24576 (subst (λ (n : ℕ). 24576 < n) (c .before .before .before .before .number32 .ensures) (c .if5 .taken)))
+    simp (
+      count-read (f .before .before),
+      first-read f,
+      second-read (c .before .before),
+      sixes-read (c .before),
+      lt-leb _ 24576 (subst (λ (n : ℕ). 24576 < n) (c .before .before .before .before .number32 .ensures) (c .if5 .taken)),
+    )
 
 cast-result : tie.Need-cast-result
 cast-result c = search needs

@@ -57,7 +57,8 @@ in-range-requires-4 c κs = search needs
 
 returns-4 : tie.Need-returns-4
 unfolding legsAllowed
-returns-4 c = simp (base (c .before .before .before .before .before .before .before .before), intermediate (c .before .before .before .before .before), last (c .before .before)) (c .in-range4 .ensures)
+returns-4 c = simp (base (c .before .before .before .before .before .before .before .before), intermediate (c .before .before .before .before .before), last (c .before .before))
+    (c .in-range4 .ensures)
 
 pub legs-allowed-spec : {M : Type 1} → statement M
 legs-allowed-spec =

@@ -27,7 +27,8 @@ number16-requires-4 : tie.Need-number16-requires-4
 number16-requires-4 c κs = search needs
 
 returns : tie.Need-returns
-returns c = made (now (c .before .before .before .before .before .args .body)) (c .before .before .before .number16 .ensures) (c .before .before .number162 .ensures) (c .before .number163 .ensures) (c .number164 .ensures)
+returns c = made (now (c .before .before .before .before .before .args .body)) (c .before .before .before .number16 .ensures)
+    (c .before .before .number162 .ensures) (c .before .number163 .ensures) (c .number164 .ensures)
 
 pub legs-of-spec : {M : Type 1} → statement M
 legs-of-spec =

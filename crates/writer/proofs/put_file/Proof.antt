@@ -36,7 +36,8 @@ same-length c =
     let first = second .before .before .before .before in
     let count = first .before .before .before .before in
     let letters = count .before .before .before .before in
-    put-same (put-more (put-more (put-more (put-more (put-more (letters .put-text .ensures) (count .put-word .ensures)) (first .put-entry .ensures)) (second .put-entry2 .ensures)) (legs .put-legs .ensures)) (k .put-text2 .ensures))
+    put-same (put-more (put-more (put-more (put-more (put-more (letters .put-text .ensures) (count .put-word .ensures)) (first .put-entry .ensures)) (second .put-entry2 .ensures))
+    (legs .put-legs .ensures)) (k .put-text2 .ensures))
 
 returns : tie.Need-returns
 returns c =
@@ -46,7 +47,8 @@ returns c =
     let first = second .before .before .before .before in
     let count = first .before .before .before .before in
     let letters = count .before .before .before .before in
-    put-more (put-more (put-more (put-more (put-more (letters .put-text .ensures) (count .put-word .ensures)) (first .put-entry .ensures)) (second .put-entry2 .ensures)) (legs .put-legs .ensures)) (k .put-text2 .ensures)
+    put-more (put-more (put-more (put-more (put-more (letters .put-text .ensures) (count .put-word .ensures)) (first .put-entry .ensures)) (second .put-entry2 .ensures)) (legs .put-legs .ensures))
+    (k .put-text2 .ensures)
 
 pub put-file-spec : {M : Type 1} → statement M
 put-file-spec =

@@ -27,7 +27,8 @@ returns c =
     let list = offence .before in
     let legs = list .before in
     let a = legs .before .before .args in
-    numbered (a .legs) (now (a .requests)) (a .room) (c .first-number .ensures) (legs .legs-allowed .ensures) (list .list-allowed .ensures) (offence .first-offence .ensures) (room .has-room .ensures)
+    numbered (a .legs) (now (a .requests)) (a .room) (c .first-number .ensures) (legs .legs-allowed .ensures)
+    (list .list-allowed .ensures) (offence .first-offence .ensures) (room .has-room .ensures)
 
 pub writing-number-spec : {M : Type 1} → statement M
 writing-number-spec =

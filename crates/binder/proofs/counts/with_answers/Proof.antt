@@ -63,7 +63,14 @@ landed-low c =
 loop-holds : tie.Need-loop-holds Inv-loop μ-loop
 loop-holds c =
     let s = c .before .before in
-    record { below = omega arith; kept = refl; places = s .pre .0 .places; cells-low = λ k. let h = s .pre .0 .cells k in omega arith; moves-low = omega (arith, s .pre .0 .moves); landings-low = omega (arith, s .pre .0 .landings) }
+    record {
+      below = omega arith;
+      kept = refl;
+      places = s .pre .0 .places;
+      cells-low = λ k. let h = s .pre .0 .cells k in omega arith;
+      moves-low = omega (arith, s .pre .0 .moves);
+      landings-low = omega (arith, s .pre .0 .landings);
+    }
 
 mul-kind : tie.Need-mul-kind Inv-loop μ-loop
 mul-kind c = search needs

@@ -93,8 +93,18 @@ returns c =
     let p1 = p2 .before .before .before .before .before in
     let s = p1 .before .before .before .before in
     let counts : Counted64 (s .args .c) =
-    record { played = omega (arith, s .good .1 .0); refused5 = omega (arith, s .good .1 .0); refused6 = omega (arith, s .good .1 .0); refused7 = omega (arith, s .good .1 .0); moves = omega (arith, s .good .1 .0); landings = omega (arith, s .good .1 .0) } in
-    (put-more (put-more (put-more (put-more (put-more (put-more (put-more (p1 .put-count .ensures) (p2 .put-count2 .ensures)) (p3 .put-count3 .ensures)) (p4 .put-count4 .ensures)) (heading .put-text .ensures)) (table .put-rows .ensures .0)) (p5 .put-count5 .ensures)) (p6 .put-count6 .ensures), week-short (s .args .c) counts (table .put-rows .ensures .1))
+    record {
+      played = omega (arith, s .good .1 .0);
+      refused5 = omega (arith, s .good .1 .0);
+      refused6 = omega (arith, s .good .1 .0);
+      refused7 = omega (arith, s .good .1 .0);
+      moves = omega (arith, s .good .1 .0);
+      landings = omega (arith, s .good .1 .0);
+    } in (
+      put-more (put-more (put-more (put-more (put-more (put-more (put-more (p1 .put-count .ensures) (p2 .put-count2 .ensures)) (p3 .put-count3 .ensures)) (p4 .put-count4 .ensures))
+          (heading .put-text .ensures)) (table .put-rows .ensures .0)) (p5 .put-count5 .ensures)) (p6 .put-count6 .ensures),
+      week-short (s .args .c) counts (table .put-rows .ensures .1),
+    )
 
 pub put-week-spec : {M : Type 1} → statement M
 put-week-spec =

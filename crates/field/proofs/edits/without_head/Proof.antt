@@ -47,7 +47,8 @@ returns-2 c =
     let s = c .before .before .before .before .before .before in
     let long = zone-known (s .args .q) (s .good .0) .places in
     shifted (s .args .q .aircraft) _ nobody _ _ long (c .before .before .before .nobody .ensures)
-    ∙ sym (if-false (s .args .q) (record { aircraft = drop 1 (s .args .q .aircraft) ++ (nobody ∷ []); length = s .args .q .length - 1 }) (ne-eqb _ _ (c .before .before .before .before .before .if1 .left)))
+    ∙ sym (if-false (s .args .q) (record { aircraft = drop 1 (s .args .q .aircraft) ++ (nobody ∷ []); length = s .args .q .length - 1 })
+    (ne-eqb _ _ (c .before .before .before .before .before .if1 .left)))
 
 pub without-head-spec : {M : Type 1} → statement M
 without-head-spec = tie.close (tie.spec returns nobody-requires array-copy-out-t8 array-copy-out-t11 array-copy-out-t14 sub-t16 returns-2)

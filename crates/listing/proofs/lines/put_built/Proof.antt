@@ -56,8 +56,11 @@ returns-2 c =
     let e = built-listed b (k .before .before .before .before .before .before .before .before .before .if1 .left) in
     let same = ap (λ (m : Listing). nextLine (b .after .field .next) ++ listReport m) (l .list-of .ensures) ∙ sym e in
     let size = both-short (b .after .field .next) (l .list-of .result) (omega (arith, s .good .1 .0)) (listing-known (l .list-of .result) (l .list-of .ok)) in
-    let long = ap length same in
-    (subst (λ (bytes : List ℕ). Put (now (s .args .out)) 0 bytes (k .put-list .last .0) (k .put-list .result)) same (put-more (k .before .before .before .before .before .put-next .ensures) (k .put-list .ensures)), omega arith)
+    let long = ap length same in (
+      subst (λ (bytes : List ℕ). Put (now (s .args .out)) 0 bytes (k .put-list .last .0) (k .put-list .result)) same
+          (put-more (k .before .before .before .before .before .put-next .ensures) (k .put-list .ensures)),
+      omega arith,
+    )
 
 pub put-built-spec : {M : Type 1} → statement M
 put-built-spec =

@@ -68,7 +68,8 @@ returns c =
     let l = c .before in
     let p = l .before .before .before in
     let k = p .before .before in
-    let first = subst (λ (n : ℕ). Put (now (k .before .before .args .out)) (k .before .before .args .at) (another n) (p .put-another .last .0) (p .put-another .result)) (k .order-length .ensures) (p .put-another .ensures) in
+    let first = subst (λ (n : ℕ). Put (now (k .before .before .args .out)) (k .before .before .args .at) (another n) (p .put-another .last .0) (p .put-another .result))
+    (k .order-length .ensures) (p .put-another .ensures) in
     put-more first (left-none (l .loop .inv .left) (order-past (l .loop .inv) (omega arith)))
 
 pub put-sequence-spec : {M : Type 1} → statement M

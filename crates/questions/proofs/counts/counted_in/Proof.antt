@@ -25,10 +25,12 @@ have-fix-requires : tie.Need-have-fix-requires
 have-fix-requires c κs = search needs
 
 returns : tie.Need-returns
-returns c = c .queue-length .ensures ∙ sym (chosen (c .before .before .before .args .q) (c .before .before .before .args .side) (c .before .before .before .args .zone) (sym (c .before .before .is-in-area .ensures) ∙ c .before .if1 .taken))
+returns c = c .queue-length .ensures ∙ sym (chosen (c .before .before .before .args .q) (c .before .before .before .args .side)
+    (c .before .before .before .args .zone) (sym (c .before .before .is-in-area .ensures) ∙ c .before .if1 .taken))
 
 returns-2 : tie.Need-returns-2
-returns-2 c = c .have-fix .ensures ∙ sym (chosen (c .before .before .before .args .q) (c .before .before .before .args .side) (c .before .before .before .args .zone) (sym (c .before .before .is-in-area .ensures) ∙ c .before .if1 .left))
+returns-2 c = c .have-fix .ensures ∙ sym (chosen (c .before .before .before .args .q) (c .before .before .before .args .side)
+    (c .before .before .before .args .zone) (sym (c .before .before .is-in-area .ensures) ∙ c .before .if1 .left))
 
 pub counted-in-spec : {M : Type 1} → statement M
 counted-in-spec = tie.close (tie.spec is-in-area-requires queue-length-requires have-fix-requires returns returns-2)

@@ -17,7 +17,8 @@ abbrev μ-loop : tie.MeasureT-loop
 μ-loop side first f n₀ zone₀ n zone = 13 - zone
 
 -- what a turn adds, read from the zone where it stands
-same : (c : tie.After-have-fix Inv-loop μ-loop) → c .have-fix .result ≡ howManyWithFix (c .before .before .before .before .args .t1) (c .before .before .before .before .args .side) (c .before .before .before .loop .zone)
+same : (c : tie.After-have-fix Inv-loop μ-loop) → c .have-fix .result ≡ howManyWithFix (c .before .before .before .before .args .t1)
+    (c .before .before .before .before .args .side) (c .before .before .before .loop .zone)
 same c =
     let start = c .before .before .before .before in
     let f = start .args .t1 in
