@@ -25,8 +25,8 @@ use Rattle.finder.proofs.Known.{index-known}
 use Rattle.finder.proofs.Indexed as indexed
 use Rattle.rules.specs.Kinds.{placeBefore}
 use Rattle.rules.specs.Step.{effectOf, numberOf}
-use Rattle.kept_up.specs.KeptUp.{isTold, leadsTo, keptUp}
-use Rattle.kept_up.proofs.Told.{kept-up-own}
+use Rattle.kept_up.specs.KeptUp.{isTold, leadsTo, ledTo, keptUp}
+use Rattle.kept_up.proofs.Own.{kept-up-own}
 use Rattle.indexed.proofs.Steps.{field-within, index-own}
 
 -- what is known of a field with an index that is a parameter
@@ -55,14 +55,14 @@ module _ (x : Indexed) (w : T (withinBoundsIndexed x)) (known : IndexedKnown x) 
   -- The index kept up from the one before is that of the field after.
   pub kept-up-after : (r : Request) → numberOf f r ≡ 0 → {at : Place} {to there : ℕ} {g : Field} → at ≡ placeBefore f r → to ≡ leadsTo (r .kind) (at .zone) → there ≡ howMany f to
       → g ≡ effectOf f r → isTold (r .kind) (at .zone) ≡ true
-      → keptUp (at .zone) (record { number = r .number; zone = to; place = there + 1 }) (x .index) ≡ indexOf g
+      → keptUp (at .zone) (ledTo (r .kind) (r .number) to (there + 1)) (x .index) ≡ indexOf g
   kept-up-after r e {at} {to} {there} {g} p q h a t =
       let zone = ap (λ (y : Place). y .zone) p in
       let w′ = q ∙ ap (leadsTo (r .kind)) zone in
       let place = h ∙ ap (howMany f) w′ in
-      ap (λ (i : Index). keptUp (at .zone) (record { number = r .number; zone = to; place = there + 1 }) i) (index-own x w)
-      ∙ ap (λ (z : ℕ). keptUp z (record { number = r .number; zone = to; place = there + 1 }) (indexOf f)) zone
-      ∙ ap (λ (z : ℕ). keptUp (placeBefore f r .zone) (record { number = r .number; zone = z; place = there + 1 }) (indexOf f)) w′
-      ∙ ap (λ (n : ℕ). keptUp (placeBefore f r .zone) (record { number = r .number; zone = leadsTo (r .kind) (placeBefore f r .zone); place = n + 1 }) (indexOf f)) place
-      ∙ kept-up-own f shaped r e (sym (ap (isTold (r .kind)) zone) ∙ t) (sym (ap (λ (i : Index). length (i .entries)) (index-own x w)) ∙ known .places)
+      ap (keptUp (at .zone) (ledTo (r .kind) (r .number) to (there + 1))) (index-own x w)
+      ∙ ap (λ (z : ℕ). keptUp z (ledTo (r .kind) (r .number) to (there + 1)) (indexOf f)) zone
+      ∙ ap (λ (z : ℕ). keptUp (placeBefore f r .zone) (ledTo (r .kind) (r .number) z (there + 1)) (indexOf f)) w′
+      ∙ ap (λ (n : ℕ). keptUp (placeBefore f r .zone) (ledTo (r .kind) (r .number) (leadsTo (r .kind) (placeBefore f r .zone)) (n + 1)) (indexOf f)) place
+      ∙ kept-up-own f shaped r e (sym (ap (isTold (r .kind)) zone) ∙ t)
       ∙ sym (ap indexOf a)

@@ -12,6 +12,7 @@ use finder::within_bounds_indexed;
 use kept_up::is_told;
 use kept_up::kept_up;
 use kept_up::leads_to;
+use kept_up::led_to;
 use needs::check_number;
 use questions::find::leader_of;
 use request::Request;
@@ -152,11 +153,7 @@ fn step_by_index(x: Indexed, r: Request, judged: bool) -> SteppedIndexed
             return turned_away(x, 25);
         }
     }
-    let led = Entry {
-        number: r.number,
-        zone: to as u8,
-        place: (there + 1) as u8,
-    };
+    let led = led_to(r.kind, r.number, to as u8, (there + 1) as u8);
     accepted(answered(index, g, r, along, zone, led), g)
 }
 

@@ -1,4 +1,5 @@
 pub mod Entries
 pub mod Moved
 pub mod Told
+pub mod Own
 pub mod Leads

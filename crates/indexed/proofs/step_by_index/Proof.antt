@@ -16,6 +16,7 @@ use Rattle.field.proofs.Parts.{is-not, holds, fails}
 use Rattle.field.proofs.Tests.{decided, pass, passed, if-true, if-false}
 use Rattle.questions.specs.declared.Place.{Place}
 use Rattle.bounds.specs.Bounds.{withinBounds}
+use Rattle.finder.specs.declared.Entry.{Entry}
 use Rattle.finder.specs.Finder.{indexOf}
 use Rattle.finder.proofs.Theorems.{indexed-as-looked}
 use Rattle.rules.specs.Kinds.{placeBefore}
@@ -26,6 +27,7 @@ use Rattle.indexed.specs.declared.AnswerAndIndex.{AnswerAndIndex}
 use Rattle.indexed.specs.declared.SteppedIndexed.{SteppedIndexed}
 use Rattle.indexed.specs.Indexed.{withIndex, numberIndexed}
 use Rattle.indexed.proofs.Steps.{turned-away, let-through, number-within, field-within, asked-found, tick-leaves}
+use Rattle.kept_up.specs.KeptUp.{keptUp}
 use Rattle.kept_up.proofs.Leads.{leads-within}
 use Rattle.indexed.proofs.Kept.{IndexedKnown, indexed-known, length-there, few-there, kept-up-after}
 use Rattle.indexed.proofs.step_by_index.Statement.{statement}
@@ -144,14 +146,17 @@ mul-there c = let b = led-within c in search (needs, b)
 element-copy-out-there : tie.Need-element-copy-out-there
 element-copy-out-there c = let b = led-within c in omega (arith, b)
 
-cast-t24 : tie.Need-cast-t24
-cast-t24 c = let b = led-within (c .before .before) in omega (arith, b)
+cast-led-to : tie.Need-cast-led-to
+cast-led-to c = let b = led-within (c .before .before) in omega (arith, b)
 
-add-t19 : tie.Need-add-t19
-add-t19 c = let few = there-few c in omega (arith, few)
+add-led-to : tie.Need-add-led-to
+add-led-to c = let few = there-few c in omega (arith, few)
 
-cast-t25 : tie.Need-cast-t25
-cast-t25 c = let few = there-few c in omega (arith, few)
+cast-led-to-2 : tie.Need-cast-led-to-2
+cast-led-to-2 c = let few = there-few c in omega (arith, few)
+
+led-to-requires : tie.Need-led-to-requires
+led-to-requires c κs = search needs
 
 effect-requires : tie.Need-effect-requires
 effect-requires c κs = search needs
@@ -175,14 +180,16 @@ returns-2 c =
 
 answered-requires : tie.Need-answered-requires
 answered-requires c κs =
-    let led = c .before .before in
+    let j = c .before in
+    let led = j .before .before in
     let e = led .before .before in
     let k = e .before in
     let s = start k in (
-      subst⁻¹ (λ (g : Field). T (withinBounds g)) (after (c .before)) (pass (bounded c)),
-      (λ k. tick-leaves (s .args .x) (s .pre .0 .1) (s .args .r) k ∙ sym (ap indexOf (after (c .before)))),
-      kept-up-after (s .args .x) (s .pre .0 .1) (known k) (s .args .r) (number k ∙ if-true _ _ (eq-eqb _ _ (met e)) ∙ if-true _ _ (bounded c)) (found k) (led .leads-to .ensures)
-          (length-there (s .args .x) (s .pre .0 .1) (known k) (led .leads-to .result) _ (led-within led)) (after (c .before)),
+      subst⁻¹ (λ (g : Field). T (withinBounds g)) (after (j .before)) (pass (bounded j)),
+      (λ k. tick-leaves (s .args .x) (s .pre .0 .1) (s .args .r) k ∙ sym (ap indexOf (after (j .before)))),
+      λ t. ap (λ (to : Entry). keptUp (k .before .before .before .find .result .zone) to (s .args .x .index)) (c .led-to .ensures)
+          ∙ kept-up-after (s .args .x) (s .pre .0 .1) (known k) (s .args .r) (number k ∙ if-true _ _ (eq-eqb _ _ (met e)) ∙ if-true _ _ (bounded j)) (found k) (led .leads-to .ensures)
+          (length-there (s .args .x) (s .pre .0 .1) (known k) (led .leads-to .result) _ (led-within led)) (after (j .before)) t,
     )
 
 accepted-requires : tie.Need-accepted-requires
@@ -190,7 +197,7 @@ accepted-requires c κs = search needs
 
 returns-3 : tie.Need-returns-3
 returns-3 c =
-    let j = c .before .before in
+    let j = c .before .before .before in
     let l = j .before .before .before in
     let e = l .before in
     let k = e .before in
@@ -218,9 +225,10 @@ step-by-index-spec =
     within-bounds-requires
     turned-away-requires-2
     returns-2
-    cast-t24
-    add-t19
-    cast-t25
+    cast-led-to
+    add-led-to
+    cast-led-to-2
+    led-to-requires
     answered-requires
     accepted-requires
     returns-3)
