@@ -1,12 +1,12 @@
--- Entries after a move, and without that of a number: they are in order, each used one has a zone, and what is found among them. Assumes nothing.
+-- Entries after a move or a descent, without that of a number, and with one more put among them: they are in order, each used one has a zone, and what is found among them. Assumes nothing.
 use mathlib.Core.Path.{_≡_, refl, sym, ap, _∙_, subst}
 use mathlib.Core.Logic.{_≢_, inl, inr}
 use mathlib.Core.Bool.{Bool, true, false, cond, _&&_}
 use mathlib.Core.List.{List, [], _∷_, _++_, map}
-use Prim.Native.Nat.{ℕ, suc, _-_, _≤_}
+use Prim.Native.Nat.{ℕ, suc, _+_, _-_, _≤_, _<_}
 use native.Mathlib.Numerals.{add-one}
 use native.Mathlib.Omega.{arith}
-use borrow.Author.Tests.{eqb-true, ne-eqb}
+use borrow.Author.Tests.{eqb-true, eq-eqb, ne-eqb}
 use lib.Dec.{eqb, ltb}
 use lib.ListN.{length, length-append}
 use Rattle.field.proofs.Parts.{and-cut}
@@ -14,9 +14,10 @@ use Rattle.field.proofs.Tests.{if-true, if-false, either-way}
 use Rattle.questions.specs.declared.Place.{Place}
 use Rattle.questions.specs.Find.{nowhere}
 use Rattle.finder.specs.declared.Entry.{Entry}
-use Rattle.finder.specs.Finder.{unused, Unused, InOrder, foundAmong}
+use Rattle.finder.specs.Finder.{unused, put, Unused, InOrder, foundAmong}
+use Rattle.finder.proofs.Found.{free, before-unused, put-before, put-zero, put-by}
 use Rattle.finder.proofs.Determined.{HasZone, HaveZones, absent}
-use Rattle.kept_up.specs.KeptUp.{movedEntry, without}
+use Rattle.kept_up.specs.KeptUp.{movedEntry, descendedEntry, without}
 
 -- a place after the head of a zone has left it, of one that is not that head
 abbrev pub movedUp : ℕ → Place → Place
@@ -172,3 +173,101 @@ module _ (n : ℕ) (h : n ≢ 0) where
       let own = eqb-true (e .number) n t in
       found-last n h es ∙ absent (e .number) n h (omega (arith, own)) es (p .1))
       (λ t. if-false _ _ t ∙ own-without (e .number) es (p .1))
+
+-- ---- who was at 3000 has descended
+-- a place after that
+abbrev pub descendedPlace : ℕ → Place → Place
+descendedPlace side p = cond (eqb (p .zone) side) (record { zone = 2 + side; place = 1 }) p
+
+module _ (side : ℕ) (start : 1 ≤ side) where
+  abbrev down : Entry → Entry
+  down = descendedEntry side
+
+  down-number : (e : Entry) → down e .number ≡ e .number
+  unfolding descendedEntry
+  down-number e = either-way (λ (x : Entry). x .number ≡ e .number) (eqb (e .zone) side) _ e (λ t. refl) (λ t. refl)
+
+  down-unused : (e : Entry) → e ≡ unused → down e ≡ unused
+  unfolding descendedEntry
+  down-unused e h = ap down h ∙ if-false _ _ (ne-eqb 0 side (λ t. omega (arith, t, start)))
+
+  all-down-unused : (es : List Entry) → Unused es → Unused (map down es)
+  all-down-unused [] u = tt
+  all-down-unused (e ∷ es) u = (down-unused e (u .0), all-down-unused es (u .1))
+
+  pub down-in-order : (k : ℕ) (es : List Entry) → InOrder k es → InOrder k (map down es)
+  down-in-order k [] o = tt
+  down-in-order k (e ∷ es) (inl u) = inl (all-down-unused (e ∷ es) u)
+  down-in-order k (e ∷ es) (inr p) = rw (down-number e) (inr (p .0, down-in-order (e .number) es (p .1)))
+
+  down-zone : (e : Entry) → HasZone e → HasZone (down e)
+  unfolding descendedEntry
+  down-zone e h = either-way HasZone (eqb (e .zone) side) _ e (λ t u z. omega (arith, z)) (λ t. h)
+
+  pub down-zoned : (es : List Entry) → HaveZones es → HaveZones (map down es)
+  down-zoned [] h = tt
+  down-zoned (e ∷ es) h = (down-zone e (h .0), down-zoned es (h .1))
+
+  pub down-free : (es : List Entry) → free (map down es) ≡ free es
+  down-free [] = refl
+  down-free (e ∷ es) = ap (λ (n : ℕ). cond (eqb n 0) 1 0 + free (map down es)) (down-number e) ∙ ap (λ (n : ℕ). cond (eqb (e .number) 0) 1 0 + n) (down-free es)
+
+  down-says : (e : Entry) → record { zone = down e .zone; place = down e .place } ≡ descendedPlace side (record { zone = e .zone; place = e .place })
+  unfolding descendedEntry
+  down-says e = go (eqb (e .zone) side)
+    where
+      go : (b : Bool) → (let d : Entry = cond b (record { number = e .number; zone = 2 + side; place = 1 }) e in
+          _≡_ {A = Place} (record { zone = d .zone; place = d .place }) (cond b (record { zone = 2 + side; place = 1 }) (record { zone = e .zone; place = e .place })))
+      go true = refl
+      go false = refl
+
+  -- Every number is found where it was, or at 2000.
+  pub down-found : (n : ℕ) (es : List Entry) → foundAmong n (map down es) ≡ descendedPlace side (foundAmong n es)
+  down-found n [] = sym (if-false _ _ (ne-eqb 0 side (λ t. omega (arith, t, start))))
+  down-found n (e ∷ es) =
+      ap (λ (k : ℕ). cond (eqb k n) (record { zone = down e .zone; place = down e .place }) (foundAmong n (map down es))) (down-number e)
+      ∙ ap (λ (p : Place). cond (eqb (e .number) n) p (foundAmong n (map down es))) (down-says e)
+      ∙ ap (cond (eqb (e .number) n) (descendedPlace side (record { zone = e .zone; place = e .place }))) (down-found n es)
+      ∙ joined (eqb (e .number) n)
+    where
+      joined : (b : Bool) → cond b (descendedPlace side (record { zone = e .zone; place = e .place })) (descendedPlace side (foundAmong n es))
+          ≡ descendedPlace side (cond b (record { zone = e .zone; place = e .place }) (foundAmong n es))
+      joined true = refl
+      joined false = refl
+
+-- ---- one more is put among them
+-- what is found then, where its number was not among them and a place was unused
+pub put-found : (k : ℕ) (e : Entry) → k < e .number → (es : List Entry) → InOrder k es → HaveZones es → foundAmong (e .number) es .zone ≡ 0 → 1 ≤ free es → (n : ℕ) → n ≢ 0
+    → foundAmong n (put e es) ≡ cond (eqb (e .number) n) (record { zone = e .zone; place = e .place }) (foundAmong n es)
+put-found k e h [] o z a room n u = absurd (omega arith)
+put-found k e h (x ∷ xs) (inl o) z a room n u =
+    let none : x .number ≡ 0 = ap (λ (y : Entry). y .number) (o .0) in
+    ap (foundAmong n) (put-before e x xs (before-unused e x (λ t. omega (arith, t, h)) none) ∙ ap (λ (l : List Entry). e ∷ l) (put-zero x none xs))
+    ∙ ap (cond (eqb (e .number) n) (record { zone = e .zone; place = e .place })) (sym (if-false _ _ (ne-eqb (x .number) n (λ t. u (sym t ∙ none)))))
+put-found k e h (x ∷ xs) (inr p) z a room n u =
+    let above = p .0 in
+    let x-used : x .number ≢ 0 = λ t. omega (arith, t, above) in
+    let e-used : e .number ≢ 0 = λ t. omega (arith, t, h) in
+    let no = if-false {A = ℕ} 1 0 (ne-eqb (x .number) 0 x-used) in
+    let left : 1 ≤ free xs = omega (arith, no, room) in
+    let behind = ap (λ (q : Place). q .zone) (absent (x .number) (x .number) x-used (omega arith) xs (p .1)) in
+    put-by (λ (l : List Entry). foundAmong n l ≡ cond (eqb (e .number) n) (record { zone = e .zone; place = e .place }) (foundAmong n (x ∷ xs))) e x xs e-used x-used
+    (λ g. ap (cond (eqb (e .number) n) (record { zone = e .zone; place = e .place })) (put-found (e .number) x g xs (raised e x g xs (p .1)) (z .1) behind left n u))
+    (λ g. absurd (z .0 x-used (sym (ap (λ (q : Place). q .zone) (if-true _ _ (eq-eqb (x .number) (e .number) (sym g)))) ∙ a)))
+    (λ g.
+    let other = ne-eqb (x .number) (e .number) (λ t. omega (arith, t, g)) in
+    ap (cond (eqb (x .number) n) (record { zone = x .zone; place = x .place }))
+    (put-found (x .number) e g xs (p .1) (z .1) (sym (ap (λ (q : Place). q .zone) (if-false _ _ other)) ∙ a) left n u)
+    ∙ swapped e x (λ t. omega (arith, t, g)) (foundAmong n xs) n (eqb (x .number) n) (eqb (e .number) n) refl refl)
+  where
+    raised : (e x : Entry) → e .number < x .number → (ys : List Entry) → InOrder (x .number) ys → InOrder (e .number) ys
+    raised e x g [] o = tt
+    raised e x g (y ∷ ys) (inl u) = inl u
+    raised e x g (y ∷ ys) (inr q) = let over = q .0 in inr (omega (arith, over, g), q .1)
+
+    swapped : (e x : Entry) → x .number ≢ e .number → (q : Place) (n : ℕ) (b c : Bool) → eqb (x .number) n ≡ b → eqb (e .number) n ≡ c
+        → cond b (record { zone = x .zone; place = x .place }) (cond c (record { zone = e .zone; place = e .place }) q)
+        ≡ cond c (record { zone = e .zone; place = e .place }) (cond b (record { zone = x .zone; place = x .place }) q)
+    swapped e x g q n true true s t = absurd (g (eqb-true (x .number) n s ∙ sym (eqb-true (e .number) n t)))
+    swapped e x g q n true false s t = refl
+    swapped e x g q n false c s t = refl

@@ -1,5 +1,7 @@
+pub mod Written
 pub mod Entries
 pub mod Moved
+pub mod Queues
+pub mod Leads
 pub mod Told
 pub mod Own
-pub mod Leads

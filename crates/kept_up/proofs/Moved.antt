@@ -1,7 +1,7 @@
 -- Look-up on a field where the head of a zone has left it, or where one more stands at the tail of a zone. Assumes nothing.
 use mathlib.Core.Path.{_≡_, refl, sym, ap, _∙_, subst}
 use mathlib.Core.Logic.{_≢_, _⊎_, inl, inr}
-use mathlib.Core.Bool.{Bool, true, false, cond}
+use mathlib.Core.Bool.{Bool, true, false, cond, _||_, true≢false}
 use mathlib.Core.List.{List, [], _∷_, _++_}
 use Prim.Native.Nat.{ℕ, zero, suc, _+_, _≤_}
 use native.Mathlib.Omega.{arith}
@@ -15,13 +15,14 @@ use Rattle.field.specs.declared.Aircraft.{Aircraft}
 use Rattle.field.specs.declared.Field.{Field}
 use Rattle.field.specs.Boxes.{nobody, everywhere, inZone}
 use Rattle.field.specs.Lists.{isIn, allDifferent}
-use Rattle.field.proofs.Lists.{every-listed, zone-listed}
+use Rattle.field.proofs.Lists.{every-listed, zone-listed, absent-left, absent-right}
 use Rattle.field.proofs.Parts.{and-then, and-cut}
 use Rattle.field.proofs.Tests.{decided, passed, if-true, if-false, same}
 use Rattle.questions.specs.declared.Place.{Place}
-use Rattle.questions.specs.Counts.{howMany}
+use Rattle.questions.specs.Counts.{howMany, presentOn}
 use Rattle.questions.specs.Find.{aircraftAt, nowhere, placeFrom, findIn, placeOf, numbersIn}
-use Rattle.questions.proofs.FindLaws.{at, Found, found-there, absent-nowhere, own-place, find-own, find-same}
+use Rattle.questions.proofs.FindLaws.{numbers, at, no-place, place-at, Found, found-there, absent-nowhere, own-place, find-own, find-same}
+use Rattle.laws.proofs.CountLaws.{total-changed}
 use Rattle.kept_up.proofs.Entries.{movedUp}
 
 -- the head of a zone, with a number, has left it, by the queues before and after
@@ -168,3 +169,56 @@ module _ (f g : Field) (z n : ℕ) (c : Come f g z n) where
   pub own-come : T (allDifferent (numbersIn g everywhere)) → placeOf g n ≡ at z (suc (howMany f z))
   unfolding placeOf howMany
   own-come d = ap (λ (m : ℕ). findIn g m everywhere) (sym (c .named)) ∙ find-own g z (inZone f z) (c .last) [] (c .there) everywhere d (zone-listed z (c .zone))
+
+  -- So it is where the number was nowhere before.
+  pub own-new : isIn n (numbersIn f everywhere) ≡ false → placeOf g n ≡ at z (suc (howMany f z))
+  unfolding placeOf howMany findIn
+  own-new none = among-new everywhere (zone-listed z (c .zone)) none
+    where
+      among-new : (zs : List ℕ) → isIn z zs ≡ true → isIn n (numbersIn f zs) ≡ false → findIn g n zs ≡ at z (suc (length (inZone f z)))
+      among-new [] i a = absurd (true≢false (sym i))
+      among-new (y ∷ ys) i a = go (among-new ys) (decided (eqb y z))
+        where
+          here : y ≡ z → placeFrom 1 n (inZone g y) ≡ suc (length (inZone f z))
+          here q =
+              ap (λ (w : ℕ). placeFrom 1 n (inZone g w)) q
+              ∙ ap (placeFrom 1 n) (c .there)
+              ∙ ap (λ (m : ℕ). placeFrom 1 m (inZone f z ++ (c .last ∷ []))) (sym (c .named))
+              ∙ place-at 1 (inZone f z) (c .last) []
+              (ap (λ (m : ℕ). isIn m (numbers (inZone f z))) (c .named) ∙ sym (ap (λ (w : ℕ). isIn n (numbers (inZone f w))) q) ∙ absent-left n (numbers (inZone f y)) (numbersIn f ys) a)
+              ∙ omega arith
+
+          go : (isIn z ys ≡ true → isIn n (numbersIn f ys) ≡ false → findIn g n ys ≡ at z (suc (length (inZone f z)))) → (eqb y z ≡ true) ⊎ (eqb y z ≡ false)
+              → cond (eqb (placeFrom 1 n (inZone g y)) 0) (findIn g n ys) (at y (placeFrom 1 n (inZone g y))) ≡ at z (suc (length (inZone f z)))
+          go later (inl t) =
+              let q = eqb-true y z t in
+              let p = here q in
+              if-false _ _ (ne-eqb (placeFrom 1 n (inZone g y)) 0 (λ e. omega (arith, e, p))) ∙ (λ i. at (q i) (p i))
+          go later (inr t) =
+              let p = ap (placeFrom 1 n) (c .elsewhere y (eqb-false y z t)) ∙ no-place 1 n (inZone f y) (absent-left n (numbers (inZone f y)) (numbersIn f ys) a) in
+              if-true _ _ (eq-eqb (placeFrom 1 n (inZone g y)) 0 p)
+              ∙ later (sym (ap (λ (b : Bool). b || isIn z ys) t) ∙ i) (absent-right n (numbers (inZone f y)) (numbersIn f ys) a)
+
+  -- One more is present.
+  pub come-total : presentOn g ≡ presentOn f + 1
+  unfolding presentOn howMany
+  come-total =
+      let t = total-changed (howMany g) (howMany f) z (λ y h. ap length (c .elsewhere y h)) everywhere tt in
+      let listed = zone-listed z (c .zone) in
+      let before = if-true (howMany f z) 0 listed in
+      let after = if-true (howMany g z) 0 listed in
+      let more = ap length (c .there) ∙ length-append (inZone f z) (c .last ∷ []) in
+      omega (arith, t, before, after, more)
+
+module _ (f g : Field) (z n : ℕ) (l : Left f g z n) where
+  -- One less is present.
+  pub left-total : presentOn f ≡ presentOn g + 1
+  unfolding presentOn howMany
+  left-total =
+      let t = total-changed (howMany f) (howMany g) z (λ y h. sym (ap length (l .elsewhere y h))) everywhere tt in
+      let listed = zone-listed z (l .zone) in
+      let before = if-true (howMany f z) 0 listed in
+      let after = if-true (howMany g z) 0 listed in
+      let more = ap length (l .here) in
+      let less = ap length (l .after) in
+      omega (arith, t, before, after, more, less)
