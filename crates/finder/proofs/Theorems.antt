@@ -97,8 +97,8 @@ index-free f w =
     let few = five-present f w in
     let many = as-many f everywhere in
     let room =
-        all-room f (numbersIn f everywhere) (non-zero f (numbersIn f everywhere) (nonzero-all f w)) (replicate 5 unused)
-        (inl refl, (inl refl, (inl refl, (inl refl, (inl refl, tt))))) (omega (arith, few, many)) in
+    all-room f (numbersIn f everywhere) (non-zero f (numbersIn f everywhere) (nonzero-all f w)) (replicate 5 unused)
+    (inl refl, (inl refl, (inl refl, (inl refl, (inl refl, tt))))) (omega (arith, few, many)) in
     omega (arith, room, many)
 
 -- ---- a tick

@@ -1,6 +1,5 @@
 -- The index that a step keeps up: where the request leads, by the field and the index before it. Assumes nothing.
 use mathlib.Core.Path.{_≡_, sym, ap, _∙_, subst, subst⁻¹}
-use mathlib.Core.Bool.{true}
 use mathlib.Core.List.{List}
 use Prim.Native.Nat.{ℕ, _+_, _-_, _≤_}
 use lib.Dec.{T}
@@ -23,7 +22,6 @@ use Rattle.questions.specs.Counts.{howMany}
 use Rattle.questions.specs.Find.{aircraftAt}
 use Rattle.laws.proofs.EditLaws.{Shaped, how-many-is}
 use Rattle.laws.proofs.BoundLaws.{shaped-within}
-use Rattle.finder.specs.declared.Index.{Index}
 use Rattle.finder.specs.declared.Indexed.{Indexed}
 use Rattle.finder.specs.Finder.{indexOf, withinBoundsIndexed}
 use Rattle.finder.proofs.Known.{index-known}
@@ -32,7 +30,7 @@ use Rattle.rules.specs.Kinds.{placeBefore, zoneAhead}
 use Rattle.rules.specs.Step.{effectOf, numberOf}
 use Rattle.kept_up.specs.KeptUp.{leadsTo, ledTo, keptUp}
 use Rattle.kept_up.proofs.Leads.{leads-alike}
-use Rattle.kept_up.proofs.Told.{on-final}
+use Rattle.kept_up.proofs.Heads.{on-final}
 use Rattle.kept_up.proofs.Own.{kept-up-own}
 use Rattle.step.proofs.Steps.{asked}
 use Rattle.indexed.proofs.Steps.{field-within, index-own}
@@ -80,13 +78,13 @@ module _ (x : Indexed) (w : T (withinBoundsIndexed x)) (known : IndexedKnown x) 
       let z : ℕ = placeBefore f r .zone in
       let ledBy : ℕ → ℕ = λ v. leadsTo (r .kind) r v (f .sequence) (zoneAhead f r) (howMany f (base (opposite (sideOf v)))) (howMany f (sideOf v)) (howMany f (2 + sideOf v)) (aircraftAt f 12 1 .fix) in
       let counted : leadsTo (r .kind) r (at .zone) (f .sequence) ahead across above below fix
-              ≡ leadsTo (r .kind) r (at .zone) (f .sequence) ahead (howMany f (base (opposite (sideOf (at .zone))))) (howMany f (sideOf (at .zone))) (howMany f (2 + sideOf (at .zone))) fix =
-          λ i. leadsTo (r .kind) r (at .zone) (f .sequence) ahead (pc i) (pu i) (pb i) fix in
+      ≡ leadsTo (r .kind) r (at .zone) (f .sequence) ahead (howMany f (base (opposite (sideOf (at .zone))))) (howMany f (sideOf (at .zone))) (howMany f (2 + sideOf (at .zone))) fix =
+      λ i. leadsTo (r .kind) r (at .zone) (f .sequence) ahead (pc i) (pu i) (pb i) fix in
       let led : to ≡ ledBy z =
-          q
-          ∙ counted
-          ∙ leads-alike (r .kind) r (at .zone) (f .sequence) _ _ _ (λ k. pa ∙ if-true _ _ (ap (within 4 5) k)) (λ k. pf (on-final f shaped r e k))
-          ∙ ap ledBy zone in
+      q
+      ∙ counted
+      ∙ leads-alike (r .kind) r (at .zone) (f .sequence) _ _ _ (λ k. pa ∙ if-true _ _ (ap (within 4 5) k)) (λ k. pf (on-final f r e k))
+      ∙ ap ledBy zone in
       let place = h ∙ ap (howMany f) led in
       ap (keptUp (at .zone) (ledTo (r .kind) (r .number) to (there + 1))) (index-own x w)
       ∙ ap (λ (v : ℕ). keptUp v (ledTo (r .kind) (r .number) to (there + 1)) (indexOf f)) zone

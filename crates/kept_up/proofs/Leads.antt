@@ -30,7 +30,7 @@ leads-within kind r z s ahead across above below fix =
       (λ e. side 4 (r .side) (omega arith)),
       (λ e. side 2 z (omega arith)),
       (λ e.
-      either-way (Between 1 13) (within 5 6 z) _ _ (λ t. either-way (Between 1 13) (mayApproach s (r .number) ahead && leb across 1) _ _ (λ u. side 8 z (omega arith)) (λ u. side 2 z (omega arith))) (λ t. side 8 z (omega arith))),
+          either-way (Between 1 13) (within 5 6 z) _ _ (λ t. either-way (Between 1 13) (mayApproach s (r .number) ahead && leb across 1) _ _ (λ u. side 8 z (omega arith)) (λ u. side 2 z (omega arith))) (λ t. side 8 z (omega arith))),
       (λ e. one 11 (omega arith) (omega arith)),
       (λ e. one 12 (omega arith) (omega arith)),
       (λ e. one 13 (omega arith) (omega arith)),
@@ -38,7 +38,7 @@ leads-within kind r z s ahead across above below fix =
       (λ e. one 13 (omega arith) (omega arith)),
       (λ e. side 6 fix (omega arith)),
       (λ e.
-      either-way (Between 1 13) (eqb above 0) _ _ (λ t. either-way (Between 1 13) (eqb below 0) _ _ (λ u. side 2 z (omega arith)) (λ u. own z)) (λ t. own z)),
+          either-way (Between 1 13) (eqb above 0) _ _ (λ t. either-way (Between 1 13) (eqb below 0) _ _ (λ u. side 2 z (omega arith)) (λ u. own z)) (λ t. own z)),
       one 13 (omega arith) (omega arith),
     )
   where

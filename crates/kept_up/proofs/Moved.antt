@@ -17,11 +17,11 @@ use Rattle.field.specs.Boxes.{nobody, everywhere, inZone}
 use Rattle.field.specs.Lists.{isIn, allDifferent}
 use Rattle.field.proofs.Lists.{every-listed, zone-listed, absent-left, absent-right}
 use Rattle.field.proofs.Parts.{and-then, and-cut}
-use Rattle.field.proofs.Tests.{decided, passed, if-true, if-false, same}
+use Rattle.field.proofs.Tests.{decided, passed, if-true, if-false}
 use Rattle.questions.specs.declared.Place.{Place}
 use Rattle.questions.specs.Counts.{howMany, presentOn}
 use Rattle.questions.specs.Find.{aircraftAt, nowhere, placeFrom, findIn, placeOf, numbersIn}
-use Rattle.questions.proofs.FindLaws.{numbers, at, no-place, place-at, Found, found-there, absent-nowhere, own-place, find-own, find-same}
+use Rattle.questions.proofs.FindLaws.{numbers, at, no-place, place-at, found-there, absent-nowhere, own-place, find-own, find-same}
 use Rattle.laws.proofs.CountLaws.{total-changed}
 use Rattle.kept_up.proofs.Entries.{movedUp}
 

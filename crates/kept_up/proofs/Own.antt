@@ -1,7 +1,7 @@
 -- The index kept up by an accepted request is the new field's own. Assumes nothing.
 use mathlib.Core.Path.{_≡_, refl, sym, ap, _∙_}
 use mathlib.Core.Logic.{_≢_, _⊎_, inl, inr}
-use mathlib.Core.Bool.{Bool, true, false, cond}
+use mathlib.Core.Bool.{true, false, cond}
 use mathlib.Core.List.{List, []}
 use Prim.Native.Nat.{ℕ, suc, _+_, _≤_, _<_}
 use native.Mathlib.Omega.{arith}
@@ -11,7 +11,6 @@ use lib.Dec.{T, eqb, ltb}
 use lib.ListN.{length, length-map}
 use Rattle.request.specs.Input.{within}
 use Rattle.request.specs.declared.Request.{Request}
-use Rattle.field.specs.declared.Aircraft.{Aircraft}
 use Rattle.field.specs.declared.Field.{Field}
 use Rattle.field.specs.Boxes.{inZone}
 use Rattle.field.proofs.Parts.{and-cut}
@@ -37,7 +36,7 @@ use Rattle.rules.proofs.Refusals.{passes}
 use Rattle.kept_up.specs.KeptUp.{placeIn, ledTo, movedEntry, movedEntries, descendedEntry, descendedEntries, without, arrivedAt, keptUp}
 use Rattle.kept_up.proofs.Entries.{movedUp, descendedPlace, moved-in-order, moved-zoned, other-found, own-found, without-length, without-in-order, without-zoned, other-without, own-without, down-in-order, down-zoned, down-free, down-found, put-found}
 use Rattle.kept_up.proofs.Moved.{Left, Come, others-left, was-head, own-left, others-come, own-come, come-total}
-use Rattle.kept_up.proofs.Queues.{Led, Emptied, room-made}
+use Rattle.kept_up.proofs.Queues.{Led, room-made}
 use Rattle.kept_up.proofs.Told.{to, Leaves, Moves, Rises, Comes, ComesAbove, told}
 
 -- ---- an index, and the field after

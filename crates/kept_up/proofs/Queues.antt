@@ -1,9 +1,9 @@
 -- The queues of a field from which the head of a zone is taken, on which one more stands, or on which 3000 of a side was made empty. Assumes nothing.
 use mathlib.Core.Path.{_≡_, refl, sym, ap, _∙_, subst, subst⁻¹}
 use mathlib.Core.Logic.{_≢_, _⊎_, inl, inr}
-use mathlib.Core.Bool.{Bool, true, false, cond, not, _&&_, _||_, true≢false}
-use mathlib.Core.List.{List, [], _∷_, _++_}
-use Prim.Native.Nat.{ℕ, zero, suc, _+_, _≤_, _<_}
+use mathlib.Core.Bool.{Bool, true, false, not, _&&_, _||_, true≢false}
+use mathlib.Core.List.{List, [], _∷_}
+use Prim.Native.Nat.{ℕ, suc, _+_, _≤_, _<_}
 use native.Mathlib.Omega.{arith}
 use borrow.Author.Tests.{eqb-true, eqb-false, eq-eqb, ne-eqb}
 use lib.Dec.{T, eqb, leb, ltb, leb→le}
@@ -21,13 +21,13 @@ use Rattle.field.proofs.Parts.{and-cut}
 use Rattle.field.proofs.Tests.{decided, if-true, if-false, every-from, each-operation}
 use Rattle.questions.specs.declared.Place.{Place}
 use Rattle.questions.specs.Counts.{total, howMany, isEmpty, inOperation, presentOn}
-use Rattle.questions.specs.Find.{aircraftAt, nowhere, placeOf, numbersIn}
+use Rattle.questions.specs.Find.{aircraftAt, placeOf, numbersIn}
 use Rattle.questions.proofs.FindLaws.{at, found-exactly, found-there, absent-nowhere}
 use Rattle.bounds.specs.Bounds.{boundA, lateralRule, boundC, withinBounds}
 use Rattle.laws.proofs.EditLaws.{Shaped, shaped-with-zone, shaped-without-head, shaped-with-tail, queue-taken, queue-put, queue-kept}
 use Rattle.laws.proofs.BoundLaws.{within-each, numbers-different}
 use Rattle.rules.specs.Kinds.{headGone, tailPut, moved, madeRoom}
-use Rattle.kept_up.proofs.Entries.{movedUp, descendedPlace}
+use Rattle.kept_up.proofs.Entries.{descendedPlace}
 use Rattle.kept_up.proofs.Moved.{Left, Come, others-left, was-head, own-left, left-total, others-come, own-new, come-total}
 
 -- the head of a zone, with a number

@@ -1,11 +1,11 @@
 -- What an accepted request does to the queues: somebody leaves the field, moves to another zone, or comes onto the field. Assumes nothing.
 use mathlib.Core.Path.{_≡_, refl, sym, ap, _∙_, subst, subst⁻¹}
 use mathlib.Core.Logic.{_≢_, _⊎_, inl, inr}
-use mathlib.Core.Bool.{Bool, true, false, cond, not, _&&_, _||_, true≢false}
-use mathlib.Core.List.{List, [], _∷_, _++_}
-use Prim.Native.Nat.{ℕ, _+_, _≤_, _<_}
+use mathlib.Core.Bool.{Bool, true, false, cond, not, _&&_, _||_}
+use mathlib.Core.List.{List, [], _∷_}
+use Prim.Native.Nat.{ℕ, _+_, _≤_}
 use native.Mathlib.Omega.{arith}
-use borrow.Author.Tests.{eqb-true, eqb-false, eq-eqb, ne-eqb}
+use borrow.Author.Tests.{eqb-true}
 use lib.Dec.{T, eqb, leb, ltb, leb→le, le→leb}
 use lib.Ieee.Fits.{and-i, and-l, and-r}
 use lib.ListN.{length, getD}
@@ -16,33 +16,28 @@ use Rattle.request.proofs.Tests.{within-low, within-high}
 use Rattle.request.proofs.ByKind.{kind-known, entry-known}
 use Rattle.field.specs.declared.Aircraft.{Aircraft}
 use Rattle.field.specs.declared.Field.{Field}
-use Rattle.field.specs.Boxes.{right, left, nobody, sideOf, isSide, opposite, at3000, at2000, base, missed, finalApproach, everywhere, inZone, zoneOf, entering, withFix, turnedAway}
+use Rattle.field.specs.Boxes.{right, left, nobody, sideOf, isSide, opposite, at3000, at2000, base, missed, finalApproach, inZone, zoneOf, entering, withFix, turnedAway}
 use Rattle.field.specs.Edits.{withSequence}
-use Rattle.field.specs.Lists.{isIn, every}
+use Rattle.field.specs.Lists.{every}
 use Rattle.field.proofs.Arrival.{into-turned-away}
 use Rattle.field.proofs.Parts.{or-else}
-use Rattle.field.proofs.Tests.{decided, pass, passed, failed, if-true, if-false, either-way, each-from}
-use Rattle.questions.specs.declared.Place.{Place}
-use Rattle.questions.specs.Counts.{howMany, isEmpty, inOperation, inArea, approachHolds, potentialOf}
-use Rattle.questions.specs.Find.{aircraftAt, numbersIn}
-use Rattle.questions.proofs.FindLaws.{at, found-exactly, found-there}
-use Rattle.bounds.specs.Bounds.{boundA, boundB, boundC, lateralRule, withinBounds, fitsZone}
+use Rattle.field.proofs.Tests.{decided, pass, passed, if-true, if-false, either-way, each-from}
+use Rattle.questions.specs.Counts.{howMany, isEmpty, inArea, approachHolds, potentialOf}
+use Rattle.questions.specs.Find.{aircraftAt}
+use Rattle.questions.proofs.FindLaws.{at}
+use Rattle.bounds.specs.Bounds.{boundB, withinBounds, fitsZone}
 use Rattle.laws.proofs.EditLaws.{Shaped}
 use Rattle.laws.proofs.BoundLaws.{within-each}
 use Rattle.laws.proofs.Fits.{fits-parts, all-fit}
-use Rattle.rules.specs.Kinds.{placeBefore, zoneBefore, zoneAhead, absentChecks, headChecks, presenceChecks, flownOutCheck, startsFrom, mayApproach, baseFree, headGone, tailPut, moved, madeRoom, enteredAbove, entered, approached, landed, exited, missedApproach, held, fixTaken, fixAfterMiss, outOfSequence}
+use Rattle.rules.specs.Kinds.{placeBefore, zoneBefore, zoneAhead, flownOutCheck, startsFrom, mayApproach, baseFree, headGone, moved, madeRoom, enteredAbove, entered, approached, landed, exited, missedApproach, held, fixTaken, fixAfterMiss, outOfSequence}
 use Rattle.rules.specs.Step.{effectOf, numberOf}
-use Rattle.rules.proofs.Checks.{HeadPassed, besides, owned, checks-at, effect-at, head-passed, first-passes}
+use Rattle.rules.proofs.Checks.{besides, checks-at, effect-at, first-passes}
 use Rattle.rules.proofs.Refusals.{passes}
 use Rattle.kept_up.specs.KeptUp.{approachTo, holdTo, leadsTo}
 use Rattle.kept_up.proofs.Moved.{Left, Come}
 use Rattle.kept_up.proofs.Leads.{of-side}
+use Rattle.kept_up.proofs.Heads.{side-own, only, heading, found, heads, some, on-final}
 use Rattle.kept_up.proofs.Queues.{Heads, Led, Emptied, gone-left, put-come, left-same, come-same, led-same, put-led, moved-led, head-alike, room-in, one-each, room-made}
-
--- the side of a side
-side-own : (s : ℕ) → 1 ≤ s → s ≤ 2 → sideOf s ≡ s
-unfolding sideOf
-side-own s low high = each-from 1 2 (λ s. sideOf s ≡ s) (refl, (refl, tt)) s low (omega (arith, high))
 
 module _ (f : Field) (sh : Shaped f) (r : Request) (e : numberOf f r ≡ 0) where
   bounded : T (withinBounds f)
@@ -62,37 +57,6 @@ module _ (f : Field) (sh : Shaped f) (r : Request) (e : numberOf f r ≡ 0) wher
   to k =
       leadsTo k r from (f .sequence) (zoneAhead f r) (howMany f (base (opposite (sideOf from)))) (howMany f (at3000 (sideOf from))) (howMany f (at2000 (sideOf from)))
       (aircraftAt f finalApproach 1 .fix)
-
-  -- ---- what is known of the aircraft
-  module _ (k : ℕ) (q : r .kind ≡ k) (no-entry : isEntry k ≡ false) (no-tick : isTick k ≡ false) where
-    heading : HeadPassed k (placeBefore f r) (owned f r) (besides f r k)
-    heading =
-        let here = placeBefore f r in
-        let heads = headChecks k here (owned f r) in
-        let all : presenceChecks k here (owned f r) ≡ heads = if-false (absentChecks here) (cond (isTick k) [] heads) no-entry ∙ if-false [] heads no-tick in
-        head-passed k here (owned f r) (besides f r k) (ap (λ (l : List (ℕ × Bool)). firstRefused (l ++ besides f r k)) (sym all) ∙ sym (ap firstRefused (checks-at f r q)) ∙ passes f r e .checks)
-
-    found : placeBefore f r ≡ at from 1
-    found = ap (at from) (eqb-true (placeBefore f r .place) 1 (heading .first))
-
-    heads : Heads f n from
-    unfolding howMany aircraftAt
-    heads =
-        let present : isIn n (numbersIn f everywhere) ≡ true = is-in (isIn n (numbersIn f everywhere)) (found-exactly f n) (heading .known) in
-        let p = found-there f n present in
-        go (inZone f from) refl (subst (λ (y : Place). y .place ≤ howMany f from) found (p .last)) (subst (λ (y : Place). aircraftAt f from (y .place) .number ≡ n) found (p .has))
-      where
-        is-in : (b : Bool) → eqb from 0 ≡ not b → not (eqb from 0) ≡ true → b ≡ true
-        is-in true a c = refl
-        is-in false a c = absurd (true≢false (sym c ∙ ap not a))
-
-        go : (l : List Aircraft) → inZone f from ≡ l → 1 ≤ length l → getD (nobody ∷ l) 1 nobody .number ≡ n → Heads f n from
-        go [] i a b = absurd (omega arith)
-        go (x ∷ l) i a b = record { head = x; behind = l; here = i; named = b }
-
-    some : 1 ≤ howMany f from
-    unfolding howMany
-    some = let h = ap length (heads .here) in omega (arith, h)
 
   -- ---- what it does
   -- somebody has left the field, ..
@@ -140,9 +104,6 @@ module _ (f : Field) (sh : Shaped f) (r : Request) (e : numberOf f r ≡ 0) wher
   in-operation : (z : ℕ) → 1 ≤ z → z ≤ 12 → T (within 1 12 z)
   in-operation z a b = and-i (leb 1 z) (leb z 12) (le→leb 1 z a) (le→leb z 12 b)
 
-  only : (n z : ℕ) → within n n z ≡ true → z ≡ n
-  only n z t = let l = within-low n n z t in let h = within-high n n z t in omega (arith, l, h)
-
   -- a move to zone w, by what it does to the queues
   moves : (k w : ℕ) → r .kind ≡ k → within 8 9 k ≡ false → to k ≡ w → 3 ≤ w → Led f g n from w → Moves
   moves k w q s p low led =
@@ -155,12 +116,12 @@ module _ (f : Field) (sh : Shaped f) (r : Request) (e : numberOf f r ≡ 0) wher
     steps fl fh wl wh apart same =
         led-same same
         (moved-led f sh from w n (in-area from fl (omega arith)) (in-area w wl (omega arith)) apart
-        (room-in f bounded from w (in-operation from fl fh) (in-operation w wl wh) apart (some k q a b)) (heads k q a b))
+        (room-in f bounded from w (in-operation from fl fh) (in-operation w wl wh) apart (some f r e k q a b)) (heads f r e k q a b))
 
   moves-3 : r .kind ≡ 3 → Moves
   unfolding startsFrom leadsTo
   moves-3 q =
-      let t = heading 3 q refl refl .starts in
+      let t = heading f r e 3 q refl refl .starts in
       let low = within-low 1 2 from t in
       let high = within-high 1 2 from t in
       moves 3 (2 + from) q refl (ap (λ (s : ℕ). 2 + s) (side-own from low high)) (omega arith)
@@ -186,21 +147,21 @@ module _ (f : Field) (sh : Shaped f) (r : Request) (e : numberOf f r ≡ 0) wher
   moves-4 : r .kind ≡ 4 → Moves
   unfolding startsFrom leadsTo approachTo
   moves-4 q =
-      let t = heading 4 q refl refl .starts in
+      let t = heading f r e 4 q refl refl .starts in
       let low = within-low 3 6 from t in
       let high = within-high 3 6 from t in
       let to-base : Ahead (base (sideOf from)) =
-          of-side (λ (s : ℕ). Ahead (8 + s)) from (record { low = omega arith; high = omega arith; apart = λ h. omega (arith, h, high) })
-          (record { low = omega arith; high = omega arith; apart = λ h. omega (arith, h, high) }) in
+      of-side (λ (s : ℕ). Ahead (8 + s)) from (record { low = omega arith; high = omega arith; apart = λ h. omega (arith, h, high) })
+      (record { low = omega arith; high = omega arith; apart = λ h. omega (arith, h, high) }) in
       let to-2000 : within 5 6 from ≡ true → Ahead (at2000 (sideOf from)) =
-          λ u.
-          let above = within-low 5 6 from u in
-          of-side (λ (s : ℕ). Ahead (2 + s)) from (record { low = omega arith; high = omega arith; apart = λ h. omega (arith, h, above) })
-          (record { low = omega arith; high = omega arith; apart = λ h. omega (arith, h, above) }) in
+      λ u.
+      let above = within-low 5 6 from u in
+      of-side (λ (s : ℕ). Ahead (2 + s)) from (record { low = omega arith; high = omega arith; apart = λ h. omega (arith, h, above) })
+      (record { low = omega arith; high = omega arith; apart = λ h. omega (arith, h, above) }) in
       let w = to 4 in
       let ahead : Ahead w =
-          either-way Ahead (within 5 6 from) _ _ (λ u. either-way Ahead (mayApproach (f .sequence) n (zoneAhead f r) && leb (howMany f (base (opposite (sideOf from)))) 1) _ _ (λ v. to-base) (λ v. to-2000 u))
-          (λ u. to-base) in
+      either-way Ahead (within 5 6 from) _ _ (λ u. either-way Ahead (mayApproach (f .sequence) n (zoneAhead f r) && leb (howMany f (base (opposite (sideOf from)))) 1) _ _ (λ v. to-base) (λ v. to-2000 u))
+      (λ u. to-base) in
       let wl = ahead .low in
       moves 4 w q refl refl (ahead .low)
       (steps 4 w q refl refl (omega (arith, low)) (omega (arith, high)) (omega (arith, wl)) (ahead .high) (ahead .apart)
@@ -209,7 +170,7 @@ module _ (f : Field) (sh : Shaped f) (r : Request) (e : numberOf f r ≡ 0) wher
   moves-5 : r .kind ≡ 5 → Moves
   unfolding startsFrom leadsTo
   moves-5 q =
-      let t = heading 5 q refl refl .starts in
+      let t = heading f r e 5 q refl refl .starts in
       let low = within-low 9 10 from t in
       let high = within-high 9 10 from t in
       moves 5 11 q refl refl (omega arith)
@@ -218,7 +179,7 @@ module _ (f : Field) (sh : Shaped f) (r : Request) (e : numberOf f r ≡ 0) wher
   moves-6 : r .kind ≡ 6 → Moves
   unfolding startsFrom leadsTo
   moves-6 q =
-      let t = only 11 from (heading 6 q refl refl .starts) in
+      let t = only 11 from (heading f r e 6 q refl refl .starts) in
       moves 6 12 q refl refl (omega arith)
       (steps 6 12 q refl refl (omega (arith, t)) (omega (arith, t)) (omega arith) (omega arith) (λ h. omega (arith, h, t))
       (λ y. ap (λ (x : Field). inZone x y) (effect-at f r q ∙ ap (λ (z : ℕ). moved f z 12) (sym t))))
@@ -226,13 +187,13 @@ module _ (f : Field) (sh : Shaped f) (r : Request) (e : numberOf f r ≡ 0) wher
   moves-7 : r .kind ≡ 7 → Moves
   unfolding startsFrom leadsTo landed outOfSequence withSequence inZone zoneOf
   moves-7 q =
-      let h = heading 7 q refl refl in
+      let h = heading f r e 7 q refl refl in
       let t = only 12 from (h .starts) in
       let needs = first-passes 15 (flownOutCheck f from .1) ((24, isEmpty f 13) ∷ []) (omega arith) (h .others) in
       let none = eqb-true (howMany f 13) 0 (first-passes 24 (isEmpty f 13) [] (omega arith) (needs .1) .0) in
       moves 7 13 q refl refl (omega arith)
       (led-same (λ y. ap (λ (x : Field). inZone x y) (effect-at f r q) ∙ ap (λ (z : ℕ). inZone (moved f z 13) y) (sym t))
-      (moved-led f sh from 13 n (in-area from (omega (arith, t)) (omega (arith, t))) (in-area 13 (omega arith) (omega arith)) (λ e. omega (arith, e, t)) (omega (arith, none)) (heads 7 q refl refl)))
+      (moved-led f sh from 13 n (in-area from (omega (arith, t)) (omega (arith, t))) (in-area 13 (omega arith) (omega arith)) (λ e. omega (arith, e, t)) (omega (arith, none)) (heads f r e 7 q refl refl)))
 
   leaves : (k z : ℕ) → r .kind ≡ k → within 8 9 k ≡ true → from ≡ z → Between 1 13 z → Heads f n from → ((y : ℕ) → inZone g y ≡ inZone (headGone f z) y) → Leaves
   leaves k z q s t b head same =
@@ -244,17 +205,12 @@ module _ (f : Field) (sh : Shaped f) (r : Request) (e : numberOf f r ≡ 0) wher
   leaves-8 : r .kind ≡ 8 → Leaves
   unfolding startsFrom
   leaves-8 q =
-      leaves 8 13 q refl (only 13 from (heading 8 q refl refl .starts)) (in-area 13 (omega arith) (omega arith)) (heads 8 q refl refl) (λ y. ap (λ (x : Field). inZone x y) (effect-at f r q))
+      leaves 8 13 q refl (only 13 from (heading f r e 8 q refl refl .starts)) (in-area 13 (omega arith) (omega arith)) (heads f r e 8 q refl refl) (λ y. ap (λ (x : Field). inZone x y) (effect-at f r q))
 
   leaves-9 : r .kind ≡ 9 → Leaves
   unfolding startsFrom exited outOfSequence withSequence inZone zoneOf
   leaves-9 q =
-      leaves 9 11 q refl (only 11 from (heading 9 q refl refl .starts)) (in-area 11 (omega arith) (omega arith)) (heads 9 q refl refl) (λ y. ap (λ (x : Field). inZone x y) (effect-at f r q))
-
-  -- a miss finds somebody on final
-  pub on-final : r .kind ≡ 10 → 1 ≤ howMany f 12
-  unfolding startsFrom
-  on-final q = subst (λ (z : ℕ). 1 ≤ howMany f z) (only 12 from (heading 10 q refl refl .starts)) (some 10 q refl refl)
+      leaves 9 11 q refl (only 11 from (heading f r e 9 q refl refl .starts)) (in-area 11 (omega arith) (omega arith)) (heads f r e 9 q refl refl) (λ y. ap (λ (x : Field). inZone x y) (effect-at f r q))
 
   -- the fix of the head of final is a side
   fix-side : (l : List Aircraft) → T (every (fitsZone (f .legs) 12) l) → 1 ≤ length l → T (isSide (getD (nobody ∷ l) 1 nobody .fix))
@@ -264,9 +220,9 @@ module _ (f : Field) (sh : Shaped f) (r : Request) (e : numberOf f r ≡ 0) wher
   moves-10 : r .kind ≡ 10 → Moves
   unfolding startsFrom leadsTo missedApproach withFix aircraftAt howMany withSequence inZone zoneOf isSide
   moves-10 q =
-      let t = only 12 from (heading 10 q refl refl .starts) in
-      let head : Heads f n 12 = subst (Heads f n) t (heads 10 q refl refl) in
-      let has = on-final q in
+      let t = only 12 from (heading f r e 10 q refl refl .starts) in
+      let head : Heads f n 12 = subst (Heads f n) t (heads f r e 10 q refl refl) in
+      let has = on-final f r e q in
       let a = aircraftAt f 12 1 in
       let side = fix-side (inZone f 12) (all-fit f (within-each f bounded .bound-g) 12 (omega arith) (omega arith)) has in
       let own : sideOf (a .fix) ≡ a .fix = either-side (a .fix) side in
@@ -302,7 +258,7 @@ module _ (f : Field) (sh : Shaped f) (r : Request) (e : numberOf f r ≡ 0) wher
       let low = within-low 7 8 from t in
       let high = within-high 7 8 from t in
       let p =
-          each-from 7 2 (λ z. (1 ≤ sideOf z) × (sideOf z ≤ 2) × (z ≡ 6 + sideOf z)) ((omega arith, omega arith, refl), ((omega arith, omega arith, refl), tt)) from low (omega (arith, high)) in
+      each-from 7 2 (λ z. (1 ≤ sideOf z) × (sideOf z ≤ 2) × (z ≡ 6 + sideOf z)) ((omega arith, omega arith, refl), ((omega arith, omega arith, refl), tt)) from low (omega (arith, high)) in
       record { low = p .0; high = p .1; zone = p .2 }
 
   -- with somebody missed and somebody at 3000 nobody is at 2000
@@ -320,7 +276,7 @@ module _ (f : Field) (sh : Shaped f) (r : Request) (e : numberOf f r ≡ 0) wher
     s = sideOf from
 
     clear-for : 1 ≤ howMany f s → howMany f (2 + s) ≡ 0
-    clear-for = none-below s (m .low) (m .high) (subst (λ (z : ℕ). 1 ≤ howMany f z) (m .zone) (some 11 q refl refl))
+    clear-for = none-below s (m .low) (m .high) (subst (λ (z : ℕ). 1 ≤ howMany f z) (m .zone) (some f r e 11 q refl refl))
 
     emptied : Emptied f sh bounded s (m .low) (m .high) clear-for (madeRoom f s)
     emptied = room-made f sh bounded s (m .low) (m .high) clear-for
@@ -332,7 +288,7 @@ module _ (f : Field) (sh : Shaped f) (r : Request) (e : numberOf f r ≡ 0) wher
         let high = m .high in
         let zone = m .zone in
         let none = ap length (emptied .none) in
-        let h = heads 11 q refl refl in
+        let h = heads f r e 11 q refl refl in
         let still = emptied .elsewhere from (λ t. omega (arith, t, zone)) (λ t. omega (arith, t, zone)) in
         record {
           staying = ap (within 8 9) q;
@@ -341,7 +297,7 @@ module _ (f : Field) (sh : Shaped f) (r : Request) (e : numberOf f r ≡ 0) wher
           clear = clear-for;
           start = omega (arith, zone);
           apart = λ t. omega (arith, t, zone);
-          head = found 11 q refl refl;
+          head = found f r e 11 q refl refl;
           led =
               led-same same
               (moved-led (madeRoom f s) (emptied .shaped) from s n (in-area from (omega (arith, zone)) (omega (arith, zone, high))) (in-area s low (omega (arith, high))) (λ t. omega (arith, t, zone))
@@ -351,7 +307,7 @@ module _ (f : Field) (sh : Shaped f) (r : Request) (e : numberOf f r ≡ 0) wher
   holds-11 : r .kind ≡ 11 → Moves ⊎ Rises (to (r .kind))
   unfolding startsFrom leadsTo holdTo held madeRoom
   holds-11 q =
-      let m = missed-side (heading 11 q refl refl .starts) in
+      let m = missed-side (heading f r e 11 q refl refl .starts) in
       let low = m .low in
       let high = m .high in
       let zone = m .zone in
@@ -444,14 +400,32 @@ module _ (f : Field) (sh : Shaped f) (r : Request) (e : numberOf f r ≡ 0) wher
       let high = known .high in
       each-from 1 11 (λ k. r .kind ≡ k → Told) (
         (λ q. inr (inr (inr (inr (comes-1 q))))),
-        ((λ q. inr (inr (inr (inl (comes-2 q))))),
-        ((λ q. inr (inl (moves-3 q))),
-        ((λ q. inr (inl (moves-4 q))),
-        ((λ q. inr (inl (moves-5 q))),
-        ((λ q. inr (inl (moves-6 q))),
-        ((λ q. inr (inl (moves-7 q))),
-        ((λ q. inl (leaves-8 q)),
-        ((λ q. inl (leaves-9 q)),
-        ((λ q. inr (inl (moves-10 q))),
-        ((λ q. inr (elim (holds-11 q) [ inl m ↦ inl m | inr m ↦ inr (inl m) ])), tt)))))))))),
+        (
+          (λ q. inr (inr (inr (inl (comes-2 q))))),
+          (
+            (λ q. inr (inl (moves-3 q))),
+            (
+              (λ q. inr (inl (moves-4 q))),
+              (
+                (λ q. inr (inl (moves-5 q))),
+                (
+                  (λ q. inr (inl (moves-6 q))),
+                  (
+                    (λ q. inr (inl (moves-7 q))),
+                    (
+                      (λ q. inl (leaves-8 q)),
+                      (
+                        (λ q. inl (leaves-9 q)),
+                        (
+                          (λ q. inr (inl (moves-10 q))),
+                          ((λ q. inr (elim (holds-11 q) [ inl m ↦ inl m | inr m ↦ inr (inl m) ])), tt),
+                        ),
+                      ),
+                    ),
+                  ),
+                ),
+              ),
+            ),
+          ),
+        ),
       ) (r .kind) low (omega (arith, high, moving)) refl

@@ -51,7 +51,16 @@ fn hold_to(side: u8, above: usize, below: usize) -> usize
 }
 
 // The zone that a request leads to, by what it asks of the field.
-pub fn leads_to(r: Request, zone: u8, s: Sequence, ahead: usize, across: usize, above: usize, below: usize, fix: u8) -> usize
+pub fn leads_to(
+    r: Request,
+    zone: u8,
+    s: Sequence,
+    ahead: usize,
+    across: usize,
+    above: usize,
+    below: usize,
+    fix: u8,
+) -> usize
     ensures { λ z. ⌜ z ≡ leadsTo (r .kind) r zone s ahead across above below fix ⌝ }
 {
     let kind = r.kind;

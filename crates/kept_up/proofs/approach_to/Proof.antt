@@ -1,8 +1,6 @@
 -- `kept_up::approach_to` meets its contract: the definition takes the arms of the tests. Assumes nothing.
 use mathlib.Core.Path.{sym, ap, _∙_}
-use mathlib.Core.Bool.{not}
 use Prim.Native.Nat.{ℕ, _+_}
-use native.Mathlib.Omega.{arith}
 use borrow.Author.Needs.{needs}
 use borrow.Author.Tests.{le-leb, lt-leb}
 use Rattle.request.proofs.Tests.{within-yes, within-below, within-above}

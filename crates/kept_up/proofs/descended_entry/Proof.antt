@@ -1,8 +1,6 @@
 -- `kept_up::descended_entry` meets its contract: the definition takes the arms of the test. Assumes nothing.
-use mathlib.Core.Path.{_≡_, sym, ap, _∙_}
-use Prim.Native.Nat.{ℕ, _+_}
+use mathlib.Core.Path.{sym}
 use native.Mathlib.Omega.{arith}
-use borrow.Author.Needs.{needs}
 use borrow.Author.Tests.{eq-eqb, ne-eqb}
 use Rattle.field.proofs.Tests.{if-true, if-false}
 use Rattle.kept_up.specs.KeptUp.{descendedEntry}

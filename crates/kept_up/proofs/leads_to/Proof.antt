@@ -101,11 +101,25 @@ hold-to-requires c κs = search needs
 
 returns-8 : tie.Need-returns-8
 unfolding leadsTo
-returns-8 c = let s = c .before in let m = s .before in let a = m .before .args in c .hold-to .ensures ∙ ap (λ (z : ℕ). holdTo z (a .above) (a .below)) (s .side-of5 .ensures) ∙ sym (ap (led (m .before)) (m .match .keys8))
+returns-8 c =
+    let s = c .before in
+    let m = s .before in
+    let a = m .before .args in
+    c .hold-to .ensures ∙ ap (λ (z : ℕ). holdTo z (a .above) (a .below)) (s .side-of5 .ensures) ∙ sym (ap (led (m .before)) (m .match .keys8))
 
 returns-9 : tie.Need-returns-9
 unfolding leadsTo
-returns-9 c = let no = c .match .rest in let a = c .before .args in sym (if-false _ _ (ne-eqb (a .r .kind) 1 (no .0 .0 .0 .0 .0 .0 .0 .1)) ∙ if-false _ _ (ne-eqb (a .r .kind) 2 (no .0 .0 .0 .0 .0 .0 .1)) ∙ if-false _ _ (ne-eqb (a .r .kind) 3 (no .0 .0 .0 .0 .0 .1)) ∙ if-false _ _ (ne-eqb (a .r .kind) 4 (no .0 .0 .0 .0 .1)) ∙ if-false _ _ (ne-eqb (a .r .kind) 5 (no .0 .0 .0 .1)) ∙ if-false _ _ (ne-eqb (a .r .kind) 6 (no .0 .0 .1)) ∙ others (eqb (a .r .kind) 7) (eqb (a .r .kind) 8) (eqb (a .r .kind) 9) _ _ (ne-eqb (a .r .kind) 10 (no .0 .1)) (ne-eqb (a .r .kind) 11 (no .1)))
+returns-9 c =
+    let no = c .match .rest in
+    let k = c .before .args .r .kind in
+    sym
+    (if-false _ _ (ne-eqb k 1 (no .0 .0 .0 .0 .0 .0 .0 .1))
+    ∙ if-false _ _ (ne-eqb k 2 (no .0 .0 .0 .0 .0 .0 .1))
+    ∙ if-false _ _ (ne-eqb k 3 (no .0 .0 .0 .0 .0 .1))
+    ∙ if-false _ _ (ne-eqb k 4 (no .0 .0 .0 .0 .1))
+    ∙ if-false _ _ (ne-eqb k 5 (no .0 .0 .0 .1))
+    ∙ if-false _ _ (ne-eqb k 6 (no .0 .0 .1))
+    ∙ others (eqb k 7) (eqb k 8) (eqb k 9) _ _ (ne-eqb k 10 (no .0 .1)) (ne-eqb k 11 (no .1)))
 
 pub leads-to-spec : {M : Type 1} → statement M
 leads-to-spec =

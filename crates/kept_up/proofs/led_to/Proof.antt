@@ -5,7 +5,6 @@ use Rattle.request.proofs.Tests.{within-yes, within-below, within-above}
 use Rattle.field.proofs.Tests.{if-true, if-false}
 use native.Mathlib.Omega.{arith}
 use borrow.Author.Needs.{needs}
-use Rattle.finder.specs.declared.Entry.{Entry}
 use Rattle.kept_up.specs.KeptUp.{ledTo}
 use Rattle.kept_up.proofs.led_to.Statement.{statement}
 use Rattle.kept_up.proofs.led_to.Tie as tie
