@@ -34,7 +34,8 @@ abbrev pub HaveZones : List Entry → Type 0
 HaveZones [] = Unit {0}
 HaveZones (e ∷ es) = HasZone e × HaveZones es
 
-put-zoned : (e : Entry) → HasZone e → (es : List Entry) → HaveZones es → HaveZones (put e es)
+-- with one more put among them each used one has a zone
+pub put-zoned : (e : Entry) → HasZone e → (es : List Entry) → HaveZones es → HaveZones (put e es)
 unfolding firstOf secondOf
 put-zoned e h [] hs = tt
 put-zoned e h (x ∷ xs) hs = (
@@ -71,7 +72,7 @@ index-zoned f =
 -- ---- entries in order that say the same
 
 -- what is not above k is not among entries above it
-absent : (k n : ℕ) → n ≢ 0 → n ≤ k → (es : List Entry) → InOrder k es → foundAmong n es ≡ nowhere
+pub absent : (k n : ℕ) → n ≢ 0 → n ≤ k → (es : List Entry) → InOrder k es → foundAmong n es ≡ nowhere
 absent k n h l [] o = refl
 absent k n h l (e ∷ es) (inl u) =
     if-false _ _ (ne-eqb (e .number) n (λ t. h (sym t ∙ ap (λ (x : Entry). x .number) (u .0)))) ∙ absent k n h l es (unused-ordered k es (u .1))
@@ -155,6 +156,10 @@ each-length : (xs es : List Entry) → length (putEach xs es) ≡ length es
 each-length [] es = refl
 each-length (x ∷ xs) es = each-length xs (put x es) ∙ put-length x es
 
+-- The index of any field has five places.
+pub index-length : (f : Field) → length (indexOf f .entries) ≡ 5
+index-length f = ap length (sym (index-walked f)) ∙ each-length (standingIn f everywhere) (replicate 5 unused)
+
 -- Within the bounds an index of five places in order, each used one with a zone, that says of every number what a look through the queues says, is the
 -- field's own.
 pub index-determined : (f : Field) → T (withinBounds f) → (i : Index) → length (i .entries) ≡ 5 → InOrder 0 (i .entries) → HaveZones (i .entries)
@@ -162,11 +167,8 @@ pub index-determined : (f : Field) → T (withinBounds f) → (i : Index) → le
 unfolding foundIn
 index-determined f w i five o z h =
     ap (λ (es : List Entry). record { entries = es })
-    (order-determines 0 (i .entries) (indexOf f .entries) (five ∙ sym long) o (index-in-order f) z (index-zoned f) alike)
+    (order-determines 0 (i .entries) (indexOf f .entries) (five ∙ sym (index-length f)) o (index-in-order f) z (index-zoned f) alike)
   where
-    long : length (indexOf f .entries) ≡ 5
-    long = ap length (sym (index-walked f)) ∙ each-length (standingIn f everywhere) (replicate 5 unused)
-
     alike : (n : ℕ) → n ≢ 0 → foundAmong n (i .entries) ≡ foundAmong n (indexOf f .entries)
     alike n u =
         let used = ne-eqb n 0 u in

@@ -230,3 +230,13 @@ module _ (f : Field) where
       joined true true t = refl
       joined true false t = ap (placeOf f) (eqb-true m n t)
       joined false c t = refl
+
+  -- Each takes at most one of the unused places.
+  pub all-room : (ns : List ℕ) → NonZero ns → (es : List Entry) → Owns f es → length ns ≤ free es → free es ≤ free (putEach (map (entryOf f) ns) es) + length ns
+  unfolding entryOf
+  all-room [] z es os room = omega arith
+  all-room (m ∷ ns) z es os room =
+      let more = put-more (entryOf f m) (entry-own m (z .0)) es os (omega arith) in
+      let left = more .room in
+      let rest = all-room ns (z .1) (put (entryOf f m) es) (more .owns) (omega (arith, left)) in
+      omega (arith, left, rest)

@@ -24,7 +24,7 @@ lower j k h (e ∷ es) (inl u) = inl u
 lower j k h (e ∷ es) (inr p) = let above = p .0 in inr (omega (arith, above), p .1)
 
 -- an entry put among entries in order
-put-ordered : (k : ℕ) (e : Entry) → k < e .number → (es : List Entry) → InOrder k es → InOrder k (put e es)
+pub put-ordered : (k : ℕ) (e : Entry) → k < e .number → (es : List Entry) → InOrder k es → InOrder k (put e es)
 put-ordered k e h [] o = tt
 put-ordered k e h (x ∷ xs) (inl u) =
     let none : x .number ≡ 0 = ap (λ (y : Entry). y .number) (u .0) in

@@ -29,7 +29,7 @@ use Rattle.finder.specs.declared.Entry.{Entry}
 use Rattle.finder.specs.declared.Index.{Index}
 use Rattle.finder.specs.declared.Indexed.{Indexed}
 use Rattle.finder.specs.Finder.{unused, entryOf, putEach, indexOf, foundAmong, foundIn, sameEntry, sameEntries, sameIndex, withinBoundsIndexed}
-use Rattle.finder.proofs.Found.{NonZero, all-found}
+use Rattle.finder.proofs.Found.{NonZero, free, all-found, all-room}
 
 -- ---- the numbers of a field within the bounds
 as-many : (f : Field) (zs : List ℕ) → length (numbersIn f zs) ≡ total (howMany f) zs
@@ -89,6 +89,17 @@ found-as-looked f w number = go (eqb number 0) refl
     go : (b : Bool) → eqb number 0 ≡ b → cond b nowhere (foundAmong number (putEach (map (entryOf f) (numbersIn f everywhere)) (replicate 5 unused))) ≡ placeOf f number
     go true e = sym (absent-nowhere f number (zero-absent (eqb-true number 0 e)))
     go false e = all (eqb-false number 0 e)
+
+-- On every field within the bounds the index has an unused place for each one less than five present.
+pub index-free : (f : Field) → T (withinBounds f) → 5 ≤ free (indexOf f .entries) + presentOn f
+unfolding indexOf presentOn
+index-free f w =
+    let few = five-present f w in
+    let many = as-many f everywhere in
+    let room =
+    all-room f (numbersIn f everywhere) (non-zero f (numbersIn f everywhere) (nonzero-all f w)) (replicate 5 unused)
+    (inl refl, (inl refl, (inl refl, (inl refl, (inl refl, tt))))) (omega (arith, few, many)) in
+    omega (arith, room, many)
 
 -- ---- a tick
 entry-same : (f g : Field) (n : ℕ) → placeOf f n ≡ placeOf g n → entryOf f n ≡ entryOf g n

@@ -68,7 +68,7 @@ fn second_of(a: Entry, b: Entry) -> Entry
 }
 
 // The index with an entry put among its own.
-fn with_entry(index: Index, e: Entry) -> Index
+pub fn with_entry(index: Index, e: Entry) -> Index
     ensures { λ r. ⌜ r .entries ≡ put e (index .entries) ⌝ }
 {
     let mut entries = index.entries;

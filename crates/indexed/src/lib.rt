@@ -3,15 +3,19 @@ use bounds::within_bounds;
 use effects::effect;
 use field::Field;
 use field::Sequence;
+use field::boxes::side_of;
+use field::zones::AT_2000;
+use field::zones::BASE;
+use field::zones::FINAL;
 use finder::Entry;
 use finder::Index;
 use finder::Indexed;
 use finder::find;
 use finder::index_of;
 use finder::within_bounds_indexed;
-use kept_up::is_told;
 use kept_up::kept_up;
 use kept_up::leads_to;
+use kept_up::led_to;
 use needs::check_number;
 use questions::find::leader_of;
 use request::Request;
@@ -27,7 +31,7 @@ ghost use Rattle.request.specs.Input.{within, inputNumber};
 ghost use Rattle.questions.specs.Find.{leaderOf};
 ghost use Rattle.bounds.specs.Bounds.{withinBounds};
 ghost use Rattle.finder.specs.Finder.{indexOf, foundIn, withinBoundsIndexed};
-ghost use Rattle.kept_up.specs.KeptUp.{isTold, keptUp};
+ghost use Rattle.kept_up.specs.KeptUp.{keptUp};
 ghost use Rattle.rules.specs.Step.{numberOf, numberAndZeros, acceptanceOn};
 ghost use Rattle.indexed.specs.Indexed.{withIndex, numberIndexed, stepIndexed};
 
@@ -77,22 +81,10 @@ fn zone_ahead(index: Index, s: Sequence, r: Request) -> usize
     }
 }
 
-// The index of the field `g` after a request that is accepted and no tick: kept up from that of the field before where the kind and the zone tell where
-// the aircraft went, which the entry says, and else made anew.
-fn index_after(index: Index, g: Field, kind: u8, from: u8, to: Entry) -> Index
-    requires { ⌜ (isTold kind from ≡ true → keptUp from to index ≡ indexOf g) ⌝ }
-    ensures { λ i. ⌜ i ≡ indexOf g ⌝ }
-{
-    if is_told(kind, from) {
-        return kept_up(index, from, to);
-    }
-    index_of(g)
-}
-
-// The answer to a request that is accepted and the index of the field `g` after it, from the index of the field before: a tick leaves the
-// index.
+// The answer to a request that is accepted and the index of the field `g` after it: a tick leaves the index of the field before, and else it is kept up
+// by the zone that the aircraft has left and the entry that says where it is.
 fn answered(index: Index, g: Field, r: Request, along: u16, from: u8, to: Entry) -> AnswerAndIndex
-    requires { ⌜ T (withinBounds g) × (r .kind ≡ 12 → index ≡ indexOf g) × (isTold (r .kind) from ≡ true → keptUp from to index ≡ indexOf g) ⌝ }
+    requires { ⌜ T (withinBounds g) × (r .kind ≡ 12 → index ≡ indexOf g) × ((r .kind ≡ 12 → ⊥) → keptUp from to index ≡ indexOf g) ⌝ }
     ensures { λ a. ⌜ a ≡ record { answer = cond (eqb (r .kind) 12) (numberAndZeros 0) (acceptanceOn g r along); index = indexOf g } ⌝ }
 {
     let kind = r.kind;
@@ -104,7 +96,7 @@ fn answered(index: Index, g: Field, r: Request, along: u16, from: u8, to: Entry)
     }
     let number = r.number;
     let s = g.sequence;
-    let made = index_after(index, g, kind, from, to);
+    let made = kept_up(index, from, to);
     let ahead = find(made, leader_of(s, number));
     AnswerAndIndex {
         answer: acceptance(g, find(made, number), ahead, r, along),
@@ -144,7 +136,13 @@ fn step_by_index(x: Indexed, r: Request, judged: bool) -> SteppedIndexed
     }
     let zone = at.zone;
     let along = along_of(f, r, zone);
-    let to = leads_to(r.kind, zone);
+    let final_zone = f.zones[FINAL - 1];
+    let first = final_zone.aircraft[0];
+    let side = side_of(zone as usize) as usize;
+    let across = f.zones[BASE + 2 - side].length;
+    let above = f.zones[side - 1].length;
+    let below = f.zones[AT_2000 + side - 1].length;
+    let to = leads_to(r, zone, f.sequence, ahead, across, above, below, first.fix);
     let there = f.zones[to - 1].length;
     let g = effect(f, r, zone, ahead);
     if judged {
@@ -152,11 +150,7 @@ fn step_by_index(x: Indexed, r: Request, judged: bool) -> SteppedIndexed
             return turned_away(x, 25);
         }
     }
-    let led = Entry {
-        number: r.number,
-        zone: to as u8,
-        place: (there + 1) as u8,
-    };
+    let led = led_to(r.kind, r.number, to as u8, (there + 1) as u8);
     accepted(answered(index, g, r, along, zone, led), g)
 }
 

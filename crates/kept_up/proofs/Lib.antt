@@ -1,4 +1,8 @@
+pub mod Written
 pub mod Entries
 pub mod Moved
-pub mod Told
+pub mod Queues
+pub mod Heads
 pub mod Leads
+pub mod Told
+pub mod Own

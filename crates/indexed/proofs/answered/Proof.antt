@@ -31,8 +31,8 @@ returns c =
     let t = c .before .if1 .taken in
     made (c .number-and-zeros .ensures ∙ sym (if-true _ _ (eq-eqb _ _ t))) (c .before .before .pre .1 t)
 
-index-after-requires : tie.Need-index-after-requires
-index-after-requires c κs = c .before .before .pre .2
+kept-up-requires : tie.Need-kept-up-requires
+kept-up-requires c κs = search needs
 
 leader-of-requires : tie.Need-leader-of-requires
 leader-of-requires c κs = search needs
@@ -54,7 +54,8 @@ returns-2 c =
     let i = led .before in
     let e = i .before .before in
     let a = e .before .args in
-    let looked : (n : ℕ) → foundIn (i .index-after .result) n ≡ placeOf (a .g) n = λ n. ap (λ (k : Index). foundIn k n) (i .index-after .ensures) ∙ found-as-looked (a .g) (e .before .pre .0) n in
+    let own-index = i .kept-up .ensures ∙ e .before .pre .2 (e .if1 .left) in
+    let looked : (n : ℕ) → foundIn (i .kept-up .result) n ≡ placeOf (a .g) n = λ n. ap (λ (k : Index). foundIn k n) own-index ∙ found-as-looked (a .g) (e .before .pre .0) n in
     let at = own .find2 .ensures ∙ looked (a .r .number) in
     let ahead = other .find .ensures ∙ looked (led .leader-of .result) ∙ ap (placeOf (a .g)) (led .leader-of .ensures) in
     made
@@ -62,7 +63,7 @@ returns-2 c =
     ∙ ap (λ (q : Place). acceptance (a .g) q (other .find .result) (a .r) (a .along)) at
     ∙ ap (λ (q : Place). acceptance (a .g) (placeOf (a .g) (a .r .number)) q (a .r) (a .along)) ahead
     ∙ sym (if-false _ _ (ne-eqb _ _ (e .if1 .left))))
-    (i .index-after .ensures)
+    own-index
 
 pub answered-spec : {M : Type 1} → statement M
 answered-spec =
@@ -70,7 +71,7 @@ answered-spec =
     (tie.spec
     number-and-zeros-requires
     returns
-    index-after-requires
+    kept-up-requires
     leader-of-requires
     find-requires
     find-requires-2

@@ -1,9 +1,9 @@
 -- `indexed::step_by_index` meets its contract: within the bounds the index finds what a look through the queues finds. Assumes nothing.
-use mathlib.Core.Path.{_≡_, sym, ap, _∙_, subst⁻¹}
+use mathlib.Core.Path.{_≡_, refl, sym, ap, _∙_, subst⁻¹}
 use mathlib.Core.Logic.{inl, inr, ⊎-elim}
 use mathlib.Core.Bool.{true, cond}
 use mathlib.Core.List.{[]}
-use Prim.Native.Nat.{ℕ, _-_, _≤_}
+use Prim.Native.Nat.{ℕ, _+_, _-_, _≤_}
 use native.Mathlib.Omega.{arith}
 use lib.Dec.{T, eqb}
 use lib.ListN.{getD}
@@ -12,10 +12,13 @@ use Rattle.leg.specs.Ticks.{Between}
 use Rattle.request.specs.Input.{firstRefused}
 use Rattle.request.specs.declared.Request.{Request}
 use Rattle.field.specs.declared.Field.{Field}
+use Rattle.field.specs.Boxes.{base, opposite}
 use Rattle.field.proofs.Parts.{is-not, holds, fails}
 use Rattle.field.proofs.Tests.{decided, pass, passed, if-true, if-false}
 use Rattle.questions.specs.declared.Place.{Place}
+use Rattle.questions.specs.Counts.{howMany}
 use Rattle.bounds.specs.Bounds.{withinBounds}
+use Rattle.finder.specs.declared.Entry.{Entry}
 use Rattle.finder.specs.Finder.{indexOf}
 use Rattle.finder.proofs.Theorems.{indexed-as-looked}
 use Rattle.rules.specs.Kinds.{placeBefore}
@@ -26,8 +29,9 @@ use Rattle.indexed.specs.declared.AnswerAndIndex.{AnswerAndIndex}
 use Rattle.indexed.specs.declared.SteppedIndexed.{SteppedIndexed}
 use Rattle.indexed.specs.Indexed.{withIndex, numberIndexed}
 use Rattle.indexed.proofs.Steps.{turned-away, let-through, number-within, field-within, asked-found, tick-leaves}
-use Rattle.kept_up.proofs.Leads.{leads-within}
-use Rattle.indexed.proofs.Kept.{IndexedKnown, indexed-known, length-there, few-there, kept-up-after}
+use Rattle.kept_up.specs.KeptUp.{keptUp}
+use Rattle.kept_up.proofs.Leads.{of-side, leads-within}
+use Rattle.indexed.proofs.Kept.{IndexedKnown, indexed-known, length-there, length-at, few-there, fix-there, kept-up-after}
 use Rattle.indexed.proofs.step_by_index.Statement.{statement}
 use Rattle.indexed.proofs.step_by_index.Tie as tie
 
@@ -74,31 +78,58 @@ same-number c = let s = start c in number-within (s .args .x) (s .args .r) (s .p
 met : (c : tie.Else1) → firstRefused (checksOf (start (c .before) .args .x .field) (start (c .before) .args .r)) ≡ 0
 met c = sym (need (c .before)) ∙ c .if1 .left
 
+-- the way back from the zone that the request leads to
+abbrev passed-by : tie.After-leads-to → tie.Else1
+passed-by c = c .before .before .before .before .before .before
+
 -- the field after it
-after : (c : tie.After-effect) → let s = start (c .before .before .before .before) in c .effect .result ≡ effectOf (s .args .x .field) (s .args .r)
+after : (c : tie.After-effect) → let s = start (passed-by (c .before) .before) in c .effect .result ≡ effectOf (s .args .x .field) (s .args .r)
 after c =
-    let k = c .before .before .before .before in
+    let k = passed-by (c .before) .before in
     let s = start k in
     effected (s .args .x .field) (s .args .r) (found k) (asked-found (s .args .x) (s .pre .0 .1) (s .args .r) (k .before .zone-ahead .ensures)) (c .effect .ensures)
 
--- the zone that the request leads to, where it tells it
+-- ---- what is read of the field before
 known : (c : tie.After-check-number) → IndexedKnown (start c .args .x)
 known c = indexed-known (start c .args .x) (start c .good .0)
 
-led-within : (c : tie.After-leads-to) → Between 1 13 (c .leads-to .result)
-led-within c = subst⁻¹ (Between 1 13) (c .leads-to .ensures) (leads-within _ _)
+-- the side of the zone
+side-within : (c : tie.After-side-of) → Between 1 2 (c .side-of .result)
+side-within c =
+    subst⁻¹ (Between 1 2) (c .side-of .ensures) (of-side (Between 1 2) _ (record { least = omega arith; most = omega arith }) (record { least = omega arith; most = omega arith }))
 
-there-few : (c : tie.Joined2) → let led = c .before .before in getD (start (led .before .before .before) .args .x .field .zones) (led .leads-to .result - 1) (record { aircraft = []; length = 0 }) .length ≤ 4
+-- the opposite base, as it is counted
+across-at : (c : tie.After-side-of) → 10 - c .side-of .result ≡ base (opposite (c .side-of .result)) - 1
+unfolding opposite
+across-at c = subst⁻¹ (λ (s : ℕ). 10 - s ≡ base (opposite s) - 1) (c .side-of .ensures) (of-side (λ (s : ℕ). 10 - s ≡ base (opposite s) - 1) _ refl refl)
+
+across-within : (c : tie.After-side-of) → Between 1 13 (base (opposite (c .side-of .result)))
+unfolding opposite
+across-within c =
+    subst⁻¹ (λ (s : ℕ). Between 1 13 (base (opposite s))) (c .side-of .ensures)
+    (of-side (λ (s : ℕ). Between 1 13 (base (opposite s))) _ (record { least = omega arith; most = omega arith }) (record { least = omega arith; most = omega arith }))
+
+above-within : (c : tie.After-side-of) → Between 1 13 (c .side-of .result)
+above-within c = let b = side-within c in record { least = omega (arith, b); most = omega (arith, b) }
+
+below-within : (c : tie.After-side-of) → Between 1 13 (2 + c .side-of .result)
+below-within c = let b = side-within c in record { least = omega (arith, b); most = omega (arith, b) }
+
+-- the zone that the request leads to
+led-within : (c : tie.After-leads-to) → Between 1 13 (c .leads-to .result)
+led-within c = subst⁻¹ (Between 1 13) (c .leads-to .ensures) (leads-within _ _ _ _ _ _ _ _ _)
+
+there-few : (c : tie.Joined2) → let led = c .before .before in getD (start (passed-by led .before) .args .x .field .zones) (led .leads-to .result - 1) (record { aircraft = []; length = 0 }) .length ≤ 4
 there-few c =
     let led = c .before .before in
-    let k = led .before .before .before in
+    let k = passed-by led .before in
     let s = start k in
     few-there (s .args .x) (s .pre .0 .1) (known k) (led .leads-to .result) _ (led-within led)
 
 -- it is within the bounds: it was judged, or 25 is not the number
-bounded : (c : tie.Joined2) → let s = start (c .before .before .before .before .before) in withinBounds (effectOf (s .args .x .field) (s .args .r)) ≡ true
+bounded : (c : tie.Joined2) → let s = start (passed-by (c .before .before) .before) in withinBounds (effectOf (s .args .x .field) (s .args .r)) ≡ true
 bounded c =
-    let e = c .before .before .before .before in
+    let e = passed-by (c .before .before) in
     let k = e .before in
     let s = start k in
     ⊎-elim (λ j. holds (j .1 .ensures ∙ ap withinBounds (after (c .before))) (j .2 .left))
@@ -132,6 +163,60 @@ returns c =
 along-of-requires : tie.Need-along-of-requires
 along-of-requires c κs = search needs
 
+sub-final-zone : tie.Need-sub-final-zone
+sub-final-zone c = search needs
+
+mul-final-zone : tie.Need-mul-final-zone
+mul-final-zone c = search needs
+
+element-copy-out-final-zone : tie.Need-element-copy-out-final-zone
+element-copy-out-final-zone c = search needs
+
+element-copy-out-first : tie.Need-element-copy-out-first
+element-copy-out-first c = search needs
+
+cast-side-of : tie.Need-cast-side-of
+cast-side-of c = search needs
+
+side-of-requires : tie.Need-side-of-requires
+side-of-requires c κs = search needs
+
+cast-side : tie.Need-cast-side
+cast-side c = search needs
+
+add-across : tie.Need-add-across
+add-across c = let b = side-within c in omega (arith, b)
+
+sub-across : tie.Need-sub-across
+sub-across c = let b = side-within c in omega (arith, b)
+
+mul-across : tie.Need-mul-across
+mul-across c = let b = side-within c in omega (arith, b)
+
+element-copy-out-across : tie.Need-element-copy-out-across
+element-copy-out-across c = let b = side-within c in omega (arith, b)
+
+sub-above : tie.Need-sub-above
+sub-above c = let b = side-within c in omega (arith, b)
+
+mul-above : tie.Need-mul-above
+mul-above c = let b = side-within c in omega (arith, b)
+
+element-copy-out-above : tie.Need-element-copy-out-above
+element-copy-out-above c = let b = side-within c in omega (arith, b)
+
+add-below : tie.Need-add-below
+add-below c = let b = side-within c in omega (arith, b)
+
+sub-below : tie.Need-sub-below
+sub-below c = let b = side-within c in omega (arith, b)
+
+mul-below : tie.Need-mul-below
+mul-below c = let b = side-within c in omega (arith, b)
+
+element-copy-out-below : tie.Need-element-copy-out-below
+element-copy-out-below c = let b = side-within c in omega (arith, b)
+
 leads-to-requires : tie.Need-leads-to-requires
 leads-to-requires c κs = search needs
 
@@ -144,14 +229,17 @@ mul-there c = let b = led-within c in search (needs, b)
 element-copy-out-there : tie.Need-element-copy-out-there
 element-copy-out-there c = let b = led-within c in omega (arith, b)
 
-cast-t24 : tie.Need-cast-t24
-cast-t24 c = let b = led-within (c .before .before) in omega (arith, b)
+cast-led-to : tie.Need-cast-led-to
+cast-led-to c = let b = led-within (c .before .before) in omega (arith, b)
 
-add-t19 : tie.Need-add-t19
-add-t19 c = let few = there-few c in omega (arith, few)
+add-led-to : tie.Need-add-led-to
+add-led-to c = let few = there-few c in omega (arith, few)
 
-cast-t25 : tie.Need-cast-t25
-cast-t25 c = let few = there-few c in omega (arith, few)
+cast-led-to-2 : tie.Need-cast-led-to-2
+cast-led-to-2 c = let few = there-few c in omega (arith, few)
+
+led-to-requires : tie.Need-led-to-requires
+led-to-requires c κs = search needs
 
 effect-requires : tie.Need-effect-requires
 effect-requires c κs = search needs
@@ -166,7 +254,7 @@ returns-2 : tie.Need-returns-2
 returns-2 c =
     let w = c .before .before in
     let e = w .before .before in
-    let l = e .before .before .before in
+    let l = passed-by (e .before) in
     let k = l .before in
     let s = start k in
     let broken = fails (w .within-bounds .ensures ∙ ap withinBounds (after e)) (c .before .if3 .taken) in
@@ -175,14 +263,25 @@ returns-2 c =
 
 answered-requires : tie.Need-answered-requires
 answered-requires c κs =
-    let led = c .before .before in
-    let e = led .before .before in
+    let j = c .before in
+    let led = j .before .before in
+    let side = led .before .before in
+    let e = passed-by led in
     let k = e .before in
-    let s = start k in (
-      subst⁻¹ (λ (g : Field). T (withinBounds g)) (after (c .before)) (pass (bounded c)),
-      (λ k. tick-leaves (s .args .x) (s .pre .0 .1) (s .args .r) k ∙ sym (ap indexOf (after (c .before)))),
-      kept-up-after (s .args .x) (s .pre .0 .1) (known k) (s .args .r) (number k ∙ if-true _ _ (eq-eqb _ _ (met e)) ∙ if-true _ _ (bounded c)) (found k) (led .leads-to .ensures)
-          (length-there (s .args .x) (s .pre .0 .1) (known k) (led .leads-to .result) _ (led-within led)) (after (c .before)),
+    let s = start k in
+    let x = s .args .x in
+    let w = s .pre .0 .1 in
+    let zone = side .side-of .ensures in (
+      subst⁻¹ (λ (g : Field). T (withinBounds g)) (after (j .before)) (pass (bounded j)),
+      (λ k. tick-leaves x w (s .args .r) k ∙ sym (ap indexOf (after (j .before)))),
+      λ t. ap (λ (to : Entry). keptUp (k .before .before .before .find .result .zone) to (x .index)) (c .led-to .ensures)
+          ∙ kept-up-after x w (known k) (s .args .r) (number k ∙ if-true _ _ (eq-eqb _ _ (met e)) ∙ if-true _ _ (bounded j)) (found k)
+          (asked-found x w (s .args .r) (k .before .zone-ahead .ensures)) (led .leads-to .ensures)
+          (length-at x w (known k) _ _ _ (across-at side) (across-within side) ∙ ap (λ (v : ℕ). howMany (x .field) (base (opposite v))) zone)
+          (length-there x w (known k) _ _ (above-within side) ∙ ap (howMany (x .field)) zone)
+          (length-there x w (known k) _ _ (below-within side) ∙ ap (λ (v : ℕ). howMany (x .field) (2 + v)) zone)
+          (fix-there x w (known k) _ _)
+          (length-there x w (known k) (led .leads-to .result) _ (led-within led)) (after (j .before)) t,
     )
 
 accepted-requires : tie.Need-accepted-requires
@@ -190,9 +289,9 @@ accepted-requires c κs = search needs
 
 returns-3 : tie.Need-returns-3
 returns-3 c =
-    let j = c .before .before in
-    let l = j .before .before .before in
-    let e = l .before in
+    let j = c .before .before .before in
+    let e = passed-by (j .before .before) in
+    let l = j .before .before .before .before .before .before .before in
     let k = e .before in
     let s = start k in
     let zero = number k ∙ if-true _ _ (eq-eqb _ _ (met e)) ∙ if-true _ _ (bounded j) in
@@ -210,6 +309,24 @@ step-by-index-spec =
     turned-away-requires
     returns
     along-of-requires
+    sub-final-zone
+    mul-final-zone
+    element-copy-out-final-zone
+    element-copy-out-first
+    cast-side-of
+    side-of-requires
+    cast-side
+    add-across
+    sub-across
+    mul-across
+    element-copy-out-across
+    sub-above
+    mul-above
+    element-copy-out-above
+    add-below
+    sub-below
+    mul-below
+    element-copy-out-below
     leads-to-requires
     sub-there
     mul-there
@@ -218,9 +335,10 @@ step-by-index-spec =
     within-bounds-requires
     turned-away-requires-2
     returns-2
-    cast-t24
-    add-t19
-    cast-t25
+    cast-led-to
+    add-led-to
+    cast-led-to-2
+    led-to-requires
     answered-requires
     accepted-requires
     returns-3)

@@ -1,0 +1,77 @@
+-- What an accepted request that is no entry and no tick tells of the field: where its aircraft is, and the queue there. Assumes nothing.
+use mathlib.Core.Path.{_≡_, refl, sym, ap, _∙_, subst}
+use mathlib.Core.Bool.{Bool, true, false, cond, not, true≢false}
+use mathlib.Core.List.{List, [], _∷_, _++_}
+use Prim.Native.Nat.{ℕ, _≤_}
+use native.Mathlib.Omega.{arith}
+use borrow.Author.Tests.{eqb-true}
+use lib.Dec.{eqb}
+use lib.ListN.{length, getD}
+use Rattle.request.specs.Input.{within, isEntry, isTick, firstRefused}
+use Rattle.request.specs.declared.Request.{Request}
+use Rattle.request.proofs.Tests.{within-low, within-high}
+use Rattle.field.specs.declared.Aircraft.{Aircraft}
+use Rattle.field.specs.declared.Field.{Field}
+use Rattle.field.specs.Boxes.{nobody, sideOf, everywhere, inZone}
+use Rattle.field.specs.Lists.{isIn}
+use Rattle.field.proofs.Tests.{if-false, each-from}
+use Rattle.questions.specs.declared.Place.{Place}
+use Rattle.questions.specs.Counts.{howMany}
+use Rattle.questions.specs.Find.{aircraftAt, numbersIn}
+use Rattle.questions.proofs.FindLaws.{at, found-exactly, found-there}
+use Rattle.rules.specs.Kinds.{placeBefore, zoneBefore, absentChecks, headChecks, presenceChecks, startsFrom}
+use Rattle.rules.specs.Step.{numberOf}
+use Rattle.rules.proofs.Checks.{HeadPassed, besides, owned, checks-at, head-passed}
+use Rattle.rules.proofs.Refusals.{passes}
+use Rattle.kept_up.proofs.Queues.{Heads}
+
+-- the side of a side
+pub side-own : (s : ℕ) → 1 ≤ s → s ≤ 2 → sideOf s ≡ s
+unfolding sideOf
+side-own s low high = each-from 1 2 (λ s. sideOf s ≡ s) (refl, (refl, tt)) s low (omega (arith, high))
+
+-- the one zone that a kind starts from
+pub only : (n z : ℕ) → within n n z ≡ true → z ≡ n
+only n z t = let l = within-low n n z t in let h = within-high n n z t in omega (arith, l, h)
+
+module _ (f : Field) (r : Request) (e : numberOf f r ≡ 0) where
+  abbrev from : ℕ
+  from = zoneBefore f r
+
+  abbrev n : ℕ
+  n = r .number
+
+  module _ (k : ℕ) (q : r .kind ≡ k) (no-entry : isEntry k ≡ false) (no-tick : isTick k ≡ false) where
+    pub heading : HeadPassed k (placeBefore f r) (owned f r) (besides f r k)
+    heading =
+        let here = placeBefore f r in
+        let heads = headChecks k here (owned f r) in
+        let all : presenceChecks k here (owned f r) ≡ heads = if-false (absentChecks here) (cond (isTick k) [] heads) no-entry ∙ if-false [] heads no-tick in
+        head-passed k here (owned f r) (besides f r k) (ap (λ (l : List (ℕ × Bool)). firstRefused (l ++ besides f r k)) (sym all) ∙ sym (ap firstRefused (checks-at f r q)) ∙ passes f r e .checks)
+
+    pub found : placeBefore f r ≡ at from 1
+    found = ap (at from) (eqb-true (placeBefore f r .place) 1 (heading .first))
+
+    pub heads : Heads f n from
+    unfolding howMany aircraftAt
+    heads =
+        let present : isIn n (numbersIn f everywhere) ≡ true = is-in (isIn n (numbersIn f everywhere)) (found-exactly f n) (heading .known) in
+        let p = found-there f n present in
+        go (inZone f from) refl (subst (λ (y : Place). y .place ≤ howMany f from) found (p .last)) (subst (λ (y : Place). aircraftAt f from (y .place) .number ≡ n) found (p .has))
+      where
+        is-in : (b : Bool) → eqb from 0 ≡ not b → not (eqb from 0) ≡ true → b ≡ true
+        is-in true a c = refl
+        is-in false a c = absurd (true≢false (sym c ∙ ap not a))
+
+        go : (l : List Aircraft) → inZone f from ≡ l → 1 ≤ length l → getD (nobody ∷ l) 1 nobody .number ≡ n → Heads f n from
+        go [] i a b = absurd (omega arith)
+        go (x ∷ l) i a b = record { head = x; behind = l; here = i; named = b }
+
+    pub some : 1 ≤ howMany f from
+    unfolding howMany
+    some = let h = ap length (heads .here) in omega (arith, h)
+
+  -- a miss finds somebody on final
+  pub on-final : r .kind ≡ 10 → 1 ≤ howMany f 12
+  unfolding startsFrom
+  on-final q = subst (λ (z : ℕ). 1 ≤ howMany f z) (only 12 from (heading 10 q refl refl .starts)) (some 10 q refl refl)
