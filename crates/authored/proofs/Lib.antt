@@ -1,2 +1,2 @@
 pub mod Outputs
-pub mod Theorems
+pub mod PrintedRead

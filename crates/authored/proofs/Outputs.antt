@@ -10,7 +10,7 @@ use Rattle.text.specs.Buffer.{Put}
 use Rattle.text.proofs.Texts.{line-length, put-whole}
 use Rattle.writer.specs.declared.Writing.{Writing}
 use Rattle.writer.specs.Writer.{fileOf, writingNumber, writingOf, bufferAfter}
-use Rattle.writer.proofs.Numbers.{allowed}
+use Rattle.writer.proofs.WritingNumbers.{allowed}
 use Rattle.writer.proofs.Written.{written, as-lent}
 use Rattle.authored.specs.Authored.{fileRoom, legsGiven, requestsGiven, authoredNumber, refusedLine, authoredOf}
 

@@ -6,7 +6,7 @@ use lib.Dec.{leb, eqb}
 use lib.ListN.{length, drop}
 use Rattle.practice.specs.declared.FileLegs.{FileLegs}
 use Rattle.practice.specs.File.{legsOf}
-use Rattle.text.specs.Text.{space, line}
+use Rattle.text.specs.Text.{space, lineOf}
 use Rattle.writer.specs.Writer.{fileOf, writingNumber}
 
 -- how many bytes the caller's buffer has: as many as the longest practice file (01, "Turned away by the request or the file", 5)
@@ -27,7 +27,7 @@ authoredNumber input = cond (leb 8 (length input)) (writingNumber (legsGiven inp
 
 -- a refusal: `refused` and its number
 unfoldable pub refusedLine : ℕ → List ℕ
-refusedLine number = 114 ∷ 101 ∷ 102 ∷ 117 ∷ 115 ∷ 101 ∷ 100 ∷ space ∷ line (number ∷ [])
+refusedLine number = 114 ∷ 101 ∷ 102 ∷ 117 ∷ 115 ∷ 101 ∷ 100 ∷ space ∷ lineOf (number ∷ [])
 
 -- what is printed for an input of these bytes
 unfoldable pub authoredOf : List ℕ → List ℕ

@@ -18,14 +18,14 @@ use Rattle.playing.specs.declared.Played.{Played}
 use Rattle.playing.specs.Playing.{answersOf, playedOf}
 use Rattle.playing.specs.Log.{logOf, kindAt, numberAt, ofKinds}
 use Rattle.playing.proofs.Logs.{here-in, log-length}
-use Rattle.playing.proofs.Files.{answers-count}
+use Rattle.playing.proofs.PlayedFiles.{answers-count}
 use Rattle.contents.specs.Contents.{fileCount, fileAt, filesFrom, filesOf}
 use Rattle.binder.specs.declared.counts.Counts.{Counts}
 use Rattle.binder.specs.Counting.{columns}
 use Rattle.week_table.specs.Table.{cellOf}
-use Rattle.binder.specs.Counts.{Small, Columned, isColumn, none, withAnswer, withNumber, countedTo, withFile, withFiles, countsOf}
-use Rattle.binder.proofs.Counted.{listed, Headed}
-use Rattle.week_table.proofs.Cells.{one-low, of-few}
+use Rattle.binder.specs.Counts.{Small, Columned, isColumn, emptyCounts, withAnswer, withNumber, countedTo, withFile, withFiles, countsOf}
+use Rattle.binder.proofs.CountedOnce.{listed, Headed}
+use Rattle.week_table.proofs.KindRows.{one-low, of-few}
 use Rattle.binder.proofs.Cells.{cell-low}
 
 -- the counts with other moves, landings and cells
@@ -77,8 +77,8 @@ small-up h s =
       cells = λ i. let k = s .cells i in omega arith;
     }
 
-pub small-none : Small 0 none
-unfolding none
+pub small-none : Small 0 emptyCounts
+unfolding emptyCounts
 small-none =
     record {
       places = length-replicate {A = ℕ} 273 0;
@@ -180,11 +180,11 @@ module _ (bytes : List ℕ) where
     pub whole : withFiles c (filesFrom bytes i (count - i)) ≡ countsOf (filesOf bytes)
     pub small : Small (4097 * i) c
 
-  pub counting-none : (count : ℕ) (log : List ℕ) → count ≡ fileCount bytes → length log ≡ 28672 → Counting count log none 0
+  pub counting-none : (count : ℕ) (log : List ℕ) → count ≡ fileCount bytes → length log ≡ 28672 → Counting count log emptyCounts 0
   unfolding countsOf filesOf
   counting-none count log e r =
       let z : count - 0 ≡ fileCount bytes = omega arith in
-      record { below = omega arith; room = r; whole = ap (λ (n : ℕ). withFiles none (filesFrom bytes 0 n)) z; small = small-none }
+      record { below = omega arith; room = r; whole = ap (λ (n : ℕ). withFiles emptyCounts (filesFrom bytes 0 n)) z; small = small-none }
 
   module _ {count : ℕ} {log : List ℕ} {c : Counts} {i : ℕ} (k : Counting count log c i) where
     pub counting-more : {log' : List ℕ} {d : Counts} → i < count → length log' ≡ 28672 → d ≡ withFile c (fileAt bytes i) → Small (4097 * (i + 1)) d → Counting count log' d (i + 1)

@@ -1,7 +1,7 @@
-pub mod Counted
+pub mod CountedOnce
 pub mod Cells
 pub mod Adding
 pub mod Sums
 pub mod Rows
 pub mod Reported
-pub mod Known
+pub mod TableKnown

@@ -15,8 +15,8 @@ use Rattle.rules.specs.Play.{moves}
 use Rattle.contents.specs.Contents.{binderNumber, filesOf}
 use Rattle.binder.specs.declared.counts.Counts.{Counts}
 use Rattle.binder.specs.Counting.{answersIn, rows, columns, answered, landings, filesNumbered}
-use Rattle.binder.specs.Week.{filesLine, refusedLine, headingLine, rowLine, rowLines, movesLine, landingsLine, refusedBinder, filesReport, weekOf}
-use Rattle.binder.specs.Counts.{rowAt, none, countsOf, rowsTo, weekLines}
+use Rattle.binder.specs.Week.{filesLine, refusedFilesLine, headingLine, rowLine, rowLines, movesLine, landingsLine, refusedBinder, filesReport, weekOf}
+use Rattle.binder.specs.Counts.{rowAt, emptyCounts, countsOf, rowsTo, weekLines}
 use Rattle.binder.proofs.Adding.{small-none}
 use Rattle.binder.proofs.Sums.{columnAt, Summed, counts-summed}
 
@@ -37,11 +37,11 @@ unfolding rows
 thirteen = refl
 
 -- a place of the table before the first file
-zero-cell : (i : ℕ) → getD (none .cells) i 0 ≡ 0
+zero-cell : (i : ℕ) → getD (emptyCounts .cells) i 0 ≡ 0
 zero-cell i = let h = small-none .cells i in omega arith
 
 module _ (files : List (List ℕ)) where
-  abbrev summed : Summed none (countsOf files) files
+  abbrev summed : Summed emptyCounts (countsOf files) files
   summed = counts-summed files
 
   abbrev answers : List (Request × Answer)
@@ -81,7 +81,7 @@ module _ (files : List (List ℕ)) where
 
   -- the lines of the counts are those of the files
   pub lines-are-report : weekLines (countsOf files) ≡ filesReport files
-  unfolding weekLines filesReport none
+  unfolding weekLines filesReport emptyCounts
   lines-are-report =
       let c = countsOf files in
       let p : c .played ≡ filesNumbered 0 files = omega (arith, summed .played) in
@@ -92,7 +92,7 @@ module _ (files : List (List ℕ)) where
       let l : c .landings ≡ landings answers = omega (arith, summed .landed) in
       let t = all-rows in
       λ i.
-      filesLine (p i) ++ refusedLine 5 (r5 i) ++ refusedLine 6 (r6 i) ++ refusedLine 7 (r7 i) ++ headingLine ++ t i ++ movesLine (m i) ++ landingsLine (l i)
+      filesLine (p i) ++ refusedFilesLine 5 (r5 i) ++ refusedFilesLine 6 (r6 i) ++ refusedFilesLine 7 (r7 i) ++ headingLine ++ t i ++ movesLine (m i) ++ landingsLine (l i)
 
 -- the report of a binder, accepted or refused
 module _ (bytes : List ℕ) where

@@ -9,13 +9,13 @@ use lib.Dec.{T, eqb}
 use lib.ListN.{length, getD, length-append}
 use lib.Seq.{append-snoc}
 use borrow.Author.Tests.{eqb-true, ne-eqb}
-use Rattle.field.proofs.Tests.{passed, every-from}
-use Rattle.text.specs.Text.{digitsUpTo, decimal, space, line}
+use Rattle.field.proofs.TestLaws.{passed, every-from}
+use Rattle.text.specs.Text.{digitsUpTo, decimal, space, lineOf}
 use Rattle.text.specs.Buffer.{room}
 use Rattle.text.proofs.Texts.{decimal-short, line-length, line-short}
 use Rattle.binder.specs.declared.counts.Counts.{Counts}
 use Rattle.binder.specs.Counting.{rows, columns}
-use Rattle.binder.specs.Week.{filesLine, refusedLine, headingLine, rowLine, movesLine, landingsLine, refusedBinder}
+use Rattle.binder.specs.Week.{filesLine, refusedFilesLine, headingLine, rowLine, movesLine, landingsLine, refusedBinder}
 use Rattle.binder.specs.Counts.{rowAt, rowsTo, weekLines}
 
 -- the rows are those of kinds 1 to 12, and the last is row 0
@@ -25,25 +25,25 @@ row-kind row h = eqb-true (rowAt row) (row + 1) (passed (every-from (λ r. eqb (
 
 module _ (row : ℕ) (counts : List ℕ) where
   module _ (h : row < 12) where
-    pub kind-row : rowLine (rowAt row) counts ≡ decimal (row + 1) ++ (space ∷ []) ++ line counts
+    pub kind-row : rowLine (rowAt row) counts ≡ decimal (row + 1) ++ (space ∷ []) ++ lineOf counts
     unfolding rowLine
     kind-row =
         let not-last : eqb (row + 1) 0 ≡ _ = ne-eqb (row + 1) 0 (λ e. omega arith) in
         ap (λ (k : ℕ). rowLine k counts) (row-kind row h)
-        ∙ ap (λ (b : Bool). cond b (111 ∷ 116 ∷ 104 ∷ 101 ∷ 114 ∷ []) (decimal (row + 1)) ++ (space ∷ line counts)) not-last
-        ∙ sym (append-snoc (decimal (row + 1)) space (line counts))
+        ∙ ap (λ (b : Bool). cond b (111 ∷ 116 ∷ 104 ∷ 101 ∷ 114 ∷ []) (decimal (row + 1)) ++ (space ∷ lineOf counts)) not-last
+        ∙ sym (append-snoc (decimal (row + 1)) space (lineOf counts))
 
     pub kind-row-short : length counts ≡ 21 → ((i : ℕ) → getD counts i 0 < 2 ^ 64) → length (rowLine (rowAt row) counts) ≤ 450
     kind-row-short n w =
         let e = ap length kind-row in
-        let a = length-append (decimal (row + 1) ++ (space ∷ [])) (line counts) in
+        let a = length-append (decimal (row + 1) ++ (space ∷ [])) (lineOf counts) in
         let b = length-append (decimal (row + 1)) (space ∷ []) in
         let d = decimal-short 1 (row + 1) (omega arith) in
         let l = line-short counts w in
         omega arith
 
   module _ (h : row ≡ 12) where
-    pub other-row : rowLine (rowAt row) counts ≡ (111 ∷ 116 ∷ 104 ∷ 101 ∷ 114 ∷ space ∷ []) ++ line counts
+    pub other-row : rowLine (rowAt row) counts ≡ (111 ∷ 116 ∷ 104 ∷ 101 ∷ 114 ∷ space ∷ []) ++ lineOf counts
     unfolding rowLine rows
     other-row = ap (λ (r : ℕ). rowLine (rowAt r) counts) h
 
@@ -55,15 +55,15 @@ module _ (row : ℕ) (counts : List ℕ) where
 
 -- ---- how long the whole report is
 module _ (n : ℕ) (h : n < 2 ^ 64) where
-  number-short : length (line (n ∷ [])) ≤ 21
+  number-short : length (lineOf (n ∷ [])) ≤ 21
   number-short = line-length n [] 19 (omega arith)
 
   files-short : length (filesLine n) ≤ 27
   unfolding filesLine
   files-short = let l = number-short in omega arith
 
-  refused-short : (number : ℕ) → number < 10 → length (refusedLine number n) ≤ 31
-  unfolding refusedLine
+  refused-short : (number : ℕ) → number < 10 → length (refusedFilesLine number n) ≤ 31
+  unfolding refusedFilesLine
   refused-short number g = let l = number-short in let k = line-length number (n ∷ []) 0 (omega arith) in omega arith
 
   moves-short : length (movesLine n) ≤ 27
@@ -95,15 +95,15 @@ pub week-short : (c : Counts) → Counted64 c → length (rowsTo (c .cells) 13) 
 unfolding weekLines
 week-short c w h =
     let l1 = filesLine (c .played) in
-    let l2 = l1 ++ refusedLine 5 (c .refused5) in
-    let l3 = l2 ++ refusedLine 6 (c .refused6) in
-    let l4 = l3 ++ refusedLine 7 (c .refused7) in
+    let l2 = l1 ++ refusedFilesLine 5 (c .refused5) in
+    let l3 = l2 ++ refusedFilesLine 6 (c .refused6) in
+    let l4 = l3 ++ refusedFilesLine 7 (c .refused7) in
     let l5 = l4 ++ headingLine in
     let l6 = l5 ++ rowsTo (c .cells) 13 in
     let l7 = l6 ++ movesLine (c .moves) in
-    let a1 = length-append l1 (refusedLine 5 (c .refused5)) in
-    let a2 = length-append l2 (refusedLine 6 (c .refused6)) in
-    let a3 = length-append l3 (refusedLine 7 (c .refused7)) in
+    let a1 = length-append l1 (refusedFilesLine 5 (c .refused5)) in
+    let a2 = length-append l2 (refusedFilesLine 6 (c .refused6)) in
+    let a3 = length-append l3 (refusedFilesLine 7 (c .refused7)) in
     let a4 = length-append l4 headingLine in
     let a5 = length-append l5 (rowsTo (c .cells) 13) in
     let a6 = length-append l6 (movesLine (c .moves)) in

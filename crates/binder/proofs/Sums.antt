@@ -10,10 +10,10 @@ use lib.Seq.{getD-set-same, getD-set-other}
 use borrow.Author.Tests.{eq-eqb, ne-eqb, eqb-true, eqb-false}
 use Rattle.request.specs.Input.{within}
 use Rattle.request.specs.declared.Request.{Request}
-use Rattle.request.proofs.Tests.{within-low, within-high}
+use Rattle.request.proofs.InputTests.{within-low, within-high}
 use Rattle.field.specs.Lists.{every}
-use Rattle.field.specs.Boxes.{zonesFrom}
-use Rattle.field.proofs.Tests.{every-from, pass}
+use Rattle.field.specs.Airspace.{zonesFrom}
+use Rattle.field.proofs.TestLaws.{every-from, pass}
 use Rattle.practice.specs.File.{fileNumber}
 use Rattle.rules.specs.declared.Answer.{Answer}
 use Rattle.rules.specs.Play.{accepted, moves}
@@ -23,9 +23,9 @@ use Rattle.playing.proofs.Logs.{here-in, kind-here}
 use Rattle.binder.specs.declared.counts.Counts.{Counts}
 use Rattle.binder.specs.Counting.{answersIn, rowOf, rows, columns, isAnswered, answered, landings, filesNumbered}
 use Rattle.week_table.specs.Table.{rowPlace, columnPlace, cellOf}
-use Rattle.binder.specs.Counts.{rowAt, none, withAnswer, withNumber, countedTo, withFile, withFiles, countsOf}
-use Rattle.binder.proofs.Counted.{listed, Headed, headed-file}
-use Rattle.week_table.proofs.Cells.{row-low}
+use Rattle.binder.specs.Counts.{rowAt, emptyCounts, withAnswer, withNumber, countedTo, withFile, withFiles, countsOf}
+use Rattle.binder.proofs.CountedOnce.{listed, Headed, headed-file}
+use Rattle.week_table.proofs.KindRows.{row-low}
 use Rattle.binder.proofs.Cells.{listed-low, column-low}
 
 -- ---- which place a row and a column have
@@ -246,6 +246,6 @@ files-summed c (file ∷ files) n =
           omega arith;
     }
 
-pub counts-summed : (files : List (List ℕ)) → Summed none (countsOf files) files
-unfolding countsOf none
-counts-summed files = files-summed none files (length-replicate {A = ℕ} 273 0)
+pub counts-summed : (files : List (List ℕ)) → Summed emptyCounts (countsOf files) files
+unfolding countsOf emptyCounts
+counts-summed files = files-summed emptyCounts files (length-replicate {A = ℕ} 273 0)

@@ -14,7 +14,7 @@ use Rattle.playing.specs.Log.{logOf, kindAt, numberAt, ofKinds}
 use Rattle.week_table.specs.Table.{cellOf}
 use Rattle.binder.specs.declared.counts.Counts.{Counts}
 use Rattle.binder.specs.Counting.{rows, columns}
-use Rattle.binder.specs.Week.{filesLine, refusedLine, headingLine, rowLine, movesLine, landingsLine}
+use Rattle.binder.specs.Week.{filesLine, refusedFilesLine, headingLine, rowLine, movesLine, landingsLine}
 
 -- ---- the table
 
@@ -29,8 +29,8 @@ rowAt row = getD rows row 0
 -- ---- the counts
 
 -- the counts before the first file
-unfoldable pub none : Counts
-none = record { played = 0; refused5 = 0; refused6 = 0; refused7 = 0; moves = 0; landings = 0; cells = replicate 273 0 }
+unfoldable pub emptyCounts : Counts
+emptyCounts = record { played = 0; refused5 = 0; refused6 = 0; refused7 = 0; moves = 0; landings = 0; cells = replicate 273 0 }
 
 -- the counts with one more request, of this kind and answered with this number
 unfoldable pub withAnswer : Counts → ℕ → ℕ → Counts
@@ -74,7 +74,7 @@ withFiles c (file ∷ files) = withFiles (withFile c file) files
 
 -- what files add up to
 unfoldable pub countsOf : List (List ℕ) → Counts
-countsOf files = withFiles none files
+countsOf files = withFiles emptyCounts files
 
 -- ---- the lines
 
@@ -87,9 +87,9 @@ rowsTo cells (suc n) = rowsTo cells n ++ rowLine (rowAt n) (stretch cells (21 * 
 unfoldable pub weekLines : Counts → List ℕ
 weekLines c =
     filesLine (c .played)
-    ++ refusedLine 5 (c .refused5)
-    ++ refusedLine 6 (c .refused6)
-    ++ refusedLine 7 (c .refused7)
+    ++ refusedFilesLine 5 (c .refused5)
+    ++ refusedFilesLine 6 (c .refused6)
+    ++ refusedFilesLine 7 (c .refused7)
     ++ headingLine
     ++ rowsTo (c .cells) 13
     ++ movesLine (c .moves)

@@ -7,7 +7,7 @@ ghost use mathlib.Core.Path.{_≡_};
 ghost use Prim.Native.Nat.{_*_, _≤_};
 ghost use lib.ListN.{length};
 ghost use Rattle.limits.specs.Limits.{mostRequests};
-ghost use Rattle.binder.specs.Counts.{Small, Columned, none, withNumber, countedTo};
+ghost use Rattle.binder.specs.Counts.{Small, Columned, emptyCounts, withNumber, countedTo};
 
 // How many files play and how many are refused 5, 6 and 7; how many moves and landings there were; and the table of numbers by kind, row
 // by row.
@@ -22,8 +22,8 @@ pub(crate) struct Counts {
 }
 
 // The counts before the first file.
-pub(crate) fn none() -> Counts
-    ensures { λ c. ⌜ c ≡ none ⌝ }
+pub(crate) fn empty_counts() -> Counts
+    ensures { λ c. ⌜ c ≡ emptyCounts ⌝ }
 {
     Counts {
         played: 0,

@@ -3,7 +3,7 @@ mod counts;
 mod lines;
 
 use crate::counts::Counts;
-use crate::counts::none;
+use crate::counts::empty_counts;
 use crate::counts::with_answers;
 use crate::counts::with_number;
 use crate::lines::put_refused;
@@ -28,7 +28,7 @@ fn counts_of(binder: &[u8]) -> Counts
 {
     let count = file_count(binder);
     let mut log = [0u16; 28672];
-    let mut c = none();
+    let mut c = empty_counts();
     let mut i = 0;
     while i < count {
         let p = play(file_at(binder, i), false, &mut log);

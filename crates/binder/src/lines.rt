@@ -8,14 +8,14 @@ ghost use mathlib.Core.Path.{_≡_};
 ghost use mathlib.Core.List.{[], _∷_, _++_};
 ghost use Prim.Native.Nat.{_≤_, _<_};
 ghost use lib.ListN.{length};
-ghost use Rattle.text.specs.Text.{line};
+ghost use Rattle.text.specs.Text.{lineOf};
 ghost use Rattle.text.specs.Buffer.{room, Put, Written};
 ghost use Rattle.binder.specs.Week.{rowLine, refusedBinder};
 ghost use Rattle.binder.specs.Counts.{rowAt, rowsTo, weekLines};
 
 // A name, and the line of a number.
 fn put_count(out: &mut [u8], at: usize, name: &[u8], n: usize) -> usize
-    ensures { λ r. ⌜ Put (now (out .entry)) at (now (name .entry) ++ line (n ∷ [])) (now (out .exit)) r ⌝ }
+    ensures { λ r. ⌜ Put (now (out .entry)) at (now (name .entry) ++ lineOf (n ∷ [])) (now (out .exit)) r ⌝ }
 {
     let next = put_text(out, at, name);
     let numbers = [n];

@@ -10,7 +10,7 @@ use Rattle.field.specs.declared.Aircraft.{Aircraft}
 use Rattle.field.specs.declared.Zone.{Zone}
 use Rattle.field.specs.declared.Sequence.{Sequence}
 use Rattle.field.specs.declared.Field.{Field}
-use Rattle.field.specs.Boxes.{right, left, opposite, at3000, at2000, lateral, missed, finalApproach, runway, zonesFrom, everywhere, zoneOf, orderOf}
+use Rattle.field.specs.Airspace.{right, left, opposite, at3000, at2000, lateral, missed, finalApproach, runway, zonesFrom, everywhere, zoneOf, orderOf}
 use Rattle.field.specs.Lists.{every}
 use Rattle.questions.specs.Counts.{howMany, isEmpty, inOperation, inArea, perFix}
 use Rattle.questions.specs.Find.{aircraftAt, fixOf, isFirst}

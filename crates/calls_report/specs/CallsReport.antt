@@ -10,7 +10,7 @@ use Rattle.request.specs.Input.{firstRefused}
 use Rattle.practice.specs.File.{number16, legsOf, legsAllowed}
 use Rattle.questions.specs.Counts.{presentOn}
 use Rattle.rules.specs.declared.Answer.{Answer}
-use Rattle.text.specs.Text.{space, line}
+use Rattle.text.specs.Text.{space, lineOf}
 use Rattle.playing.specs.Playing.{legsInMiles}
 use Rattle.session.specs.Report.{answerLine}
 use Rattle.history.specs.declared.History.{History}
@@ -58,7 +58,7 @@ callLines index (p ∷ ps) = answerLine index (p .1) ++ callLines (suc index) ps
 
 -- the last line: `end`, how many are present, and how many fields are kept
 unfoldable pub lastLine : History → List ℕ
-lastLine h = 101 ∷ 110 ∷ 100 ∷ space ∷ line (presentOn (h .now .field) ∷ h .count ∷ [])
+lastLine h = 101 ∷ 110 ∷ 100 ∷ space ∷ lineOf (presentOn (h .now .field) ∷ h .count ∷ [])
 
 -- the report of calls on a field with its kept ones, the first with this index
 unfoldable pub reportFrom : ℕ → History → List Call → List ℕ

@@ -1,5 +1,5 @@
 pub mod Table
-pub mod Placed
-pub mod Accepted
-pub mod Files
-pub mod Listed
+pub mod FilesPlaced
+pub mod AcceptedBinder
+pub mod FileStretches
+pub mod FilesListed

@@ -8,7 +8,7 @@ use lib.Dec.{leb}
 use lib.ListN.{length}
 use borrow.Author.Tests.{leb-true, le-leb, lt-leb}
 use Rattle.request.specs.Input.{within}
-use Rattle.request.proofs.Tests.{both-left, both-right, left-fails, right-fails, within-yes, within-below, within-above, within-low, within-high}
+use Rattle.request.proofs.InputTests.{both-left, both-right, left-fails, right-fails, within-yes, within-below, within-above, within-low, within-high}
 use Rattle.contents.specs.Contents.{entryCount, tableEnd, tableAllowed}
 
 pub record TableKnown (bytes : List ℕ) : Type 0 where

@@ -17,7 +17,7 @@ ghost use Prim.Native.Nat.{_+_, _≤_};
 ghost use lib.ListN.{length};
 ghost use Rattle.practice.specs.File.{number16, number32};
 ghost use Rattle.words.specs.Words.{number64};
-ghost use Rattle.layout.specs.Read.{progressOf, aircraftAt, zoneAt, sequenceAt, legsAt, fieldAt, entryAt, indexedAt, historyOf};
+ghost use Rattle.layout.specs.Read.{progressOf, readAircraft, readZone, readSequence, readLegs, readField, readEntry, readIndexed, readHistory};
 
 // The number of 16 bits at a place of the bytes.
 fn number16(bytes: &[u8], at: usize) -> u16
@@ -54,9 +54,9 @@ fn progress_of(bits: u64) -> Progress
 }
 
 // The aircraft at a place.
-fn aircraft_at(bytes: &[u8], at: usize) -> Aircraft
+fn read_aircraft(bytes: &[u8], at: usize) -> Aircraft
     requires { ⌜ at + 30 ≤ length (now bytes) ⌝ }
-    ensures { λ r. ⌜ r ≡ aircraftAt (now (bytes .entry)) at ⌝ }
+    ensures { λ r. ⌜ r ≡ readAircraft (now (bytes .entry)) at ⌝ }
 {
     let progress = progress_of(number64(bytes, at + 6));
     Aircraft {
@@ -71,14 +71,14 @@ fn aircraft_at(bytes: &[u8], at: usize) -> Aircraft
 }
 
 // The zone at a place.
-fn zone_at(bytes: &[u8], at: usize) -> Zone
+fn read_zone(bytes: &[u8], at: usize) -> Zone
     requires { ⌜ at + 128 ≤ length (now bytes) ⌝ }
-    ensures { λ r. ⌜ r ≡ zoneAt (now (bytes .entry)) at ⌝ }
+    ensures { λ r. ⌜ r ≡ readZone (now (bytes .entry)) at ⌝ }
 {
-    let first = aircraft_at(bytes, at);
-    let second = aircraft_at(bytes, at + 30);
-    let third = aircraft_at(bytes, at + 60);
-    let fourth = aircraft_at(bytes, at + 90);
+    let first = read_aircraft(bytes, at);
+    let second = read_aircraft(bytes, at + 30);
+    let third = read_aircraft(bytes, at + 60);
+    let fourth = read_aircraft(bytes, at + 90);
     Zone {
         aircraft: [first, second, third, fourth],
         length: number64(bytes, at + 120) as usize,
@@ -86,9 +86,9 @@ fn zone_at(bytes: &[u8], at: usize) -> Zone
 }
 
 // The sequence at a place.
-fn sequence_at(bytes: &[u8], at: usize) -> Sequence
+fn read_sequence(bytes: &[u8], at: usize) -> Sequence
     requires { ⌜ at + 16 ≤ length (now bytes) ⌝ }
-    ensures { λ r. ⌜ r ≡ sequenceAt (now (bytes .entry)) at ⌝ }
+    ensures { λ r. ⌜ r ≡ readSequence (now (bytes .entry)) at ⌝ }
 {
     let first = number16(bytes, at);
     let second = number16(bytes, at + 2);
@@ -101,9 +101,9 @@ fn sequence_at(bytes: &[u8], at: usize) -> Sequence
 }
 
 // The legs at a place.
-fn legs_at(bytes: &[u8], at: usize) -> Legs
+fn read_legs(bytes: &[u8], at: usize) -> Legs
     requires { ⌜ at + 32 ≤ length (now bytes) ⌝ }
-    ensures { λ r. ⌜ r ≡ legsAt (now (bytes .entry)) at ⌝ }
+    ensures { λ r. ⌜ r ≡ readLegs (now (bytes .entry)) at ⌝ }
 {
     Legs {
         missed: miles_of(number64(bytes, at)),
@@ -114,27 +114,27 @@ fn legs_at(bytes: &[u8], at: usize) -> Legs
 }
 
 // The field at a place.
-fn field_at(bytes: &[u8], at: usize) -> Field
+fn read_field(bytes: &[u8], at: usize) -> Field
     requires { ⌜ at + 1713 ≤ length (now bytes) ⌝ }
-    ensures { λ r. ⌜ r ≡ fieldAt (now (bytes .entry)) at ⌝ }
+    ensures { λ r. ⌜ r ≡ readField (now (bytes .entry)) at ⌝ }
 {
-    let first = zone_at(bytes, at);
+    let first = read_zone(bytes, at);
     let mut zones = [first; 13];
     for i in 1..13 {
-        zones[i] = zone_at(bytes, at + 128 * i);
+        zones[i] = read_zone(bytes, at + 128 * i);
     }
     Field {
         zones: zones,
-        sequence: sequence_at(bytes, at + 1664),
+        sequence: read_sequence(bytes, at + 1664),
         next: bytes[at + 1680],
-        legs: legs_at(bytes, at + 1681),
+        legs: read_legs(bytes, at + 1681),
     }
 }
 
 // The entry of the index at a place.
-fn entry_at(bytes: &[u8], at: usize) -> Entry
+fn read_entry(bytes: &[u8], at: usize) -> Entry
     requires { ⌜ at + 4 ≤ length (now bytes) ⌝ }
-    ensures { λ r. ⌜ r ≡ entryAt (now (bytes .entry)) at ⌝ }
+    ensures { λ r. ⌜ r ≡ readEntry (now (bytes .entry)) at ⌝ }
 {
     Entry {
         number: number16(bytes, at),
@@ -144,16 +144,16 @@ fn entry_at(bytes: &[u8], at: usize) -> Entry
 }
 
 // The field at a place with the index behind it.
-fn indexed_at(bytes: &[u8], at: usize) -> Indexed
+fn read_indexed(bytes: &[u8], at: usize) -> Indexed
     requires { ⌜ at + 1733 ≤ length (now bytes) ⌝ }
-    ensures { λ r. ⌜ r ≡ indexedAt (now (bytes .entry)) at ⌝ }
+    ensures { λ r. ⌜ r ≡ readIndexed (now (bytes .entry)) at ⌝ }
 {
-    let field = field_at(bytes, at);
-    let first = entry_at(bytes, at + 1713);
-    let second = entry_at(bytes, at + 1717);
-    let third = entry_at(bytes, at + 1721);
-    let fourth = entry_at(bytes, at + 1725);
-    let fifth = entry_at(bytes, at + 1729);
+    let field = read_field(bytes, at);
+    let first = read_entry(bytes, at + 1713);
+    let second = read_entry(bytes, at + 1717);
+    let third = read_entry(bytes, at + 1721);
+    let fourth = read_entry(bytes, at + 1725);
+    let fifth = read_entry(bytes, at + 1729);
     let entries = [first, second, third, fourth, fifth];
     Indexed {
         field: field,
@@ -162,15 +162,15 @@ fn indexed_at(bytes: &[u8], at: usize) -> Indexed
 }
 
 // The field, the eight kept ones and how many of them count.
-pub fn history_of(state: &State) -> History
-    ensures { λ r. ⌜ r ≡ historyOf (now (state .entry)) ⌝ }
+pub fn read_history(state: &State) -> History
+    ensures { λ r. ⌜ r ≡ readHistory (now (state .entry)) ⌝ }
 {
     let bytes: &[u8] = state;
-    let now = indexed_at(bytes, 0);
-    let first = indexed_at(bytes, 1733);
+    let now = read_indexed(bytes, 0);
+    let first = read_indexed(bytes, 1733);
     let mut kept = [first; 8];
     for i in 1..8 {
-        kept[i] = indexed_at(bytes, 1733 + 1733 * i);
+        kept[i] = read_indexed(bytes, 1733 + 1733 * i);
     }
     History {
         now: now,

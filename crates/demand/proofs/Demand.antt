@@ -13,31 +13,31 @@ use Rattle.request.specs.declared.Request.{Request}
 use Rattle.field.specs.declared.Aircraft.{Aircraft}
 use Rattle.field.specs.declared.Legs.{Legs}
 use Rattle.field.specs.declared.Field.{Field}
-use Rattle.field.specs.Boxes.{emptyField, zonesFrom, inZone, operation}
+use Rattle.field.specs.Airspace.{emptyField, zonesFrom, inZone, operation}
 use Rattle.questions.specs.Counts.{howMany, presentOn, presentFor, ownedBy, inOperation, inArea, perFix}
 use Rattle.field.specs.Lists.{every}
 use Rattle.bounds.specs.Bounds.{boundA, boundB, boundC, boundD, lateralRule}
 use Rattle.fits.specs.Fits.{legalLegs}
 use Rattle.field.proofs.Shapes.{one-of-two}
-use Rattle.order.specs.Model.{Side, right}
+use Rattle.order.specs.Model.{Side, rightSide}
 use Rattle.order.proofs.Facts.{okay-empty, okay-zones, weight-small}
 use Rattle.rules.specs.Play.{fieldAfter, played, ofDesk, letIn, taxiedOff, exitedFrom, accepted, moves, addsMoves}
 use Rattle.rules.specs.declared.Answer.{Answer}
 use Rattle.demand.specs.Demand.{allFlownOut, MovesOn, Demand3}
-use Rattle.field.proofs.Tests.{every-from}
+use Rattle.field.proofs.TestLaws.{every-from}
 use Rattle.line.proofs.Line.{Placed, zonesIn, inside, fieldOf, empty-is}
-use Rattle.line.proofs.Counted.{total-same, in-line, on-runway, in-operation, all-counted, how-many-runway}
+use Rattle.line.proofs.CountedOnLine.{total-same, in-line, on-runway, in-operation, all-counted, how-many-runway}
 use Rattle.line.proofs.Orderly.{Orderly, length-zones}
-use Rattle.line.proofs.Within.{a-holds, b-holds, c-holds, d-holds}
+use Rattle.line.proofs.LineWithin.{a-holds, b-holds, c-holds, d-holds}
 use Rattle.moves.proofs.After.{weightOf}
 use Rattle.moves.proofs.Owners.{owners, owners-all, owned-in, owned-on}
 use Rattle.demand.proofs.Runs.{askedBy, Run, runs}
 use Rattle.demand.proofs.Unstuck.{unstuck}
 
 -- nobody yet
-pub empty-orderly : (legs : Legs) → T (legalLegs legs) → Orderly right [] [] legs
+pub empty-orderly : (legs : Legs) → T (legalLegs legs) → Orderly rightSide [] [] legs
 empty-orderly legs l =
-    record { okay-line = okay-empty right; alternates = tt; nonzeros = tt; different = tt; fit-line = tt; fit-runway = tt; one-landed = omega arith; legal = l }
+    record { okay-line = okay-empty rightSide; alternates = tt; nonzeros = tt; different = tt; fit-line = tt; fit-runway = tt; one-landed = omega arith; legal = l }
 
 -- a side is 1 or 2
 by-side : (P : ℕ → Type 0) → P 1 → P 2 → (s : ℕ) → T (within 1 2 s) → P s
@@ -113,7 +113,7 @@ asked-by-desk desk (p ∷ ps) = ap (λ (l : List (Request × Answer)). cond (eqb
 -- ---- every list
 module _ (legs : Legs) (l : T (legalLegs legs)) (rs : List Request) where
   pub from-empty : Run legs (emptyField legs) (λ who. 0) (weightOf [] []) rs
-  from-empty = subst (λ (g : Field). Run legs g (λ who. 0) (weightOf [] []) rs) (sym (empty-is legs)) (runs legs rs right [] [] (empty-orderly legs l))
+  from-empty = subst (λ (g : Field). Run legs g (λ who. 0) (weightOf [] []) rs) (sym (empty-is legs)) (runs legs rs rightSide [] [] (empty-orderly legs l))
 
   -- what holds of the order's field holds of the field after the list
   carry : (P : Field → Type 0) → P (fieldOf (from-empty .first-then) (from-empty .line-then) (from-empty .runway-then) legs) → P (fieldAfter (emptyField legs) rs)

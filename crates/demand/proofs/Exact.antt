@@ -16,22 +16,22 @@ use Rattle.request.proofs.ByKind.{tick-known}
 use Rattle.field.specs.declared.Aircraft.{Aircraft}
 use Rattle.field.specs.declared.Field.{Field}
 use Rattle.field.specs.declared.Legs.{Legs}
-use Rattle.field.specs.Boxes.{isFlyingZone, inZone, emptyField}
+use Rattle.field.specs.Airspace.{isFlyingZone, inZone, emptyField}
 use Rattle.field.specs.Lists.{every, Each}
 use Rattle.questions.specs.declared.Place.{Place}
 use Rattle.questions.specs.Find.{placeOf}
-use Rattle.order.specs.Model.{Side, right}
+use Rattle.order.specs.Model.{Side, rightSide}
 use Rattle.rules.specs.Step.{numberOf, stepOf}
 use Rattle.rules.specs.Play.{fieldAfter, played}
 use Rattle.demand.specs.Exact.{WholeLegs, inMiles, Flight, noFlight, ticking, entry, onward, afterMiss, flightWith, flightAfter, Account, Exact}
-use Rattle.field.proofs.Tests.{decided, if-true, if-false}
-use Rattle.field.proofs.Lists.{or-false-left, or-false-right, alone}
+use Rattle.field.proofs.TestLaws.{decided, if-true, if-false}
+use Rattle.field.proofs.NumberLists.{or-false-left, or-false-right, alone}
 use Rattle.laws.proofs.TickLaws.{number-kept}
 use Rattle.line.proofs.Line.{Placed, numbersOf, inside, fieldOf, empty-is}
-use Rattle.line.proofs.Counted.{in-line, on-runway}
+use Rattle.line.proofs.CountedOnLine.{in-line, on-runway}
 use Rattle.line.proofs.Located.{zone-split, located, located-runway}
 use Rattle.line.proofs.Orderly.{Orderly}
-use Rattle.moves.proofs.Ticking.{tickPlaced}
+use Rattle.moves.proofs.TickOnLine.{tickPlaced}
 use Rattle.moves.proofs.StaysOrderly.{placedFits}
 use Rattle.moves.proofs.Carried.{onRunway, Came, stayed, went, turned, followed, came-in}
 use Rattle.moves.proofs.After.{zone-in}
@@ -246,7 +246,7 @@ pub exactness : (w : WholeLegs) (rs : List Request) → Exact w rs
 exactness w rs =
     let g = emptyField (inMiles w) in
     let none : ℕ → Flight = λ n. noFlight in
-    let k : Kept w g none rs = subst (λ (h : Field). Kept w h none rs) (sym (empty-is (inMiles w))) (exact-runs w rs right [] [] (empty-orderly (inMiles w) (legs-legal w)) none tt tt) in
+    let k : Kept w g none rs = subst (λ (h : Field). Kept w h none rs) (sym (empty-is (inMiles w))) (exact-runs w rs rightSide [] [] (empty-orderly (inMiles w) (legs-legal w)) none tt tt) in
     let s : ℕ → Flight = λ n. flightAfter w n noFlight (played g rs) in
     let In : ℕ → Type 0 = λ z. Each (AccountIn w s z) (inZone (fieldAfter g rs) z) in
     zone-split {P = In}

@@ -12,24 +12,24 @@ use Rattle.leg.specs.Progress.{whole, sixtyFourths, progressAfter, waitedWith, 
 use Rattle.leg.specs.Ticks.{Between, Exactly, LegIn4096ths, FlownExactly}
 use Rattle.leg.specs.declared.Progress.{Progress}
 use Rattle.leg.specs.declared.Progress.the-variants.{Flying}
-use Rattle.leg.proofs.Theorems.{zero-exact, sixty-fourths-in-4096ths, sixty-fourths-legal, one-tick-exact-in-4096ths, one-tick-waited-in-4096ths, missed-leg-exact}
+use Rattle.leg.proofs.ProgressLaws.{zero-exact, sixty-fourths-in-4096ths, sixty-fourths-legal, one-tick-exact-in-4096ths, one-tick-waited-in-4096ths, missed-leg-exact}
 use Rattle.request.specs.Input.{within}
 use Rattle.field.specs.declared.Aircraft.{Aircraft}
-use Rattle.field.specs.Boxes.{right, left, missed, finalApproach, isFlyingZone, legOf, progressInto}
+use Rattle.field.specs.Airspace.{right, left, missed, finalApproach, isFlyingZone, legOf, progressInto}
 use Rattle.fits.specs.Fits.{fitsZone, legalLegs}
 use Rattle.tick.specs.Tick.{tickedAircraft}
-use Rattle.demand.specs.Exact.{WholeLegs, inMiles, in64ths, in4096ths, pastIn, mostIn4096ths, Flight, ticking, entry, pastSoFar, onward, afterMiss, Account}
-use Rattle.field.proofs.Tests.{pass, passed, if-true, if-false, either-way, each-zone}
-use Rattle.field.proofs.Arrival.{progress-by, leg-not-flown}
+use Rattle.demand.specs.Exact.{WholeLegs, inMiles, zoneLegIn64ths, zoneLegIn4096ths, pastIn, mostIn4096ths, Flight, ticking, entry, pastSoFar, onward, afterMiss, Account}
+use Rattle.field.proofs.TestLaws.{pass, passed, if-true, if-false, either-way, each-zone}
+use Rattle.field.proofs.ArrivalLaws.{progress-by, leg-not-flown}
 use Rattle.laws.proofs.Fits.{fits-parts, missed-flown}
 use Rattle.laws.proofs.TickLaws.{tickedAt}
 use Rattle.line.proofs.Line.{Placed}
 use Rattle.moves.proofs.Carried.{Onward, Turned}
 
 -- ---- legs
-leg-fits : (w : WholeLegs) (z : ℕ) → T (within 1 13 z) → Between 1 longestLeg (in64ths w z)
+leg-fits : (w : WholeLegs) (z : ℕ) → T (within 1 13 z) → Between 1 longestLeg (zoneLegIn64ths w z)
 leg-fits w =
-    each-zone (λ (z : ℕ). Between 1 longestLeg (in64ths w z))
+    each-zone (λ (z : ℕ). Between 1 longestLeg (zoneLegIn64ths w z))
     (w .final-fits, (w .final-fits, (w .final-fits, (w .final-fits, (w .final-fits, (w .final-fits, (w .missed-fits, (w .missed-fits, (w .base-fits, (w .base-fits, (w .intermediate-fits, (w .final-fits, (w .final-fits, tt)))))))))))))
 
 pub legs-legal : (w : WholeLegs) → T (legalLegs (inMiles w))
@@ -56,20 +56,20 @@ zone-13 z t =
     and-i (leb 1 z) (leb z 13) (le→leb 1 z (omega arith)) (le→leb z 13 (omega arith))
 
 -- the leg of a zone in 4096ths is exact
-flown-exact : (w : WholeLegs) (z : ℕ) → T (within 1 13 z) → T (isFlyingZone z) → Exactly (legOf (inMiles w) z) (64 * in64ths w z)
+flown-exact : (w : WholeLegs) (z : ℕ) → T (within 1 13 z) → T (isFlyingZone z) → Exactly (legOf (inMiles w) z) (64 * zoneLegIn64ths w z)
 unfolding isFlyingZone legOf
 flown-exact w =
     let m = sixty-fourths-in-4096ths (w .missed-leg) (w .missed-fits) .exact in
     let b = sixty-fourths-in-4096ths (w .base-leg) (w .base-fits) .exact in
     let i = sixty-fourths-in-4096ths (w .intermediate-leg) (w .intermediate-fits) .exact in
     let f = sixty-fourths-in-4096ths (w .final-leg) (w .final-fits) .exact in
-    each-zone (λ (z : ℕ). T (isFlyingZone z) → Exactly (legOf (inMiles w) z) (64 * in64ths w z))
+    each-zone (λ (z : ℕ). T (isFlyingZone z) → Exactly (legOf (inMiles w) z) (64 * zoneLegIn64ths w z))
     ((λ u. absurd u), ((λ u. absurd u), ((λ u. absurd u), ((λ u. absurd u), ((λ u. absurd u), ((λ u. absurd u), ((λ u. m), ((λ u. m), ((λ u. b), ((λ u. b), ((λ u. i), ((λ u. f), ((λ u. absurd u), tt)))))))))))))
 
-zone-leg-exact : (w : WholeLegs) (z : ℕ) → Exactly (legOf (inMiles w) z) (in4096ths w z)
+zone-leg-exact : (w : WholeLegs) (z : ℕ) → Exactly (legOf (inMiles w) z) (zoneLegIn4096ths w z)
 unfolding ofInt
 zone-leg-exact w z =
-    either-way (λ (n : ℕ). Exactly (legOf (inMiles w) z) n) (isFlyingZone z) (64 * in64ths w z) 0 (λ e. flown-exact w z (zone-13 z (pass e)) (pass e))
+    either-way (λ (n : ℕ). Exactly (legOf (inMiles w) z) n) (isFlyingZone z) (64 * zoneLegIn64ths w z) 0 (λ e. flown-exact w z (zone-13 z (pass e)) (pass e))
     (λ e. subst (λ (x : Float). Exactly x 0) (sym (leg-not-flown (inMiles w) z e)) (refl, refl))
 
 -- what is known of an own leg of n / 4096 miles in zone z
@@ -78,7 +78,7 @@ pub record LegKnown (w : WholeLegs) (z n : ℕ) : Type 0 where
   pub none : isFlyingZone z ≡ false → n ≡ 0
   pub all-of-final : z ≡ finalApproach → n ≡ 64 * w .final-leg
 
-zone-leg-known : (w : WholeLegs) (z : ℕ) → LegKnown w z (in4096ths w z)
+zone-leg-known : (w : WholeLegs) (z : ℕ) → LegKnown w z (zoneLegIn4096ths w z)
 unfolding isFlyingZone
 zone-leg-known w z =
     record {
@@ -87,10 +87,10 @@ zone-leg-known w z =
           let r = leg-fits w z (zone-13 z u) in
           let low = r .least in
           let high = r .most in
-          let range : Between 1 (4096 * longestOwnLegMiles) (64 * in64ths w z) = record { least = omega arith; most = omega arith } in
-          subst (Between 1 (4096 * longestOwnLegMiles)) (sym (if-true (64 * in64ths w z) 0 (passed {b = isFlyingZone z} u))) range;
-      none = λ e. if-false (64 * in64ths w z) 0 e;
-      all-of-final = λ e. ap (in4096ths w) e;
+          let range : Between 1 (4096 * longestOwnLegMiles) (64 * zoneLegIn64ths w z) = record { least = omega arith; most = omega arith } in
+          subst (Between 1 (4096 * longestOwnLegMiles)) (sym (if-true (64 * zoneLegIn64ths w z) 0 (passed {b = isFlyingZone z} u))) range;
+      none = λ e. if-false (64 * zoneLegIn64ths w z) 0 e;
+      all-of-final = λ e. ap (zoneLegIn4096ths w) e;
     }
 
 -- ---- what is past the end of a leg
@@ -222,8 +222,8 @@ pub known-onward : (w : WholeLegs) (s : Flight) (zone : ℕ) (e g : Placed) → 
     → Known w (onward w s zone) (g .zone) (g .aircraft)
 known-onward w s zone e g p on h =
     known-into w s e g p (on .same-speed) (on .same-waited) (on .begins) (onward w s zone) refl h refl refl
-    (subst (λ (y : ℕ). Exactly (g .aircraft .leg) (in4096ths w y)) (sym h) (subst (λ (x : Float). Exactly x (in4096ths w (g .zone))) (sym (on .leg-is)) (zone-leg-exact w (g .zone))))
-    (subst (λ (y : ℕ). LegKnown w (g .zone) (in4096ths w y)) (sym h) (zone-leg-known w (g .zone)))
+    (subst (λ (y : ℕ). Exactly (g .aircraft .leg) (zoneLegIn4096ths w y)) (sym h) (subst (λ (x : Float). Exactly x (zoneLegIn4096ths w (g .zone))) (sym (on .leg-is)) (zone-leg-exact w (g .zone))))
+    (subst (λ (y : ℕ). LegKnown w (g .zone) (zoneLegIn4096ths w y)) (sym h) (zone-leg-known w (g .zone)))
 
 -- one that has missed its approach: the missed leg and what was left of final
 left-of : (j k x : ℕ) → j + (k - min k x) ≡ j + (k - x)

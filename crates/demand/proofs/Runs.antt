@@ -20,7 +20,7 @@ use Rattle.rules.specs.declared.Answer.{Answer}
 use Rattle.rules.specs.Step.{numberOf, stepOf}
 use Rattle.rules.specs.Play.{fieldAfter, played, isAccepted, accepted, letIn, taxiedOff, exitedFrom, moves, addsMoves}
 use Rattle.demand.specs.Demand.{neverAnswers}
-use Rattle.field.proofs.Tests.{pass, fail, decided}
+use Rattle.field.proofs.TestLaws.{pass, fail, decided}
 use Rattle.line.proofs.Line.{Placed, fieldOf}
 use Rattle.line.proofs.Orderly.{Orderly}
 use Rattle.moves.proofs.After.{leaves, weightOf}

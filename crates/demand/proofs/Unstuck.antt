@@ -12,13 +12,13 @@ use lib.Ieee.Fits.{and-l, and-r}
 use borrow.Author.Tests.{eqb-false, eq-eqb}
 use Rattle.request.specs.Input.{within, firstRefused}
 use Rattle.request.specs.declared.Request.{Request}
-use Rattle.request.proofs.Tests as input
+use Rattle.request.proofs.InputTests as input
 use Rattle.request.proofs.ByKind.{DeskKnown, move-allowed}
 use Rattle.field.specs.declared.Aircraft.{Aircraft}
 use Rattle.field.specs.declared.Legs.{Legs}
 use Rattle.field.specs.declared.Field.{Field}
 use Rattle.questions.specs.declared.Place.{Place}
-use Rattle.field.specs.Boxes.{sideOf, opposite, at2000, inZone, isFlyingZone, legFlownOut, zonesFrom}
+use Rattle.field.specs.Airspace.{sideOf, opposite, at2000, inZone, isFlyingZone, legFlownOut, zonesFrom}
 use Rattle.questions.specs.Counts.{howMany, isEmpty}
 use Rattle.questions.specs.Find.{placeOf, aircraftAt, isFirst, leaderZone}
 use Rattle.field.specs.Lists.{every}
@@ -29,11 +29,11 @@ use Rattle.order.proofs.Facts.{headKind, head-moves}
 use Rattle.rules.specs.Kinds.{placeBefore, zoneBefore, startsFrom, belongsTo, headChecks, mayApproach, mayMerge, baseFree}
 use Rattle.rules.specs.Step.{checksOf}
 use Rattle.demand.specs.Demand.{allFlownOut, movesOn, MovesOn}
-use Rattle.field.proofs.Tests.{passed, failed, each-operation, every-from}
-use Rattle.field.proofs.Lists.{alone}
-use Rattle.line.proofs.Lists.{every-right}
+use Rattle.field.proofs.TestLaws.{passed, failed, each-operation, every-from}
+use Rattle.field.proofs.NumberLists.{alone}
+use Rattle.line.proofs.AheadInLists.{every-right}
 use Rattle.line.proofs.Line.{Placed, zonesIn, numbersOf, inside, fieldOf}
-use Rattle.line.proofs.Counted.{in-line, how-many, how-many-runway}
+use Rattle.line.proofs.CountedOnLine.{in-line, how-many, how-many-runway}
 use Rattle.questions.proofs.FindLaws.{at}
 use Rattle.line.proofs.Located.{located, located-runway, inside-at, first-there, head-there}
 use Rattle.line.proofs.Leaders.{nonzero}
@@ -145,14 +145,14 @@ module _ (f : Side) (e : Placed) (b : List Placed) (legs : Legs) (o : Orderly f 
   free-empty w t u = ap (λ (c : ℕ). eqb c 0) (how-many f (e ∷ b) [] legs w t) ∙ passed u
 
   -- a kind whose other checks pass
-  by-kind : (k : ℕ) → 3 ≤ k → k ≤ 11 → T (movesOn k) → T (startsFrom k z)
+  starts-by-kind : (k : ℕ) → 3 ≤ k → k ≤ 11 → T (movesOn k) → T (startsFrom k z)
       → checksOf G (move k x) ≡ headChecks k (placeBefore G (move k x)) (owned G (move k x)) ++ besides G (move k x) k → firstRefused (besides G (move k x) k) ≡ 0 → MovesOn G
-  by-kind k l h t s c d =
+  starts-by-kind k l h t s c d =
       accept f (e ∷ b) [] legs o k x l h t named (desk-of legs z x (fit-here f [] e b [] legs o))
       (ap firstRefused c ∙ head-checks f (e ∷ b) [] legs o k x z place (head-there f [] e b [] legs (o .different) z-in refl) (not-zero z z-in) s (besides G (move k x) k) d)
     where
       not-zero : (y : ℕ) → T (within 1 12 y) → T (not (eqb y 0))
-      not-zero y t = Rattle.field.proofs.Tests.fail (borrow.Author.Tests.ne-eqb y 0 (λ q. let l = leb→le 1 y (and-l (leb 1 y) (leb y 12) t) in omega arith))
+      not-zero y t = Rattle.field.proofs.TestLaws.fail (borrow.Author.Tests.ne-eqb y 0 (λ q. let l = leb→le 1 y (and-l (leb 1 y) (leb y 12) t) in omega arith))
 
   pub first-moves : MovesOn G
   unfolding startsFrom isFlyingZone mayApproach mayMerge baseFree sideOf opposite
@@ -161,13 +161,13 @@ module _ (f : Side) (e : Placed) (b : List Placed) (legs : Legs) (o : Orderly f 
       let holds = each-operation (λ (y : ℕ). z ≡ y → T (eqb y 12 || needs (headKind y) [] y (zonesIn b)) → MovesOn G) in
       let down : (y : ℕ) → z ≡ y → T (startsFrom 3 y) → T (within 1 12 (at2000 y)) → T (free (y ∷ zonesIn b) (at2000 y)) → MovesOn G =
       λ y q s t u.
-      by-kind 3 (omega arith) (omega arith) tt (subst (λ (v : ℕ). T (startsFrom 3 v)) (sym q) s) (checks-at G (move 3 x) {k = 3} refl)
+      starts-by-kind 3 (omega arith) (omega arith) tt (subst (λ (v : ℕ). T (startsFrom 3 v)) (sym q) s) (checks-at G (move 3 x) {k = 3} refl)
       (ap (λ (v : ℕ). cond (isEmpty G (at2000 v)) 0 21) (before-is 3 ∙ q)
       ∙ ap (λ (c : Bool). cond c 0 21) (free-empty (at2000 y) t (subst (λ (v : ℕ). T (free (v ∷ zonesIn b) (at2000 y))) (sym q) u))) in
       let led : (low high : ℕ) → (isFirst (G .sequence) m || within low high (leaderZone G m)) ≡ true = λ low high. ap (λ (c : Bool). c || within low high (leaderZone G m)) first in
       let in-to-base : (y : ℕ) → z ≡ y → T (startsFrom 4 y) → (within 5 6 y || baseFree G (sideOf y)) ≡ true → MovesOn G =
       λ y q s u.
-      by-kind 4 (omega arith) (omega arith) tt (subst (λ (v : ℕ). T (startsFrom 4 v)) (sym q) s) (checks-at G (move 4 x) {k = 4} refl)
+      starts-by-kind 4 (omega arith) (omega arith) tt (subst (λ (v : ℕ). T (startsFrom 4 v)) (sym q) s) (checks-at G (move 4 x) {k = 4} refl)
       (input.none-refused (besides G (move 4 x) 4) (
         (ap (λ (c : Bool). within 5 6 (zoneBefore G (move 4 x)) || c) (led 9 12) ∙ or-true (within 5 6 (zoneBefore G (move 4 x)))),
         ((ap (λ (v : ℕ). within 5 6 v || baseFree G (sideOf v)) (before-is 4 ∙ q) ∙ u), tt),
@@ -177,11 +177,11 @@ module _ (f : Side) (e : Placed) (b : List Placed) (legs : Legs) (o : Orderly f 
       let flies : (k y : ℕ) → z ≡ y → T (isFlyingZone y) → legFlownOut (aircraftAt G (zoneBefore G (move k x)) 1) ≡ true = λ k y q u. flown-out k (subst (λ (v : ℕ). T (isFlyingZone v)) (sym q) u) in
       let merges : (y : ℕ) → z ≡ y → T (startsFrom 5 y) → T (isFlyingZone y) → MovesOn G =
       λ y q s u.
-      by-kind 5 (omega arith) (omega arith) tt (subst (λ (v : ℕ). T (startsFrom 5 v)) (sym q) s) (checks-at G (move 5 x) {k = 5} refl)
+      starts-by-kind 5 (omega arith) (omega arith) tt (subst (λ (v : ℕ). T (startsFrom 5 v)) (sym q) s) (checks-at G (move 5 x) {k = 5} refl)
       (input.none-refused (besides G (move 5 x) 5) (flies 5 y q u, (led 11 12, tt))) in
       let holding : (y : ℕ) → z ≡ y → T (startsFrom 11 y) → T (isFlyingZone y) → MovesOn G =
       λ y q s u.
-      by-kind 11 (omega arith) (omega arith) tt (subst (λ (v : ℕ). T (startsFrom 11 v)) (sym q) s) (checks-at G (move 11 x) {k = 11} refl)
+      starts-by-kind 11 (omega arith) (omega arith) tt (subst (λ (v : ℕ). T (startsFrom 11 v)) (sym q) s) (checks-at G (move 11 x) {k = 11} refl)
       (input.none-refused (besides G (move 11 x) 11) (flies 11 y q u, tt)) in
       holds (
         (λ q u. down 1 q tt tt u),
@@ -194,9 +194,9 @@ module _ (f : Side) (e : Placed) (b : List Placed) (legs : Legs) (o : Orderly f 
         (λ q u. holding 8 q tt tt),
         (λ q u. merges 9 q tt tt),
         (λ q u. merges 10 q tt tt),
-        (λ q u. by-kind 6 (omega arith) (omega arith) tt (subst (λ (v : ℕ). T (startsFrom 6 v)) (sym q) tt)
+        (λ q u. starts-by-kind 6 (omega arith) (omega arith) tt (subst (λ (v : ℕ). T (startsFrom 6 v)) (sym q) tt)
             (checks-at G (move 6 x) {k = 6} refl) (input.none-refused (besides G (move 6 x) 6) (flies 6 11 q tt, tt))),
-        (λ q u. by-kind 7 (omega arith) (omega arith) tt (subst (λ (v : ℕ). T (startsFrom 7 v)) (sym q) tt) (checks-at G (move 7 x) {k = 7} refl)
+        (λ q u. starts-by-kind 7 (omega arith) (omega arith) tt (subst (λ (v : ℕ). T (startsFrom 7 v)) (sym q) tt) (checks-at G (move 7 x) {k = 7} refl)
             (input.none-refused (besides G (move 7 x) 7) (flies 7 12 q tt, (ap (λ (c : ℕ). eqb c 0) (how-many-runway f (e ∷ b) [] legs), tt)))),
       )
       z z-in refl hm

@@ -9,7 +9,7 @@ use Rattle.request.specs.Input.{within}
 use Rattle.request.specs.declared.Request.{Request}
 use Rattle.field.specs.declared.Legs.{Legs}
 use Rattle.field.specs.declared.Field.{Field}
-use Rattle.field.specs.Boxes.{emptyField, inZone, legFlownOut, zonesFrom}
+use Rattle.field.specs.Airspace.{emptyField, inZone, legFlownOut, zonesFrom}
 use Rattle.questions.specs.Counts.{howMany, presentOn, presentFor, inOperation, inArea, perFix}
 use Rattle.field.specs.Lists.{every}
 use Rattle.rules.specs.declared.Answer.{Answer}

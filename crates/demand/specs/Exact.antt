@@ -11,7 +11,7 @@ use Rattle.request.specs.declared.Request.{Request}
 use Rattle.field.specs.declared.Aircraft.{Aircraft}
 use Rattle.field.specs.declared.Legs.{Legs}
 use Rattle.field.specs.declared.Field.{Field}
-use Rattle.field.specs.Boxes.{missed, base, intermediate, right, left, isFlyingZone, inZone, legsIn64ths, emptyField}
+use Rattle.field.specs.Airspace.{missed, base, intermediate, right, left, isFlyingZone, inZone, legsIn64ths, emptyField}
 use Rattle.field.specs.Lists.{Each}
 use Rattle.rules.specs.declared.Answer.{Answer}
 use Rattle.rules.specs.Play.{fieldAfter, played, isAccepted}
@@ -32,15 +32,15 @@ abbrev pub inMiles : WholeLegs → Legs
 inMiles w = legsIn64ths (w .missed-leg) (w .base-leg) (w .intermediate-leg) (w .final-leg)
 
 -- the leg of zone z, one of 7 to 12, in 64ths
-abbrev pub in64ths : WholeLegs → ℕ → ℕ
-in64ths w z =
+abbrev pub zoneLegIn64ths : WholeLegs → ℕ → ℕ
+zoneLegIn64ths w z =
     cond (eqb z (missed right) || eqb z (missed left)) (w .missed-leg)
     (cond (eqb z (base right) || eqb z (base left)) (w .base-leg)
     (cond (eqb z intermediate) (w .intermediate-leg) (w .final-leg)))
 
 -- the same in 4096ths; 0 where no leg is flown
-abbrev pub in4096ths : WholeLegs → ℕ → ℕ
-in4096ths w z = cond (isFlyingZone z) (64 * in64ths w z) 0
+abbrev pub zoneLegIn4096ths : WholeLegs → ℕ → ℕ
+zoneLegIn4096ths w z = cond (isFlyingZone z) (64 * zoneLegIn64ths w z) 0
 
 -- what the miles flown in zone z exceed the leg by, all in 4096ths; 0 where no leg is flown
 abbrev pub pastIn : ℕ → ℕ → ℕ → ℕ
@@ -77,7 +77,7 @@ pastSoFar s = s .before + pastIn (s .zone) (s .leg) (s .speed * s .ticks)
 
 -- another leg, or none, in another zone
 abbrev pub onward : WholeLegs → Flight → ℕ → Flight
-onward w s zone = record { speed = s .speed; zone = zone; leg = in4096ths w zone; ticks = 0; before = pastSoFar s }
+onward w s zone = record { speed = s .speed; zone = zone; leg = zoneLegIn4096ths w zone; ticks = 0; before = pastSoFar s }
 
 -- a miss: 64 times the missed leg, and what was left of final (02, 2.7)
 abbrev pub afterMiss : WholeLegs → Flight → ℕ → Flight

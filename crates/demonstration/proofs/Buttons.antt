@@ -9,17 +9,17 @@ use Rattle.practice.specs.File.{legsOf, legsBody, fileNumber}
 use Rattle.practice.proofs.Meaning.{held}
 use Rattle.field.specs.declared.Field.{Field}
 use Rattle.rules.specs.Play.{played, moves}
-use Rattle.text.specs.Text.{line}
+use Rattle.text.specs.Text.{lineOf}
 use Rattle.text.proofs.Texts.{line-length}
 use Rattle.playing.specs.declared.Played.{Played}
 use Rattle.playing.specs.Playing.{fieldFrom, playedOf}
-use Rattle.playing.proofs.Files.{legsHeld, requestsInside, practice-holds, practice-refused, played-held, file-legs-legal}
+use Rattle.playing.proofs.PlayedFiles.{legsHeld, requestsInside, practice-holds, practice-refused, played-held, file-legs-legal}
 use Rattle.press.specs.declared.Ending.{Ending}
 use Rattle.press.specs.declared.Ending.the-variants.{Refused, None, Spent}
 use Rattle.press.specs.HeldDown.{heldRequests, heldLines}
 use Rattle.emptied.proofs.Emptying.{emptied}
 use Rattle.session.specs.Report.{refusedReport}
-use Rattle.demonstration.specs.Demonstration.{endWord, endLine, buttonReport, practiceButton, buttonOf}
+use Rattle.demonstration.specs.Demonstration.{endWord, endingLine, buttonReport, practiceButton, buttonOf}
 
 module _ (file : List ℕ) where
   pub button-refused : (fileNumber file ≡ 0 → ⊥) → buttonOf file ≡ refusedReport (fileNumber file)
@@ -47,9 +47,9 @@ word-length Refused = omega arith
 word-length None = omega arith
 word-length Spent = omega arith
 
-pub end-length : (e : Ending) (n : ℕ) → n < 2 ^ 64 → length (endLine e n) ≤ 29
+pub end-length : (e : Ending) (n : ℕ) → n < 2 ^ 64 → length (endingLine e n) ≤ 29
 end-length e n h =
     let w = word-length e in
     let l = line-length n [] 19 (omega arith) in
-    let a = length-append (endWord e) (line (n ∷ [])) in
+    let a = length-append (endWord e) (lineOf (n ∷ [])) in
     omega arith

@@ -3,7 +3,7 @@ use Prim.Native.Nat.{ℕ}
 use mathlib.Core.List.{List, [], _∷_, _++_}
 use Rattle.practice.specs.Practice.{Practice, refused, holds, practiceOf}
 use Rattle.field.specs.declared.Field.{Field}
-use Rattle.text.specs.Text.{space, line}
+use Rattle.text.specs.Text.{space, lineOf}
 use Rattle.playing.specs.Playing.{legsInMiles, fieldFrom}
 use Rattle.press.specs.declared.Ending.{Ending}
 use Rattle.press.specs.declared.Ending.the-variants.{Refused, None, Spent}
@@ -17,12 +17,12 @@ endWord Spent = 115 ∷ 112 ∷ 101 ∷ 110 ∷ 116 ∷ space ∷ []
 endWord Refused = 114 ∷ 101 ∷ 102 ∷ 117 ∷ 115 ∷ 101 ∷ 100 ∷ space ∷ []
 
 -- the last line: that word, and how many requests were played
-abbrev pub endLine : Ending → ℕ → List ℕ
-endLine ending played = endWord ending ++ line (played ∷ [])
+abbrev pub endingLine : Ending → ℕ → List ℕ
+endingLine ending played = endWord ending ++ lineOf (played ∷ [])
 
 -- the lines of the moves, and the last line
 unfoldable pub buttonReport : Field → List ℕ
-buttonReport f = heldLines f ++ endLine (heldOf f .ending) (heldOf f .played)
+buttonReport f = heldLines f ++ endingLine (heldOf f .ending) (heldOf f .played)
 
 -- of what a file means: the button is held down on the field after its last request; a refused file has the report that `play` gives of it
 abbrev pub practiceButton : Practice → List ℕ

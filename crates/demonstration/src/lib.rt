@@ -11,7 +11,7 @@ ghost use Prim.Native.Nat.{_≤_};
 ghost use mathlib.Core.List.{_++_};
 ghost use lib.ListN.{length, drop};
 ghost use Rattle.text.specs.Buffer.{Put, room};
-ghost use Rattle.demonstration.specs.Demonstration.{endWord, endLine, buttonOf};
+ghost use Rattle.demonstration.specs.Demonstration.{endWord, endingLine, buttonOf};
 
 // Puts the word of an ending into the buffer, from a place on.
 fn put_word(out: &mut [u8], at: usize, ending: Ending) -> usize
@@ -26,7 +26,7 @@ fn put_word(out: &mut [u8], at: usize, ending: Ending) -> usize
 
 // Puts the last line into the buffer, from a place on.
 fn put_end(out: &mut [u8], at: usize, ending: Ending, played: usize) -> usize
-    ensures { λ n. ⌜ Put (now (out .entry)) at (endLine ending played) (now (out .exit)) n ⌝ }
+    ensures { λ n. ⌜ Put (now (out .entry)) at (endingLine ending played) (now (out .exit)) n ⌝ }
 {
     let next = put_word(out, at, ending);
     let numbers = [played];

@@ -11,12 +11,12 @@ use lib.ListN.{length, getD}
 use Rattle.leg.specs.Ticks.{Between}
 use Rattle.request.specs.Input.{firstRefused}
 use Rattle.request.specs.declared.Request.{Request}
-use Rattle.request.proofs.Tests as input
+use Rattle.request.proofs.InputTests as input
 use Rattle.request.proofs.ByKind.{DeskKnown, move-allowed}
 use Rattle.field.specs.declared.Aircraft.{Aircraft}
 use Rattle.field.specs.declared.Field.{Field}
 use Rattle.questions.specs.declared.Place.{Place}
-use Rattle.field.specs.Boxes.{right, left, at3000, at2000, zonesFrom, everywhere, nobody, inZone}
+use Rattle.field.specs.Airspace.{right, left, at3000, at2000, zonesFrom, everywhere, nobody, inZone}
 use Rattle.field.specs.Lists.{isIn, every, allDifferent}
 use Rattle.questions.specs.Counts.{howMany, isEmpty}
 use Rattle.questions.specs.Find.{aircraftAt, numbersIn}
@@ -29,15 +29,15 @@ use Rattle.rules.specs.Reason.{hasPlaces}
 use Rattle.rules.proofs.Checks.{checks-at, effect-at}
 use Rattle.rules.proofs.StepLaws.{number-is, field-accepted}
 use Rattle.rules.proofs.Refusals.{accepts}
-use Rattle.request.proofs.Tests.{within-yes}
-use Rattle.field.proofs.Tests.{pass, passed, every-from, same}
-use Rattle.field.proofs.Lists.{every-listed, zone-listed}
+use Rattle.request.proofs.InputTests.{within-yes}
+use Rattle.field.proofs.TestLaws.{pass, passed, every-from, same}
+use Rattle.field.proofs.NumberLists.{every-listed, zone-listed}
 use Rattle.field.proofs.Shapes.{one-of-two}
 use Rattle.questions.proofs.FindLaws.{numbers, at, in-zones, own-place}
 use Rattle.laws.proofs.EditLaws.{Shaped}
 use Rattle.laws.proofs.Fits.{all-fit, fits-parts}
 use Rattle.laws.proofs.BoundLaws.{within-each, within-e, numbers-different, shaped-within}
-use Rattle.line.proofs.Counted.{none}
+use Rattle.line.proofs.CountedOnLine.{none}
 use Rattle.reason.proofs.Invariant.{places-parts}
 use Rattle.descent.specs.Descent.{descendFrom, Descends}
 use Rattle.descent.proofs.Down.{moved-down}

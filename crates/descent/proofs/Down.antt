@@ -12,16 +12,16 @@ use Rattle.leg.specs.Ticks.{Between}
 use Rattle.field.specs.declared.Aircraft.{Aircraft}
 use Rattle.field.specs.declared.Zone.{Zone}
 use Rattle.field.specs.declared.Field.{Field}
-use Rattle.field.specs.Boxes.{at3000, at2000, area, approach, operation, everywhere, nobody, zoneOf, queueOf, inZone, arrived}
+use Rattle.field.specs.Airspace.{at3000, at2000, area, approach, operation, everywhere, nobody, zoneOf, queueOf, inZone, arrived}
 use Rattle.field.specs.Lists.{isIn, allDifferent}
 use Rattle.field.specs.Edits.{withoutHead, withTail, withZone}
 use Rattle.questions.specs.Counts.{total, haveFix, howMany, howManyWithFix, inOperation, inArea, perFix, countedFor, approachHolds, potentialOf}
 use Rattle.questions.specs.Find.{aircraftAt}
 use Rattle.rules.specs.Kinds.{headGone, tailPut, moved}
-use Rattle.field.proofs.Arrival.{into-arrived}
-use Rattle.field.proofs.Tests.{if-true}
+use Rattle.field.proofs.ArrivalLaws.{into-arrived}
+use Rattle.field.proofs.TestLaws.{if-true}
 use Rattle.field.proofs.Shapes.{one-of-two}
-use Rattle.field.proofs.Lists.{area-different}
+use Rattle.field.proofs.NumberLists.{area-different}
 use Rattle.laws.proofs.EditLaws.{Shaped, shaped-without-head, shaped-with-zone, zone-kept, each-zone-with, queue-replaced, queue-kept, queue-taken, queue-put}
 use Rattle.laws.proofs.CountLaws.{sum-with}
 

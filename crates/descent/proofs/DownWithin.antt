@@ -15,7 +15,7 @@ use Rattle.field.specs.declared.Aircraft.{Aircraft}
 use Rattle.field.specs.declared.Zone.{Zone}
 use Rattle.field.specs.declared.Field.{Field}
 use Rattle.questions.specs.declared.Place.{Place}
-use Rattle.field.specs.Boxes.{right, left, isSide, at3000, at2000, lateral, missed, finalApproach, runway, zonesFrom, operation, everywhere, nobody, zoneOf, inZone, orderOf}
+use Rattle.field.specs.Airspace.{right, left, isSide, at3000, at2000, lateral, missed, finalApproach, runway, zonesFrom, operation, everywhere, nobody, zoneOf, inZone, orderOf}
 use Rattle.field.specs.Lists.{isIn, every, allDifferent}
 use Rattle.field.specs.Edits.{withoutHead, withTail, withZone}
 use Rattle.questions.specs.Counts.{howMany, isEmpty, inOperation, inArea, perFix}
@@ -24,9 +24,9 @@ use Rattle.numbers.specs.Numbers.{numbersDiffer, sequenceExact}
 use Rattle.bounds.specs.Bounds.{boundA, boundB, lateralRule, boundC, boundD, finalFirst, zoneKept, sequenceKept, boundE, alternate, boundF, withinBounds}
 use Rattle.fits.specs.Fits.{fitsZone, legalLegs, boundG}
 use Rattle.order.specs.Model.{count}
-use Rattle.field.proofs.Arrival.{into-arrived}
-use Rattle.field.proofs.Lists.{every-listed, zone-listed}
-use Rattle.field.proofs.Tests.{pass, decided, or-left, same}
+use Rattle.field.proofs.ArrivalLaws.{into-arrived}
+use Rattle.field.proofs.NumberLists.{every-listed, zone-listed}
+use Rattle.field.proofs.TestLaws.{pass, decided, or-left, same}
 use Rattle.questions.proofs.FindLaws.{numbers, found-there, absent-nowhere, nobody-nowhere, own-place}
 use Rattle.laws.proofs.EditLaws.{Shaped}
 use Rattle.laws.proofs.BoundLaws.{within-each, each-within, within-e}

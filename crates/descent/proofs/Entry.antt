@@ -13,12 +13,12 @@ use lib.ListN.{length, getD}
 use Rattle.leg.specs.Ticks.{Between}
 use Rattle.request.specs.Input.{isEntry, isTick, firstRefused, inputNumber}
 use Rattle.request.specs.declared.Request.{Request}
-use Rattle.request.proofs.Tests as input
+use Rattle.request.proofs.InputTests as input
 use Rattle.request.proofs.ByKind.{kind-known, entry-known}
 use Rattle.field.specs.declared.Aircraft.{Aircraft}
 use Rattle.field.specs.declared.Field.{Field}
 use Rattle.questions.specs.declared.Place.{Place}
-use Rattle.field.specs.Boxes.{at3000, at2000, lateral, missed, nobody, inZone}
+use Rattle.field.specs.Airspace.{at3000, at2000, lateral, missed, nobody, inZone}
 use Rattle.field.specs.Lists.{every}
 use Rattle.questions.specs.Counts.{howMany, isEmpty, countedFor, approachHolds, potentialOf}
 use Rattle.questions.specs.Find.{placeOf, aircraftAt}
@@ -31,7 +31,7 @@ use Rattle.rules.specs.Reason.{hasPlaces}
 use Rattle.rules.proofs.Checks.{Never, never-without, never-append, by-kind, owned, inputNumbers, presence-refuses, checks-refuse, input-numbered, checks-at}
 use Rattle.rules.proofs.StepLaws.{number-is, field-accepted, answer-accepted}
 use Rattle.rules.proofs.Refusals.{Passes, accepts, passes}
-use Rattle.field.proofs.Tests.{passed, pass, failed, decided, if-true, if-false, either-way}
+use Rattle.field.proofs.TestLaws.{passed, pass, failed, decided, if-true, if-false, either-way}
 use Rattle.field.proofs.Shapes.{one-of-two}
 use Rattle.questions.proofs.FindLaws.{found-exactly}
 use Rattle.moves.proofs.EnterAbove.{enters-empty, enters-occupied}

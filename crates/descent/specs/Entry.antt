@@ -3,7 +3,7 @@ use mathlib.Core.Path.{_≡_}
 use Rattle.request.specs.declared.Request.{Request}
 use Rattle.field.specs.declared.Field.{Field}
 use Rattle.rules.specs.declared.Answer.{Answer}
-use Rattle.field.specs.Boxes.{at3000}
+use Rattle.field.specs.Airspace.{at3000}
 use Rattle.questions.specs.Find.{aircraftAt}
 use Rattle.rules.specs.Kinds.{shownTo}
 use Rattle.rules.specs.Step.{stepOf}

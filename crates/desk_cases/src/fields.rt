@@ -4,7 +4,7 @@ use crate::stepped;
 use field::Aircraft;
 use field::Field;
 use field::Zone;
-use field::boxes::nobody;
+use field::airspace::nobody;
 use field::edits::with_zone;
 use finder::Index;
 use finder::Indexed;

@@ -11,7 +11,7 @@ use field::Field;
 use field::Legs;
 use field::Sequence;
 use field::Zone;
-use field::boxes::empty_field;
+use field::airspace::empty_field;
 use finder::Entry;
 use finder::Index;
 use finder::Indexed;

@@ -1,4 +1,4 @@
 pub mod Taken
-pub mod Bytes
+pub mod EntryBytes
 pub mod Walks
-pub mod Answers
+pub mod FirstFailing

@@ -10,19 +10,19 @@ use Rattle.practice.specs.declared.FileLegs.{FileLegs}
 use Rattle.practice.specs.File.{legsAllowed}
 use Rattle.field.specs.declared.Legs.{Legs}
 use Rattle.field.specs.declared.Field.{Field}
-use Rattle.field.specs.Boxes.{isSide, opposite, zoneOf, entering, emptyField}
+use Rattle.field.specs.Airspace.{isSide, opposite, zoneOf, entering, emptyField}
 use Rattle.field.specs.Edits.{withTail, appended, withZone, withSequence}
 use Rattle.finder.specs.declared.Indexed.{Indexed}
 use Rattle.finder.specs.Finder.{withinBoundsIndexed}
 use Rattle.indexed.specs.Indexed.{withIndex}
 use Rattle.playing.specs.Playing.{legsInMiles, noLegs}
-use Rattle.dialect.specs.declared.Entry.{Entry}
+use Rattle.dialect.specs.declared.ListEntry.{ListEntry}
 use Rattle.dialect.specs.declared.Built.{Built}
 
 -- ---- the list, lent as bytes
 
 -- an entry by its eight bytes, two for each of number, location, place and fix, the low byte first
-abbrev pub entryIn : List ℕ → Entry
+abbrev pub entryIn : List ℕ → ListEntry
 entryIn bytes = record {
   number = word (getD bytes 0 0) (getD bytes 1 0);
   location = word (getD bytes 2 0) (getD bytes 3 0);
@@ -31,7 +31,7 @@ entryIn bytes = record {
 }
 
 -- the entries of a list, eight bytes for each; fewer than eight at its end are none
-abbrev pub entriesIn : List ℕ → List Entry
+abbrev pub entriesIn : List ℕ → List ListEntry
 entriesIn [] = []
 entriesIn (a ∷ []) = []
 entriesIn (a ∷ b ∷ []) = []
@@ -43,11 +43,11 @@ entriesIn (a ∷ b ∷ c ∷ d ∷ e ∷ f ∷ g ∷ []) = []
 entriesIn (a ∷ b ∷ c ∷ d ∷ e ∷ f ∷ g ∷ h ∷ rest) = entryIn (a ∷ b ∷ c ∷ d ∷ e ∷ f ∷ g ∷ h ∷ []) ∷ entriesIn rest
 
 -- an entry whose location is a holding, zones 1 to 4, and whose place is this one
-unfoldable pub isPlaced : Entry → ℕ → Bool
+unfoldable pub isPlaced : ListEntry → ℕ → Bool
 isPlaced e place = within 1 4 (e .location) && eqb (e .place) place
 
 -- the places of the entries count up along the list, from this one
-abbrev pub placedFrom : ℕ → List Entry → Bool
+abbrev pub placedFrom : ℕ → List ListEntry → Bool
 placedFrom place [] = true
 placedFrom place (e ∷ es) = isPlaced e place && placedFrom (suc place) es
 
@@ -63,18 +63,18 @@ fixIn fix = cond (isSide fix) fix 0
 
 -- one of the list in its zone, waiting, and last in the sequence, with the caller's speed, nothing waited, no leg of its own and desk 1 as its owner; the
 -- next fix is then the opposite of its own, as after an entry (01, "The boxes")
-unfoldable pub withEntry : Field → ℕ → Entry → Field
+unfoldable pub withEntry : Field → ℕ → ListEntry → Field
 withEntry f speed e =
     withSequence (withZone f (e .location) (withTail (zoneOf f (e .location)) (entering (e .number) (fixIn (e .fix)) speed 1)))
     (appended (f .sequence) (e .number)) (opposite (fixIn (e .fix)))
 
 -- one after the other, on a field
-abbrev pub builtOn : Field → ℕ → List Entry → Field
+abbrev pub builtOn : Field → ℕ → List ListEntry → Field
 builtOn f speed [] = f
 builtOn f speed (e ∷ es) = builtOn (withEntry f speed e) speed es
 
 -- all of them, on the empty field with these legs; where the list is empty the next fix is that field's, right
-unfoldable pub built : Legs → ℕ → List Entry → Field
+unfoldable pub built : Legs → ℕ → List ListEntry → Field
 built legs speed entries = builtOn (emptyField legs) speed entries
 
 -- ---- the answer
@@ -95,8 +95,8 @@ unfoldable pub notBuilt : ℕ → Built
 notBuilt number = record { number = number; after = withIndex (emptyField (legsInMiles noLegs)) }
 
 -- the field of a list, with its index beside it; it keeps the bounds, and need not be one that requests reach
-unfoldable pub fieldOf : FileLegs → ℕ → List ℕ → Built
-fieldOf legs speed bytes =
+unfoldable pub fieldOfList : FileLegs → ℕ → List ℕ → Built
+fieldOfList legs speed bytes =
     cond (eqb (comingNumber legs speed bytes) 0)
     (record { number = 0; after = withIndex (built (legsInMiles legs) speed (entriesIn bytes)) })
     (notBuilt (comingNumber legs speed bytes))

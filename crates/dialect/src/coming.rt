@@ -1,14 +1,14 @@
 // The field of a list (specs/Coming.antt). It need not be a field that requests reach: nothing of demand 3 is claimed of it, and somebody may be on
 // it with nobody able to move.
 use crate::Built;
-use crate::Entry;
+use crate::ListEntry;
 use crate::going::no_entry;
 use field::Field;
 use field::Legs;
-use field::boxes::empty_field;
-use field::boxes::entering;
-use field::boxes::opposite;
-use field::boxes::zone_of;
+use field::airspace::empty_field;
+use field::airspace::entering;
+use field::airspace::opposite;
+use field::airspace::zone_of;
 use field::edits::appended;
 use field::edits::with_sequence;
 use field::edits::with_tail;
@@ -25,7 +25,7 @@ ghost use lib.ListN.{getD};
 ghost use Rattle.limits.specs.Limits.{fastest};
 ghost use Rattle.request.specs.Input.{within};
 ghost use Rattle.dialect.specs.Going.{noEntry};
-ghost use Rattle.dialect.specs.Coming.{entriesIn, isPlaced, placedFrom, listAllowed, fixIn, withEntry, built, notBuilt, fieldOf};
+ghost use Rattle.dialect.specs.Coming.{entriesIn, isPlaced, placedFrom, listAllowed, fixIn, withEntry, built, notBuilt, fieldOfList};
 
 // How many bytes an entry has.
 const ENTRY: usize = 8;
@@ -34,12 +34,12 @@ const ENTRY: usize = 8;
 const MOST: usize = 5;
 
 // The i-th entry of a list, counted from 0; all zero where there is none.
-fn entry_at(list: &[u8], i: usize) -> Entry
+fn entry_at(list: &[u8], i: usize) -> ListEntry
     ensures { λ r. ⌜ r ≡ getD (entriesIn (now (list .entry))) i noEntry ⌝ }
 {
     if i < list.len() / ENTRY {
         let at = ENTRY * i;
-        Entry {
+        ListEntry {
             number: word(list[at], list[at + 1]),
             location: word(list[at + 2], list[at + 3]),
             place: word(list[at + 4], list[at + 5]),
@@ -51,7 +51,7 @@ fn entry_at(list: &[u8], i: usize) -> Entry
 }
 
 // Whether an entry's location is 1 to 4 and its place is this one.
-fn is_placed(e: Entry, place: usize) -> bool
+fn is_placed(e: ListEntry, place: usize) -> bool
     ensures { λ r. ⌜ r ≡ isPlaced e place ⌝ }
 {
     let location = e.location;
@@ -113,7 +113,7 @@ fn fix_in(fix: u16) -> u8
 }
 
 // The field with one of the list in its zone, at the end of the sequence.
-fn with_entry(f: Field, speed: u16, e: Entry) -> Field
+fn with_entry(f: Field, speed: u16, e: ListEntry) -> Field
     ensures { λ r. ⌜ r ≡ withEntry f speed e ⌝ }
 {
     let zone = e.location as usize;
@@ -153,8 +153,8 @@ fn not_built(number: u16) -> Built
 }
 
 // The field of a list lent as bytes, eight for each entry; 7 for a leg, then 4 for the speed, then 29 for the list, then 25 for a field that breaks a bound.
-pub fn field_of(legs: FileLegs, speed: u16, list: &[u8]) -> Built
-    ensures { λ r. ⌜ r ≡ fieldOf legs speed (now (list .entry)) ⌝ }
+pub fn field_of_list(legs: FileLegs, speed: u16, list: &[u8]) -> Built
+    ensures { λ r. ⌜ r ≡ fieldOfList legs speed (now (list .entry)) ⌝ }
 {
     if !legs_allowed(legs) {
         return not_built(7);

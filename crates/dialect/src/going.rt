@@ -1,8 +1,8 @@
 // The list of a field (specs/Going.antt).
-use crate::Entry;
+use crate::ListEntry;
 use crate::Listing;
 use field::Field;
-use field::boxes::order_length;
+use field::airspace::order_length;
 use field::zones::INTERMEDIATE;
 use field::zones::LATERAL;
 use field::zones::RUNWAY;
@@ -13,15 +13,15 @@ use questions::find::aircraft_at;
 use questions::find::fix_of;
 use questions::find::place_of;
 ghost use mathlib.Core.Path.{_≡_};
-ghost use Rattle.dialect.specs.Going.{listEntry, entriesOf, inDialect, noEntry, listed, refused, listOf};
+ghost use Rattle.dialect.specs.Going.{listEntry, entriesOf, inDialect, noEntry, entriesListed, listRefused, listOf};
 
 // The one with a number, at a place of the list.
-fn entry_of(f: Field, number: u16, place: u16) -> Entry
+fn entry_of(f: Field, number: u16, place: u16) -> ListEntry
     ensures { λ r. ⌜ r ≡ listEntry f number place ⌝ }
 {
     let at = place_of(f, number);
     let fix = fix_of(f, number);
-    Entry {
+    ListEntry {
         number: number,
         location: at.zone as u16,
         place: place,
@@ -30,10 +30,10 @@ fn entry_of(f: Field, number: u16, place: u16) -> Entry
 }
 
 // A place past the count: all zero.
-pub(crate) fn no_entry() -> Entry
+pub(crate) fn no_entry() -> ListEntry
     ensures { λ r. ⌜ r ≡ noEntry ⌝ }
 {
-    Entry {
+    ListEntry {
         number: 0,
         location: 0,
         place: 0,
@@ -42,8 +42,8 @@ pub(crate) fn no_entry() -> Entry
 }
 
 // The answer with a refusal's number and nobody listed.
-pub fn refused(number: u16) -> Listing
-    ensures { λ r. ⌜ r ≡ refused number ⌝ }
+pub fn list_refused(number: u16) -> Listing
+    ensures { λ r. ⌜ r ≡ listRefused number ⌝ }
 {
     let e = no_entry();
     Listing {
@@ -55,7 +55,7 @@ pub fn refused(number: u16) -> Listing
 
 // The answer with everyone of the sequence, and one on the runway behind them.
 fn everyone(f: Field) -> Listing
-    ensures { λ r. ⌜ r ≡ listed (entriesOf f) ⌝ }
+    ensures { λ r. ⌜ r ≡ entriesListed (entriesOf f) ⌝ }
 {
     let s = f.sequence;
     let end = order_length(s);
@@ -99,11 +99,11 @@ pub fn list_of(x: Indexed) -> Listing
     ensures { λ r. ⌜ r ≡ listOf x ⌝ }
 {
     if !within_bounds_indexed(x) {
-        return refused(10);
+        return list_refused(10);
     }
     let f = x.field;
     if !in_dialect(f) {
-        return refused(29);
+        return list_refused(29);
     }
     everyone(f)
 }

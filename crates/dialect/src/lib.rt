@@ -5,7 +5,7 @@ pub mod coming;
 pub mod going;
 
 // One of the list: a number, its location (the zone's number), its place in the landing sequence from 1, 0 on the runway, and its fix.
-pub struct Entry {
+pub struct ListEntry {
     pub number: u16,
     pub location: u16,
     pub place: u16,
@@ -16,7 +16,7 @@ pub struct Entry {
 pub struct Listing {
     pub number: u16,
     pub count: usize,
-    pub entries: [Entry; 5],
+    pub entries: [ListEntry; 5],
 }
 
 // The answer of `field_of`: a number, 0 where it is not refused, and the field that was built, with its index.

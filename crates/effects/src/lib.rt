@@ -1,14 +1,14 @@
 // Document 01, "The requests": what each kind does to the field (rules' specs/Kinds.antt).
 use field::Aircraft;
 use field::Field;
-use field::boxes::arrived;
-use field::boxes::entering;
-use field::boxes::opposite;
-use field::boxes::order_length;
-use field::boxes::side_of;
-use field::boxes::turned_away;
-use field::boxes::with_fix;
-use field::boxes::zone_of;
+use field::airspace::arrived;
+use field::airspace::arrived_by_miss;
+use field::airspace::entering;
+use field::airspace::opposite;
+use field::airspace::order_length;
+use field::airspace::side_of;
+use field::airspace::with_fix;
+use field::airspace::zone_of;
 use field::edits::appended;
 use field::edits::removed;
 use field::edits::with_sequence;
@@ -32,7 +32,7 @@ use request::in_range;
 use tick::ticked;
 ghost use mathlib.Core.Path.{_≡_};
 ghost use mathlib.Core.Bool.{cond, _&&_};
-ghost use Rattle.field.specs.Boxes.{at2000, base};
+ghost use Rattle.field.specs.Airspace.{at2000, base};
 ghost use Rattle.rules.specs.Kinds.{mayApproach, baseFree, headGone, tailPut, moved, descended, outOfSequence, fixTaken, entered, madeRoom};
 ghost use Rattle.rules.specs.Kinds.{enteredAbove, approached, landed, exited, fixAfterMiss, missedApproach, held, shownTo, shownAt3000};
 ghost use Rattle.rules.specs.Step.{effectFor};
@@ -177,7 +177,7 @@ fn missed_approach(f: Field, r: Request) -> Field
     let zone = MISSED + a.fix as usize;
     let fix = fix_after_miss(f, a);
     let legs = f.legs;
-    let b = with_fix(turned_away(legs, zone, a), fix);
+    let b = with_fix(arrived_by_miss(legs, zone, a), fix);
     let g = tail_put(head_gone(f, FINAL), zone, b);
     let s = f.sequence;
     with_sequence(g, appended(removed(s, r.number), r.number), opposite(fix))

@@ -13,12 +13,12 @@ use Rattle.leg.specs.Progress.{withinLeg, flownOut, legalMissedLeg}
 use Rattle.leg.specs.Ticks.{Between, afterTicks}
 use Rattle.leg.specs.declared.Progress.{Progress}
 use Rattle.leg.specs.declared.Progress.the-variants.{Waiting, Flying}
-use Rattle.leg.proofs.Theorems.{arrival-in-8192}
+use Rattle.leg.proofs.ProgressLaws.{arrival-in-8192}
 use Rattle.field.specs.declared.Aircraft.{Aircraft}
 use Rattle.field.specs.declared.Field.{Field}
-use Rattle.field.specs.Boxes.{isFlyingZone, inZone, legFlownOut, zonesFrom, isSide, everywhere}
+use Rattle.field.specs.Airspace.{isFlyingZone, inZone, legFlownOut, zonesFrom, isSide, everywhere}
 use Rattle.field.specs.Lists.{every}
-use Rattle.field.proofs.Tests.{passed, if-true, every-from}
+use Rattle.field.proofs.TestLaws.{passed, if-true, every-from}
 use Rattle.bounds.specs.Bounds.{withinBounds}
 use Rattle.fits.specs.Fits.{isWaiting, fitsZone, legalLegs, boundG}
 use Rattle.tick.specs.Tick.{tickedAircraft, ticked}

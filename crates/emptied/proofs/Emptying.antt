@@ -14,12 +14,12 @@ use borrow.Author.Tests.{eq-eqb, eqb-true, eqb-false}
 use Rattle.limits.specs.Limits.{longestTick, mostMoves, mostTicks, mostPresses}
 use Rattle.request.specs.Input.{within, isEntry}
 use Rattle.request.specs.declared.Request.{Request}
-use Rattle.request.proofs.Tests.{within-low, within-high}
+use Rattle.request.proofs.InputTests.{within-low, within-high}
 use Rattle.field.specs.declared.Aircraft.{Aircraft}
 use Rattle.field.specs.declared.Legs.{Legs}
 use Rattle.field.specs.declared.Field.{Field}
-use Rattle.field.specs.Boxes.{emptyField}
-use Rattle.field.proofs.Tests.{decided, failed, zones-imply}
+use Rattle.field.specs.Airspace.{emptyField}
+use Rattle.field.proofs.TestLaws.{decided, failed, zones-imply}
 use Rattle.questions.specs.Counts.{presentOn}
 use Rattle.bounds.specs.Bounds.{withinBounds}
 use Rattle.fits.specs.Fits.{legalLegs}
@@ -32,7 +32,7 @@ use Rattle.rules.proofs.Refusals.{accepted-within}
 use Rattle.rules.proofs.StepLaws.{number-is, field-accepted}
 use Rattle.line.proofs.Line.{Placed, fieldOf}
 use Rattle.line.proofs.Orderly.{Orderly}
-use Rattle.line.proofs.Within.{within-bounds}
+use Rattle.line.proofs.LineWithin.{within-bounds}
 use Rattle.moves.proofs.After.{balance-all, After, leaves, weightOf}
 use Rattle.moves.proofs.Outcomes.{outcome}
 use Rattle.demand.specs.Demand.{allFlownOut, movesOn, MovesOn}
@@ -47,7 +47,7 @@ use Rattle.press.specs.HeldDown.{thenPressed, presses, heldRequests, heldOf}
 use Rattle.press.proofs.Proposals.{Proposed, proposed, proposal-is, tick-accepted, button-kind-moves}
 use Rattle.press.proofs.Pressing.{presses-none, presses-more, presses-play, presses-end, held-is}
 use Rattle.emptied.specs.Emptied.{Emptied}
-use Rattle.emptied.proofs.Moves.{pressed-on}
+use Rattle.emptied.proofs.OnePress.{pressed-on}
 use Rattle.emptied.proofs.Arriving.{FlownAfter, all-arrive, after-tick, all-flown}
 
 -- ---- a field that an orderly line stands for, with at most w moves left

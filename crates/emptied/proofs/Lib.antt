@@ -1,4 +1,4 @@
-pub mod Moves
+pub mod OnePress
 pub mod Arriving
 pub mod Spent
 pub mod Emptying

@@ -12,9 +12,9 @@ use Rattle.limits.specs.Limits.{mostPresses}
 use Rattle.request.specs.Input.{within}
 use Rattle.request.specs.declared.Request.{Request}
 use Rattle.field.specs.declared.Field.{Field}
-use Rattle.field.specs.Boxes.{everywhere}
+use Rattle.field.specs.Airspace.{everywhere}
 use Rattle.field.specs.Lists.{every}
-use Rattle.field.proofs.Tests.{failed, if-false, every-from}
+use Rattle.field.proofs.TestLaws.{failed, if-false, every-from}
 use Rattle.questions.specs.Counts.{presentOn}
 use Rattle.questions.specs.Find.{aircraftAt}
 use Rattle.rules.specs.Step.{stepOf}

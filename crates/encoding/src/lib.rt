@@ -13,12 +13,12 @@ use leg::Progress;
 use text::put_byte;
 use words::bits_of;
 use words::put_bits;
-use words::put_quad;
-use words::put_word;
+use words::put_number16;
+use words::put_number64;
 ghost use mathlib.Core.Path.{_≡_};
 ghost use Rattle.practice.specs.Practice.{bytes16};
 ghost use Rattle.text.specs.Buffer.{Put};
-ghost use Rattle.layout.specs.Written.{bytesOfEach, progressBits, aircraftBytes, zoneBytes, sequenceBytes, legsBytes, fieldBytes, entryBytes, indexedBytes, historyBytes, stateAfter};
+ghost use Rattle.layout.specs.Written.{bytesOfEach, progressBits, aircraftBytes, zoneBytes, sequenceBytes, legsBytes, fieldBytes, indexEntryBytes, indexedBytes, historyBytes, stateAfter};
 
 // The 64 bits of a progress: all of them set for one that waits.
 fn progress_bits(p: Progress) -> u64
@@ -35,11 +35,11 @@ fn put_aircraft(out: &mut [u8], at: usize, a: Aircraft) -> usize
     ensures { λ r. ⌜ Put (now (out .entry)) at (aircraftBytes a) (now (out .exit)) r ⌝ }
 {
     let p = a.progress;
-    let fix = put_word(out, at, a.number);
+    let fix = put_number16(out, at, a.number);
     let desk = put_byte(out, fix, a.fix);
     let speed = put_byte(out, desk, a.desk);
-    let progress = put_word(out, speed, a.speed);
-    let waited = put_quad(out, progress, progress_bits(p));
+    let progress = put_number16(out, speed, a.speed);
+    let waited = put_number64(out, progress, progress_bits(p));
     let leg = put_bits(out, waited, a.waited);
     put_bits(out, leg, a.leg)
 }
@@ -63,7 +63,7 @@ fn put_zone(out: &mut [u8], at: usize, z: Zone) -> usize
     ensures { λ r. ⌜ Put (now (out .entry)) at (zoneBytes z) (now (out .exit)) r ⌝ }
 {
     let end = put_queue(out, at, z);
-    put_quad(out, end, z.length as u64)
+    put_number64(out, end, z.length as u64)
 }
 
 // Puts the four numbers of the sequence.
@@ -74,7 +74,7 @@ fn put_numbers(out: &mut [u8], at: usize, s: Sequence) -> usize
     let mut i = 0;
     while i < 4 {
         let n = s.numbers[i];
-        end = put_word(out, end, n);
+        end = put_number16(out, end, n);
         i += 1;
     }
     end
@@ -85,7 +85,7 @@ fn put_sequence(out: &mut [u8], at: usize, s: Sequence) -> usize
     ensures { λ r. ⌜ Put (now (out .entry)) at (sequenceBytes s) (now (out .exit)) r ⌝ }
 {
     let end = put_numbers(out, at, s);
-    put_quad(out, end, s.length as u64)
+    put_number64(out, end, s.length as u64)
 }
 
 // Puts the legs.
@@ -124,16 +124,16 @@ fn put_field(out: &mut [u8], at: usize, f: Field) -> usize
 
 // Puts an entry of the index.
 fn put_entry(out: &mut [u8], at: usize, e: Entry) -> usize
-    ensures { λ r. ⌜ Put (now (out .entry)) at (entryBytes e) (now (out .exit)) r ⌝ }
+    ensures { λ r. ⌜ Put (now (out .entry)) at (indexEntryBytes e) (now (out .exit)) r ⌝ }
 {
-    let zone = put_word(out, at, e.number);
+    let zone = put_number16(out, at, e.number);
     let place = put_byte(out, zone, e.zone);
     put_byte(out, place, e.place)
 }
 
 // Puts the five entries of the index.
 fn put_index(out: &mut [u8], at: usize, index: Index) -> usize
-    ensures { λ r. ⌜ Put (now (out .entry)) at (bytesOfEach entryBytes (index .entries)) (now (out .exit)) r ⌝ }
+    ensures { λ r. ⌜ Put (now (out .entry)) at (bytesOfEach indexEntryBytes (index .entries)) (now (out .exit)) r ⌝ }
 {
     let mut end = at;
     let mut i = 0;
@@ -173,7 +173,7 @@ fn put_history(out: &mut [u8], at: usize, h: History) -> usize
 {
     let kept = put_indexed(out, at, h.now);
     let count = put_kept(out, kept, h);
-    put_quad(out, count, h.count as u64)
+    put_number64(out, count, h.count as u64)
 }
 
 // Writes the bytes of a history over the state.

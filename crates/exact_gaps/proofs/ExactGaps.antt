@@ -16,10 +16,10 @@ use Rattle.request.specs.declared.Request.{Request}
 use Rattle.field.specs.declared.Aircraft.{Aircraft}
 use Rattle.field.specs.declared.Legs.{Legs}
 use Rattle.field.specs.declared.Field.{Field}
-use Rattle.field.specs.Boxes.{everywhere, inZone, isSide, emptyField, orderOf}
+use Rattle.field.specs.Airspace.{everywhere, inZone, isSide, emptyField, orderOf}
 use Rattle.field.specs.Lists.{every, isIn, Each}
-use Rattle.field.proofs.Tests.{passed, pass, decided, if-true, either-way}
-use Rattle.field.proofs.Lists.{every-listed}
+use Rattle.field.proofs.TestLaws.{passed, pass, decided, if-true, either-way}
+use Rattle.field.proofs.NumberLists.{every-listed}
 use Rattle.questions.specs.Counts.{howMany}
 use Rattle.questions.specs.Find.{placeOf, aircraftAt, numbersIn}
 use Rattle.questions.proofs.FindLaws.{Found, found-exactly, found-there}
@@ -29,14 +29,14 @@ use Rattle.laws.proofs.BoundLaws.{within-each}
 use Rattle.laws.proofs.Fits.{fits-parts}
 use Rattle.rules.specs.Play.{played}
 use Rattle.line.proofs.Line.{fieldOf}
-use Rattle.line.proofs.Within.{within-bounds}
-use Rattle.demand.specs.Exact.{WholeLegs, inMiles, in64ths, noFlight, flightAfter, Account}
+use Rattle.line.proofs.LineWithin.{within-bounds}
+use Rattle.demand.specs.Exact.{WholeLegs, inMiles, zoneLegIn64ths, noFlight, flightAfter, Account}
 use Rattle.demand.proofs.Demand.{from-empty}
 use Rattle.demand.proofs.Flights.{legs-legal}
 use Rattle.demand.proofs.Exact.{exactness}
 use Rattle.gaps.specs.declared.Spacing.the-variants.{Close, Clear}
 use Rattle.gaps.specs.declared.Pair.{Pair}
-use Rattle.gaps.specs.Gaps.{toGo, wayOf, gapOf, spacingOf, pairOf, onApproach, between, pairsIn, legalSpacing, listed, refused, gapsOf}
+use Rattle.gaps.specs.Gaps.{toGo, wayOf, gapOf, spacingOf, pairOf, onApproach, between, pairsIn, legalSpacing, pairsListed, spacingRefused, gapsOf}
 use Rattle.exact_gaps.specs.ExactGaps.{ExactlySigned, following, wayFrom, reached, wayIn4096ths, gapIn, isClose, ExactPair, ExactGaps}
 use Rattle.exact_gaps.proofs.Signed.{signed-grid, under-spacing}
 use Rattle.exact_gaps.proofs.Ways.{each-at, every-at, way-exact}
@@ -50,7 +50,7 @@ way-small w z flown =
     let ff = w .final-fits in
     let inner = cond (eqb z 11) (w .intermediate-leg) (w .final-leg) in
     let outer = cond (eqb z 9 || eqb z 10) (w .base-leg) inner in
-    let leg : in64ths w z ≤ 4096 =
+    let leg : zoneLegIn64ths w z ≤ 4096 =
     either-way (λ (k : ℕ). k ≤ 4096) (eqb z 7 || eqb z 8) (w .missed-leg) outer (λ e. omega arith)
     (λ e. either-way (λ (k : ℕ). k ≤ 4096) (eqb z 9 || eqb z 10) (w .base-leg) inner (λ e. omega arith)
     (λ e. either-way (λ (k : ℕ). k ≤ 4096) (eqb z 11) (w .intermediate-leg) (w .final-leg) (λ e. omega arith) (λ e. omega arith))) in
@@ -130,7 +130,7 @@ module _ (w : WholeLegs) (rs : List Request) where
     unfolding wayOf wayIn4096ths
     way-is =
         let s = flightAfter w n noFlight (played (emptyField (inMiles w)) rs) in
-        subst (λ (l : Legs). Exactly (toGo l z (remaining (a .progress) (a .leg))) (wayFrom w z (min (64 * in64ths w z) (a .speed * s .ticks))))
+        subst (λ (l : Legs). Exactly (toGo l z (remaining (a .progress) (a .leg))) (wayFrom w z (min (64 * zoneLegIn64ths w z) (a .speed * s .ticks))))
         (sym legs-are) (way-exact w a s z low high own account)
 
   pub way-few : (n : ℕ) → wayIn4096ths w rs n < 2 ^ 53
@@ -170,8 +170,8 @@ module _ (w : WholeLegs) (rs : List Request) where
     unfolding gapsOf
     exact-gaps = record {
       accepted =
-          let all = listed (pairsIn f spacing (orderOf (f .sequence))) in
-          if-true (cond (withinBounds f) all (refused 10)) (refused 4) (passed {b = legalSpacing spacing} legal)
-          ∙ if-true all (refused 10) (passed {b = withinBounds f} reached-within);
+          let all = pairsListed (pairsIn f spacing (orderOf (f .sequence))) in
+          if-true (cond (withinBounds f) all (spacingRefused 10)) (spacingRefused 4) (passed {b = legalSpacing spacing} legal)
+          ∙ if-true all (spacingRefused 10) (passed {b = withinBounds f} reached-within);
       exact = pairs-exact (orderOf (f .sequence));
     }

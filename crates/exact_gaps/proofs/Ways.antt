@@ -16,11 +16,11 @@ use Rattle.leg.specs.declared.Progress.the-variants.{Waiting, Flying}
 use Rattle.leg.proofs.Grid.{sixtyFourths-exact}
 use Rattle.leg.proofs.Missed.{left-grid, ahead-grid}
 use Rattle.field.specs.declared.Aircraft.{Aircraft}
-use Rattle.field.specs.Boxes.{nobody, legOf, isFlyingZone}
+use Rattle.field.specs.Airspace.{nobody, legOf, isFlyingZone}
 use Rattle.field.specs.Lists.{every, Each}
-use Rattle.field.proofs.Tests.{each-from}
+use Rattle.field.proofs.TestLaws.{each-from}
 use Rattle.fits.specs.Fits.{legFits}
-use Rattle.demand.specs.Exact.{WholeLegs, inMiles, in64ths, Flight, Account}
+use Rattle.demand.specs.Exact.{WholeLegs, inMiles, zoneLegIn64ths, Flight, Account}
 use Rattle.gaps.specs.Gaps.{toGo}
 use Rattle.exact_gaps.specs.ExactGaps.{wayFrom}
 use Rattle.exact_gaps.proofs.Signed.{same-parts}
@@ -51,7 +51,7 @@ left-exact (Flying miles) leg k j n r e h f =
 -- ---- the way from a zone of the approach
 module _ (w : WholeLegs) (a : Aircraft) (s : Flight) where
   abbrev Way : ℕ → Type 0
-  Way z = T (legFits (inMiles w) z (a .leg)) → Account s z a → Exactly (toGo (inMiles w) z (remaining (a .progress) (a .leg))) (wayFrom w z (min (64 * in64ths w z) (a .speed * s .ticks)))
+  Way z = T (legFits (inMiles w) z (a .leg)) → Account s z a → Exactly (toGo (inMiles w) z (remaining (a .progress) (a .leg))) (wayFrom w z (min (64 * zoneLegIn64ths w z) (a .speed * s .ticks)))
 
   final-exact : Exactly (sixtyFourths (w .final-leg)) (64 * w .final-leg)
   final-exact = sixtyFourths-exact (w .final-leg) (let h = w .final-fits in omega arith)

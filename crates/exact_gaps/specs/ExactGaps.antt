@@ -10,15 +10,15 @@ use lib.Ieee.{Float}
 use lib.Ieee.Exact.{HasValue}
 use Rattle.request.specs.declared.Request.{Request}
 use Rattle.field.specs.declared.Field.{Field}
-use Rattle.field.specs.Boxes.{intermediate, finalApproach, orderOf, emptyField}
+use Rattle.field.specs.Airspace.{intermediate, finalApproach, orderOf, emptyField}
 use Rattle.field.specs.Lists.{Each}
 use Rattle.questions.specs.Find.{placeOf, aircraftAt}
 use Rattle.rules.specs.Play.{fieldAfter, played}
-use Rattle.demand.specs.Exact.{WholeLegs, inMiles, in64ths, noFlight, flightAfter}
+use Rattle.demand.specs.Exact.{WholeLegs, inMiles, zoneLegIn64ths, noFlight, flightAfter}
 use Rattle.gaps.specs.declared.Spacing.{Spacing}
 use Rattle.gaps.specs.declared.Spacing.the-variants.{Close, Clear}
 use Rattle.gaps.specs.declared.Pair.{Pair}
-use Rattle.gaps.specs.Gaps.{pairsIn, listed, gapsOf}
+use Rattle.gaps.specs.Gaps.{pairsIn, pairsListed, gapsOf}
 
 -- the miles are exactly so many 4096ths, an integer of either sign
 abbrev pub ExactlySigned : Float → ℤ → Type 0
@@ -31,7 +31,7 @@ following w z = cond (eqb z finalApproach) 0 (cond (eqb z intermediate) (64 * w 
 
 -- the way to the threshold from zone z of the approach with so much of its leg flown, all in 4096ths
 abbrev pub wayFrom : WholeLegs → ℕ → ℕ → ℕ
-wayFrom w z flown = 64 * in64ths w z - flown + following w z
+wayFrom w z flown = 64 * zoneLegIn64ths w z - flown + following w z
 
 -- the field after a list of requests from the empty one with these legs
 abbrev pub reached : WholeLegs → List Request → Field
@@ -43,7 +43,7 @@ wayIn4096ths w rs number =
     let at = placeOf (reached w rs) number in
     let a = aircraftAt (reached w rs) (at .zone) (at .place) in
     let s = flightAfter w number noFlight (played (emptyField (inMiles w)) rs) in
-    wayFrom w (at .zone) (min (64 * in64ths w (at .zone)) (a .speed * s .ticks))
+    wayFrom w (at .zone) (min (64 * zoneLegIn64ths w (at .zone)) (a .speed * s .ticks))
 
 -- the gap that an answer carries
 abbrev pub gapIn : Spacing → Float
@@ -64,5 +64,5 @@ pub record ExactPair (w : WholeLegs) (rs : List Request) (spacing : ℕ) (p : Pa
 
 -- what holds of a legal spacing on that field: it is not refused, and each pair is exact
 pub record ExactGaps (w : WholeLegs) (rs : List Request) (spacing : ℕ) : Type 0 where
-  pub accepted : gapsOf (reached w rs) spacing ≡ listed (pairsIn (reached w rs) spacing (orderOf (reached w rs .sequence)))
+  pub accepted : gapsOf (reached w rs) spacing ≡ pairsListed (pairsIn (reached w rs) spacing (orderOf (reached w rs .sequence)))
   pub exact : Each (ExactPair w rs spacing) (pairsIn (reached w rs) spacing (orderOf (reached w rs .sequence)))

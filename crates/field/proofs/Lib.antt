@@ -1,7 +1,7 @@
-pub mod Tests
-pub mod Lists
+pub mod TestLaws
+pub mod NumberLists
 pub mod Arrays
-pub mod Parts
-pub mod Known
+pub mod TestParts
+pub mod FieldKnown
 pub mod Shapes
-pub mod Arrival
+pub mod ArrivalLaws

@@ -14,8 +14,8 @@ use Rattle.field.specs.declared.Aircraft.{Aircraft}
 use Rattle.field.specs.declared.Zone.{Zone}
 use Rattle.field.specs.declared.Sequence.{Sequence}
 use Rattle.field.specs.declared.Field.{Field}
-use Rattle.field.specs.Boxes.{emptyZone, zoneOf, queueOf, inZone, orderOf}
-use Rattle.field.proofs.Known.{FieldKnown}
+use Rattle.field.specs.Airspace.{emptyZone, zoneOf, queueOf, inZone, orderOf}
+use Rattle.field.proofs.FieldKnown.{FieldKnown}
 
 module _ {ℓ} {A : Type ℓ} where
   -- within the length no default matters

@@ -8,7 +8,7 @@ use Rattle.field.specs.declared.Aircraft.{Aircraft}
 use Rattle.field.specs.declared.Zone.{Zone}
 use Rattle.field.specs.declared.Sequence.{Sequence}
 use Rattle.field.specs.declared.Field.{Field}
-use Rattle.field.specs.Boxes.{nobody, orderOf}
+use Rattle.field.specs.Airspace.{nobody, orderOf}
 
 -- ---- a queue
 

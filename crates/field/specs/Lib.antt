@@ -1,3 +1,3 @@
 pub mod Lists
-pub mod Boxes
+pub mod Airspace
 pub mod Edits

@@ -3,14 +3,14 @@ use crate::Aircraft;
 use crate::Field;
 use crate::Sequence;
 use crate::Zone;
-use crate::boxes::nobody;
-use crate::boxes::order_length;
+use crate::airspace::nobody;
+use crate::airspace::order_length;
 use crate::zones::RUNWAY;
 ghost use mathlib.Core.Path.{_≡_};
 ghost use mathlib.Core.List.{[], _∷_, _++_};
 ghost use Prim.Native.Nat.{suc, _<_};
 ghost use lib.ListN.{take, drop};
-ghost use Rattle.field.specs.Boxes.{orderOf};
+ghost use Rattle.field.specs.Airspace.{orderOf};
 ghost use Rattle.field.specs.Edits.{withoutHead, withTail, appended, before, removed, withZone, withSequence};
 
 // The zone with its head taken off; an empty one as it is.

@@ -1,7 +1,7 @@
 // The landing field: thirteen zones, the landing sequence, the next fix and the legs, by value.
 use leg::Progress;
 
-pub mod boxes;
+pub mod airspace;
 pub mod edits;
 pub mod zones;
 

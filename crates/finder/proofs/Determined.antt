@@ -10,18 +10,18 @@ use lib.Dec.{T, eqb, ltb}
 use lib.ListN.{length, replicate}
 use Rattle.field.specs.declared.Aircraft.{Aircraft}
 use Rattle.field.specs.declared.Field.{Field}
-use Rattle.field.specs.Boxes.{zonesFrom, everywhere, inZone}
-use Rattle.field.proofs.Tests.{if-true, if-false, either-way, same}
+use Rattle.field.specs.Airspace.{zonesFrom, everywhere, inZone}
+use Rattle.field.proofs.TestLaws.{if-true, if-false, either-way, same}
 use Rattle.questions.specs.declared.Place.{Place}
 use Rattle.questions.specs.Find.{nowhere, placeOf}
 use Rattle.bounds.specs.Bounds.{withinBounds}
 use Rattle.finder.specs.declared.Entry.{Entry}
 use Rattle.finder.specs.declared.Index.{Index}
-use Rattle.finder.specs.Finder.{unused, isBefore, firstOf, secondOf, put, putEach, entriesFrom, indexOf, Unused, InOrder, foundAmong, foundIn}
+use Rattle.finder.specs.Finder.{unused, isBefore, firstOf, secondOf, putAmong, putEach, entriesFrom, indexOf, Unused, InOrder, foundAmong, foundIn}
 use Rattle.finder.proofs.Putting.{put-length}
 use Rattle.finder.proofs.Ordered.{unused-ordered, index-in-order}
 use Rattle.finder.proofs.Walk.{standingIn, index-walked}
-use Rattle.finder.proofs.Theorems.{found-as-looked}
+use Rattle.finder.proofs.IndexLaws.{found-as-looked}
 
 -- ---- entries that have a zone
 
@@ -35,7 +35,7 @@ HaveZones [] = Unit {0}
 HaveZones (e ∷ es) = HasZone e × HaveZones es
 
 -- with one more put among them each used one has a zone
-pub put-zoned : (e : Entry) → HasZone e → (es : List Entry) → HaveZones es → HaveZones (put e es)
+pub put-zoned : (e : Entry) → HasZone e → (es : List Entry) → HaveZones es → HaveZones (putAmong e es)
 unfolding firstOf secondOf
 put-zoned e h [] hs = tt
 put-zoned e h (x ∷ xs) hs = (
@@ -46,7 +46,7 @@ put-zoned e h (x ∷ xs) hs = (
 
 each-zoned : (xs es : List Entry) → HaveZones xs → HaveZones es → HaveZones (putEach xs es)
 each-zoned [] es hs gs = gs
-each-zoned (x ∷ xs) es hs gs = each-zoned xs (put x es) (hs .1) (put-zoned x (hs .0) es gs)
+each-zoned (x ∷ xs) es hs gs = each-zoned xs (putAmong x es) (hs .1) (put-zoned x (hs .0) es gs)
 
 both-zoned : (xs ys : List Entry) → HaveZones xs → HaveZones ys → HaveZones (xs ++ ys)
 both-zoned [] ys hs gs = gs
@@ -154,7 +154,7 @@ order-determines k (e ∷ es) (g ∷ gs) l (inr o) (inr p) y z h =
 
 each-length : (xs es : List Entry) → length (putEach xs es) ≡ length es
 each-length [] es = refl
-each-length (x ∷ xs) es = each-length xs (put x es) ∙ put-length x es
+each-length (x ∷ xs) es = each-length xs (putAmong x es) ∙ put-length x es
 
 -- The index of any field has five places.
 pub index-length : (f : Field) → length (indexOf f .entries) ≡ 5

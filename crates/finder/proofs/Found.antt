@@ -10,11 +10,11 @@ use lib.Dec.{eqb, ltb}
 use lib.ListN.{length}
 use Rattle.field.specs.declared.Field.{Field}
 use Rattle.field.specs.Lists.{isIn}
-use Rattle.field.proofs.Tests.{if-true, if-false}
+use Rattle.field.proofs.TestLaws.{if-true, if-false}
 use Rattle.questions.specs.declared.Place.{Place}
 use Rattle.questions.specs.Find.{placeOf}
 use Rattle.finder.specs.declared.Entry.{Entry}
-use Rattle.finder.specs.Finder.{unused, entryOf, isBefore, firstOf, secondOf, put, putEach, foundAmong}
+use Rattle.finder.specs.Finder.{unused, entryOf, isBefore, firstOf, secondOf, putAmong, putEach, foundAmong}
 
 -- ---- two entries
 
@@ -32,60 +32,60 @@ before-used a b h g =
     ∙ ap (λ (t : Bool). t || ltb (a .number) (b .number)) (ne-eqb (b .number) 0 g)
 
 -- one that stands before another is put there, and the other goes on; ..
-pub put-before : (e x : Entry) (xs : List Entry) → isBefore e x ≡ true → put e (x ∷ xs) ≡ e ∷ put x xs
+pub put-before : (e x : Entry) (xs : List Entry) → isBefore e x ≡ true → putAmong e (x ∷ xs) ≡ e ∷ putAmong x xs
 unfolding firstOf secondOf
-put-before e x xs h = ap (λ (t : Bool). cond t e x ∷ put (cond t x (cond (eqb (e .number) (x .number)) unused e)) xs) h
+put-before e x xs h = ap (λ (t : Bool). cond t e x ∷ putAmong (cond t x (cond (eqb (e .number) (x .number)) unused e)) xs) h
 
 -- .. one that stands behind it goes on itself; ..
-put-behind : (e x : Entry) (xs : List Entry) → isBefore e x ≡ false → e .number ≢ x .number → put e (x ∷ xs) ≡ x ∷ put e xs
+put-behind : (e x : Entry) (xs : List Entry) → isBefore e x ≡ false → e .number ≢ x .number → putAmong e (x ∷ xs) ≡ x ∷ putAmong e xs
 unfolding firstOf secondOf
 put-behind e x xs h g =
-    ap (λ (t : Bool). cond t e x ∷ put (cond t x (cond (eqb (e .number) (x .number)) unused e)) xs) h
-    ∙ ap (λ (t : Bool). x ∷ put (cond t unused e) xs) (ne-eqb (e .number) (x .number) g)
+    ap (λ (t : Bool). cond t e x ∷ putAmong (cond t x (cond (eqb (e .number) (x .number)) unused e)) xs) h
+    ∙ ap (λ (t : Bool). x ∷ putAmong (cond t unused e) xs) (ne-eqb (e .number) (x .number) g)
 
 -- .. nothing goes on behind one with the same number, ..
-put-same : (e x : Entry) (xs : List Entry) → isBefore e x ≡ false → e .number ≡ x .number → put e (x ∷ xs) ≡ x ∷ put unused xs
+put-same : (e x : Entry) (xs : List Entry) → isBefore e x ≡ false → e .number ≡ x .number → putAmong e (x ∷ xs) ≡ x ∷ putAmong unused xs
 unfolding firstOf secondOf
 put-same e x xs h g =
-    ap (λ (t : Bool). cond t e x ∷ put (cond t x (cond (eqb (e .number) (x .number)) unused e)) xs) h
-    ∙ ap (λ (t : Bool). x ∷ put (cond t unused e) xs) (eq-eqb (e .number) (x .number) g)
+    ap (λ (t : Bool). cond t e x ∷ putAmong (cond t x (cond (eqb (e .number) (x .number)) unused e)) xs) h
+    ∙ ap (λ (t : Bool). x ∷ putAmong (cond t unused e) xs) (eq-eqb (e .number) (x .number) g)
 
 -- .. and an unused one changes nothing
-pub put-unused : (xs : List Entry) → put unused xs ≡ xs
+pub put-unused : (xs : List Entry) → putAmong unused xs ≡ xs
 unfolding firstOf secondOf isBefore
 put-unused [] = refl
 put-unused (x ∷ xs) = go (eqb 0 (x .number)) (put-unused xs)
   where
-    go : (b : Bool) → put unused xs ≡ xs → _≡_ {A = List Entry} (x ∷ put (cond b unused unused) xs) (x ∷ xs)
+    go : (b : Bool) → putAmong unused xs ≡ xs → _≡_ {A = List Entry} (x ∷ putAmong (cond b unused unused) xs) (x ∷ xs)
     go true e = ap (λ (l : List Entry). x ∷ l) e
     go false e = ap (λ (l : List Entry). x ∷ l) e
 
 -- nor does another of number 0
-pub put-zero : (e : Entry) → e .number ≡ 0 → (xs : List Entry) → put e xs ≡ xs
+pub put-zero : (e : Entry) → e .number ≡ 0 → (xs : List Entry) → putAmong e xs ≡ xs
 unfolding firstOf secondOf isBefore
 put-zero e z [] = refl
 put-zero e z (x ∷ xs) =
     ap (λ (t : Bool).
     let b = not t && (eqb (x .number) 0 || ltb (e .number) (x .number)) in
-    cond b e x ∷ put (cond b x (cond (eqb (e .number) (x .number)) unused e)) xs) (eq-eqb (e .number) 0 z)
+    cond b e x ∷ putAmong (cond b x (cond (eqb (e .number) (x .number)) unused e)) xs) (eq-eqb (e .number) 0 z)
     ∙ go (eqb (e .number) (x .number)) (put-zero e z xs)
   where
-    go : (b : Bool) → put e xs ≡ xs → _≡_ {A = List Entry} (x ∷ put (cond b unused e) xs) (x ∷ xs)
+    go : (b : Bool) → putAmong e xs ≡ xs → _≡_ {A = List Entry} (x ∷ putAmong (cond b unused e) xs) (x ∷ xs)
     go true h = ap (λ (l : List Entry). x ∷ l) (put-unused xs)
     go false h = ap (λ (l : List Entry). x ∷ l) h
 
 -- a used entry put among entries with a used one first: it stands before that one, has its number, or goes on behind it
 pub put-by : (P : List Entry → Type 0) (e x : Entry) (xs : List Entry) → e .number ≢ 0 → x .number ≢ 0
-    → (e .number < x .number → P (e ∷ put x xs))
+    → (e .number < x .number → P (e ∷ putAmong x xs))
     → (e .number ≡ x .number → P (x ∷ xs))
-    → (x .number < e .number → P (x ∷ put e xs))
-    → P (put e (x ∷ xs))
+    → (x .number < e .number → P (x ∷ putAmong e xs))
+    → P (putAmong e (x ∷ xs))
 put-by P e x xs h g less alike more = go (ltb (e .number) (x .number)) (eqb (e .number) (x .number)) refl refl
   where
     used : isBefore e x ≡ ltb (e .number) (x .number)
     used = before-used e x h g
 
-    go : (b c : Bool) → ltb (e .number) (x .number) ≡ b → eqb (e .number) (x .number) ≡ c → P (put e (x ∷ xs))
+    go : (b c : Bool) → ltb (e .number) (x .number) ≡ b → eqb (e .number) (x .number) ≡ c → P (putAmong e (x ∷ xs))
     go true c s t = subst P (sym (put-before e x xs (used ∙ s))) (less (ltb-true (e .number) (x .number) s))
     go false true s t =
         let equal = eqb-true (e .number) (x .number) t in
@@ -184,24 +184,24 @@ module _ (f : Field) where
       swapped n false c s t = refl
 
   -- An entry of the field put among such entries, where a place is unused.
-  pub put-more : (e : Entry) → Own f e → (es : List Entry) → Owns f es → 1 ≤ free es → More f e es (put e es)
+  pub put-more : (e : Entry) → Own f e → (es : List Entry) → Owns f es → 1 ≤ free es → More f e es (putAmong e es)
   put-more e o [] os room = absurd (omega arith)
   put-more e o (x ∷ xs) os room = go (os .0) (put-more e o xs (os .1)) (λ p. put-more x p xs (os .1))
     where
       used : Own f x → 1 ≤ free xs
       used p = let no = if-false {A = ℕ} 1 0 (ne-eqb (x .number) 0 (p .nonzero)) in omega (arith, no, room)
 
-      go : (x ≡ unused) ⊎ Own f x → (1 ≤ free xs → More f e xs (put e xs)) → ((p : Own f x) → 1 ≤ free xs → More f x xs (put x xs))
-          → More f e (x ∷ xs) (put e (x ∷ xs))
+      go : (x ≡ unused) ⊎ Own f x → (1 ≤ free xs → More f e xs (putAmong e xs)) → ((p : Own f x) → 1 ≤ free xs → More f x xs (putAmong x xs))
+          → More f e (x ∷ xs) (putAmong e (x ∷ xs))
       go (inl z) later other =
           let made = put-before e unused xs (before-unused e unused (o .nonzero) refl) ∙ ap (λ (l : List Entry). e ∷ l) (put-unused xs) in
-          subst (λ (y : Entry). More f e (y ∷ xs) (put e (y ∷ xs))) (sym z)
+          subst (λ (y : Entry). More f e (y ∷ xs) (putAmong e (y ∷ xs))) (sym z)
           (subst (More f e (unused ∷ xs)) (sym made) (at-unused e o xs (os .1)))
       go (inr p) later other =
           put-by (More f e (x ∷ xs)) e x xs (o .nonzero) (p .nonzero)
-          (λ g. at-before e x o p xs (put x xs) (other p (used p)))
+          (λ g. at-before e x o p xs (putAmong x xs) (other p (used p)))
           (λ g. at-same e x o p g xs (os .1))
-          (λ g. at-behind e x p (λ t. omega (arith, g, t)) xs (put e xs) (later (used p)))
+          (λ g. at-behind e x p (λ t. omega (arith, g, t)) xs (putAmong e xs) (later (used p)))
 
   -- ---- all numbers of a list
 
@@ -222,7 +222,7 @@ module _ (f : Field) where
   all-found (m ∷ ns) z es os room n h =
       let more = put-more (entryOf f m) (entry-own m (z .0)) es os (omega arith) in
       let left = more .room in
-      all-found ns (z .1) (put (entryOf f m) es) (more .owns) (omega (arith, left)) n h
+      all-found ns (z .1) (putAmong (entryOf f m) es) (more .owns) (omega (arith, left)) n h
       ∙ ap (cond (isIn n ns) (placeOf f n)) (more .finds n h)
       ∙ joined (eqb m n) (isIn n ns) refl
     where
@@ -238,5 +238,5 @@ module _ (f : Field) where
   all-room (m ∷ ns) z es os room =
       let more = put-more (entryOf f m) (entry-own m (z .0)) es os (omega arith) in
       let left = more .room in
-      let rest = all-room ns (z .1) (put (entryOf f m) es) (more .owns) (omega (arith, left)) in
+      let rest = all-room ns (z .1) (putAmong (entryOf f m) es) (more .owns) (omega (arith, left)) in
       omega (arith, left, rest)

@@ -1,8 +1,8 @@
-pub mod Known
+pub mod IndexKnown
 pub mod Found
 pub mod Putting
 pub mod Ordered
 pub mod Settled
 pub mod Walk
-pub mod Theorems
+pub mod IndexLaws
 pub mod Determined

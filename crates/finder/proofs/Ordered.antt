@@ -6,10 +6,10 @@ use Prim.Native.Nat.{ℕ, zero, suc, _≤_, _<_}
 use native.Mathlib.Omega.{arith}
 use lib.ListN.{replicate}
 use Rattle.field.specs.declared.Field.{Field}
-use Rattle.field.specs.Boxes.{everywhere}
+use Rattle.field.specs.Airspace.{everywhere}
 use Rattle.questions.specs.Find.{numbersIn}
 use Rattle.finder.specs.declared.Entry.{Entry}
-use Rattle.finder.specs.Finder.{unused, entryOf, put, putEach, indexOf, Unused, InOrder}
+use Rattle.finder.specs.Finder.{unused, entryOf, putAmong, putEach, indexOf, Unused, InOrder}
 use Rattle.finder.proofs.Found.{before-unused, put-before, put-zero, put-by}
 
 -- unused places are in order
@@ -24,7 +24,7 @@ lower j k h (e ∷ es) (inl u) = inl u
 lower j k h (e ∷ es) (inr p) = let above = p .0 in inr (omega (arith, above), p .1)
 
 -- an entry put among entries in order
-pub put-ordered : (k : ℕ) (e : Entry) → k < e .number → (es : List Entry) → InOrder k es → InOrder k (put e es)
+pub put-ordered : (k : ℕ) (e : Entry) → k < e .number → (es : List Entry) → InOrder k es → InOrder k (putAmong e es)
 put-ordered k e h [] o = tt
 put-ordered k e h (x ∷ xs) (inl u) =
     let none : x .number ≡ 0 = ap (λ (y : Entry). y .number) (u .0) in
@@ -40,8 +40,8 @@ put-ordered k e h (x ∷ xs) (inr p) =
 all-ordered : (f : Field) (ns : List ℕ) (es : List Entry) → InOrder 0 es → InOrder 0 (putEach (map (entryOf f) ns) es)
 unfolding entryOf
 all-ordered f [] es o = o
-all-ordered f (zero ∷ ns) es o = all-ordered f ns (put (entryOf f 0) es) (subst (InOrder 0) (sym (put-zero (entryOf f 0) refl es)) o)
-all-ordered f (suc n ∷ ns) es o = all-ordered f ns (put (entryOf f (suc n)) es) (put-ordered 0 (entryOf f (suc n)) (omega arith) es o)
+all-ordered f (zero ∷ ns) es o = all-ordered f ns (putAmong (entryOf f 0) es) (subst (InOrder 0) (sym (put-zero (entryOf f 0) refl es)) o)
+all-ordered f (suc n ∷ ns) es o = all-ordered f ns (putAmong (entryOf f (suc n)) es) (put-ordered 0 (entryOf f (suc n)) (omega arith) es o)
 
 -- The index of any field is in order of number, each number once and none of them 0, and its unused places stand last and are all zero.
 pub index-in-order : (f : Field) → InOrder 0 (indexOf f .entries)

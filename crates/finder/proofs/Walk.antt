@@ -11,13 +11,13 @@ use lib.Dec.{eqb}
 use lib.ListN.{replicate}
 use Rattle.field.specs.declared.Aircraft.{Aircraft}
 use Rattle.field.specs.declared.Field.{Field}
-use Rattle.field.specs.Boxes.{zonesFrom, everywhere, inZone}
-use Rattle.field.proofs.Tests.{if-true, if-false, same}
+use Rattle.field.specs.Airspace.{zonesFrom, everywhere, inZone}
+use Rattle.field.proofs.TestLaws.{if-true, if-false, same}
 use Rattle.questions.specs.declared.Place.{Place}
 use Rattle.questions.specs.Find.{numbersIn, placeFrom, findIn, placeOf}
-use Rattle.questions.proofs.Listed.{numberOf}
+use Rattle.questions.proofs.NumbersListed.{numberOf}
 use Rattle.finder.specs.declared.Entry.{Entry}
-use Rattle.finder.specs.Finder.{unused, entryOf, put, putEach, entriesFrom, indexOf, foundAmong}
+use Rattle.finder.specs.Finder.{unused, entryOf, putAmong, putEach, entriesFrom, indexOf, foundAmong}
 use Rattle.finder.proofs.Putting.{put-after}
 use Rattle.finder.proofs.Found.{put-zero}
 use Rattle.finder.proofs.Settled.{Settled, settled-alike, settled-put, settled-stays}
@@ -74,14 +74,14 @@ entryAt n p = record { number = n; zone = p .zone; place = p .place }
 -- where each number is settled, or g says of it what the first of the rest says
 module _ (g : ℕ → Entry) (own : (n : ℕ) → g n .number ≡ n) where
   put-first : (e : Entry) (ws es : List Entry) → (e .number ≢ 0 → Settled (e .number) es ⊎ (g (e .number) ≡ entryAt (e .number) (foundAmong (e .number) (e ∷ ws))))
-      → put e es ≡ put (g (e .number)) es
+      → putAmong e es ≡ putAmong (g (e .number)) es
   put-first e ws es h = go (eqb (e .number) 0) refl
     where
-      used : Settled (e .number) es ⊎ (g (e .number) ≡ entryAt (e .number) (foundAmong (e .number) (e ∷ ws))) → e .number ≢ 0 → put e es ≡ put (g (e .number)) es
+      used : Settled (e .number) es ⊎ (g (e .number) ≡ entryAt (e .number) (foundAmong (e .number) (e ∷ ws))) → e .number ≢ 0 → putAmong e es ≡ putAmong (g (e .number)) es
       used (inl s) u = settled-alike (e .number) u e (g (e .number)) refl (own (e .number)) es s
-      used (inr s) u = ap (λ (x : Entry). put x es) (sym (s ∙ ap (entryAt (e .number)) (if-true _ _ (same (e .number)))))
+      used (inr s) u = ap (λ (x : Entry). putAmong x es) (sym (s ∙ ap (entryAt (e .number)) (if-true _ _ (same (e .number)))))
 
-      go : (b : Bool) → eqb (e .number) 0 ≡ b → put e es ≡ put (g (e .number)) es
+      go : (b : Bool) → eqb (e .number) 0 ≡ b → putAmong e es ≡ putAmong (g (e .number)) es
       go true t =
           let z = eqb-true (e .number) 0 t in
           put-zero e z es ∙ sym (put-zero (g (e .number)) (own (e .number) ∙ z) es)
@@ -90,11 +90,11 @@ module _ (g : ℕ → Entry) (own : (n : ℕ) → g n .number ≡ n) where
   put-standing : (ws es : List Entry) → ((n : ℕ) → n ≢ 0 → Settled n es ⊎ (g n ≡ entryAt n (foundAmong n ws))) → putEach ws es ≡ putEach (map g (map numberIn ws)) es
   put-standing [] es h = refl
   put-standing (e ∷ ws) es h =
-      put-standing ws (put e es) (λ n u. later n u (h n u) (eqb (e .number) n) refl)
+      put-standing ws (putAmong e es) (λ n u. later n u (h n u) (eqb (e .number) n) refl)
       ∙ ap (putEach (map g (map numberIn ws))) (put-first e ws es (h (e .number)))
     where
       later : (n : ℕ) → n ≢ 0 → Settled n es ⊎ (g n ≡ entryAt n (foundAmong n (e ∷ ws))) → (b : Bool) → eqb (e .number) n ≡ b
-          → Settled n (put e es) ⊎ (g n ≡ entryAt n (foundAmong n ws))
+          → Settled n (putAmong e es) ⊎ (g n ≡ entryAt n (foundAmong n ws))
       later n u (inl s) b t = inl (settled-stays n u e es s)
       later n u (inr s) true t = inl (settled-put n u e (eqb-true (e .number) n t) es)
       later n u (inr s) false t = inr (s ∙ ap (entryAt n) (if-false _ _ t))

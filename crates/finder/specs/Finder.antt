@@ -8,7 +8,7 @@ use lib.Dec.{eqb, ltb}
 use lib.ListN.{replicate}
 use Rattle.field.specs.declared.Aircraft.{Aircraft}
 use Rattle.field.specs.declared.Field.{Field}
-use Rattle.field.specs.Boxes.{everywhere}
+use Rattle.field.specs.Airspace.{everywhere}
 use Rattle.questions.specs.declared.Place.{Place}
 use Rattle.questions.specs.Find.{nowhere, placeOf, numbersIn}
 use Rattle.bounds.specs.Bounds.{withinBounds}
@@ -39,14 +39,14 @@ unfoldable pub secondOf : Entry → Entry → Entry
 secondOf a b = cond (isBefore a b) b (cond (eqb (a .number) (b .number)) unused a)
 
 -- an entry put among entries in order; where all places are used the highest number is left out
-abbrev pub put : Entry → List Entry → List Entry
-put e [] = []
-put e (x ∷ xs) = firstOf e x ∷ put (secondOf e x) xs
+abbrev pub putAmong : Entry → List Entry → List Entry
+putAmong e [] = []
+putAmong e (x ∷ xs) = firstOf e x ∷ putAmong (secondOf e x) xs
 
 -- entries put among entries in order, one after the other
 abbrev pub putEach : List Entry → List Entry → List Entry
 putEach [] es = es
-putEach (e ∷ more) es = putEach more (put e es)
+putEach (e ∷ more) es = putEach more (putAmong e es)
 
 -- the index of a field: all numbers of the thirteen zones, each with its zone and place, put among five unused places. Out of the bounds a number that
 -- stands twice is in it once, 0 is left out, and of more than five numbers the five lowest are in it

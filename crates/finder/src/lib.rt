@@ -2,12 +2,12 @@
 use bounds::within_bounds;
 use field::Field;
 use field::Zone;
-use field::boxes::queue_length;
+use field::airspace::queue_length;
 use field::zones::RUNWAY;
 use questions::Place;
 ghost use mathlib.Core.Path.{_≡_};
-ghost use Rattle.field.specs.Boxes.{queueOf};
-ghost use Rattle.finder.specs.Finder.{isBefore, firstOf, secondOf, put, putEach, entriesFrom, indexOf, foundIn, sameEntry, sameIndex, withinBoundsIndexed};
+ghost use Rattle.field.specs.Airspace.{queueOf};
+ghost use Rattle.finder.specs.Finder.{isBefore, firstOf, secondOf, putAmong, putEach, entriesFrom, indexOf, foundIn, sameEntry, sameIndex, withinBoundsIndexed};
 
 // One place of the index: a number, its zone, and its place in the zone's queue from 1. An unused place is all zero.
 pub struct Entry {
@@ -69,7 +69,7 @@ fn second_of(a: Entry, b: Entry) -> Entry
 
 // The index with an entry put among its own.
 pub fn with_entry(index: Index, e: Entry) -> Index
-    ensures { λ r. ⌜ r .entries ≡ put e (index .entries) ⌝ }
+    ensures { λ r. ⌜ r .entries ≡ putAmong e (index .entries) ⌝ }
 {
     let mut entries = index.entries;
     let mut moved = e;

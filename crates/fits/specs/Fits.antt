@@ -11,7 +11,7 @@ use Rattle.leg.specs.declared.Progress.the-variants.{Waiting, Flying}
 use Rattle.field.specs.declared.Aircraft.{Aircraft}
 use Rattle.field.specs.declared.Legs.{Legs}
 use Rattle.field.specs.declared.Field.{Field}
-use Rattle.field.specs.Boxes.{right, left, isSide, missed, everywhere, isFlyingZone, inZone, legOf}
+use Rattle.field.specs.Airspace.{right, left, isSide, missed, everywhere, isFlyingZone, inZone, legOf}
 use Rattle.field.specs.Lists.{every}
 
 -- whether a progress is that of one who waits

@@ -1,4 +1,4 @@
--- The pairs of a field as the loop of `listed` finds them, one neighbour after the other, in an array of three places. Assumes nothing.
+-- The pairs of a field as the loop of `pairs_listed` finds them, one neighbour after the other, in an array of three places. Assumes nothing.
 use mathlib.Core.Path.{_≡_, refl, sym, ap, _∙_}
 use mathlib.Core.Bool.{Bool, true, false, cond, _&&_}
 use mathlib.Core.List.{List, [], _∷_, _++_, append-assoc, append-nil}
@@ -8,11 +8,11 @@ use lib.ListN.{length, getD, drop, set, replicate, length-append, length-drop}
 use lib.Seq.{set-at, append-snoc}
 use Rattle.field.specs.declared.Field.{Field}
 use Rattle.field.specs.declared.Sequence.{Sequence}
-use Rattle.field.specs.Boxes.{orderOf}
+use Rattle.field.specs.Airspace.{orderOf}
 use Rattle.field.proofs.Shapes.{order-next}
 use Rattle.gaps.specs.declared.Pair.{Pair}
 use Rattle.gaps.specs.declared.Spacings.{Spacings}
-use Rattle.gaps.specs.Gaps.{onApproach, pairOf, between, pairsIn, noPair, listed}
+use Rattle.gaps.specs.Gaps.{onApproach, pairOf, between, pairsIn, noPair, pairsListed}
 
 -- the three places, of which the first hold these pairs
 abbrev pub held : List Pair → List Pair
@@ -97,9 +97,9 @@ module _ (f : Field) (spacing : ℕ) where
 
   -- past the last neighbour
   pub found-all : (s : Sequence) (i : ℕ) {pairs : List Pair} {count : ℕ} → length (orderOf s) ≤ i → Found s pairs count i
-      → _≡_ {A = Spacings} (record { number = 0; count = count; pairs = pairs }) (listed (pairsIn f spacing (orderOf s)))
-  unfolding listed
+      → _≡_ {A = Spacings} (record { number = 0; count = count; pairs = pairs }) (pairsListed (pairsIn f spacing (orderOf s)))
+  unfolding pairsListed
   found-all s i h p =
       let short : length (drop (i - 1) (orderOf s)) ≤ 1 = omega (arith, length-drop (i - 1) (orderOf s)) in
       let all : p .found ≡ pairsIn f spacing (orderOf s) = sym (append-nil (p .found)) ∙ ap (λ (r : List Pair). p .found ++ r) (sym (alone (drop (i - 1) (orderOf s)) short)) ∙ p .rest in
-      (λ t. record { number = 0; count = p .counted t; pairs = p .array t }) ∙ ap listed all
+      (λ t. record { number = 0; count = p .counted t; pairs = p .array t }) ∙ ap pairsListed all

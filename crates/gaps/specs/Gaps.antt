@@ -8,7 +8,7 @@ use lib.Ieee.{Float, binary64, add, sub, lt}
 use Rattle.leg.specs.Progress.{whole, sixtyFourths, remaining}
 use Rattle.field.specs.declared.Legs.{Legs}
 use Rattle.field.specs.declared.Field.{Field}
-use Rattle.field.specs.Boxes.{intermediate, finalApproach, orderOf}
+use Rattle.field.specs.Airspace.{intermediate, finalApproach, orderOf}
 use Rattle.questions.specs.Find.{placeOf, aircraftAt}
 use Rattle.bounds.specs.Bounds.{withinBounds}
 use Rattle.gaps.specs.declared.Spacing.{Spacing}
@@ -70,12 +70,12 @@ abbrev pub noPair : Pair
 noPair = record { leader = 0; follower = 0; spacing = Clear (whole 0) }
 
 -- an answer of at most three pairs
-unfoldable pub listed : List Pair → Spacings
-listed pairs = record { number = 0; count = length pairs; pairs = pairs ++ replicate (3 - length pairs) noPair }
+unfoldable pub pairsListed : List Pair → Spacings
+pairsListed pairs = record { number = 0; count = length pairs; pairs = pairs ++ replicate (3 - length pairs) noPair }
 
 -- a refusal, with no pair
-unfoldable pub refused : ℕ → Spacings
-refused number = record { number = number; count = 0; pairs = replicate 3 noPair }
+unfoldable pub spacingRefused : ℕ → Spacings
+spacingRefused number = record { number = number; count = 0; pairs = replicate 3 noPair }
 
 -- a spacing that is not refused: 1 to 512 64ths of a mile
 abbrev pub legalSpacing : ℕ → Bool
@@ -85,5 +85,5 @@ legalSpacing spacing = leb 1 spacing && leb spacing 512
 unfoldable pub gapsOf : Field → ℕ → Spacings
 gapsOf f spacing =
     cond (legalSpacing spacing)
-    (cond (withinBounds f) (listed (pairsIn f spacing (orderOf (f .sequence)))) (refused 10))
-    (refused 4)
+    (cond (withinBounds f) (pairsListed (pairsIn f spacing (orderOf (f .sequence)))) (spacingRefused 10))
+    (spacingRefused 4)

@@ -3,7 +3,7 @@
 use bounds::within_bounds;
 use field::Field;
 use field::Legs;
-use field::boxes::order_length;
+use field::airspace::order_length;
 use field::zones::FINAL;
 use field::zones::FIRST_BASE;
 use field::zones::INTERMEDIATE;
@@ -13,8 +13,8 @@ use questions::find::aircraft_at;
 use questions::find::place_of;
 ghost use mathlib.Core.Path.{_≡_};
 ghost use mathlib.Core.Bool.{_&&_};
-ghost use Rattle.field.specs.Boxes.{orderOf};
-ghost use Rattle.gaps.specs.Gaps.{toGo, wayOf, gapOf, spacingOf, onApproach, noPair, pairOf, pairsIn, listed, refused, legalSpacing, gapsOf};
+ghost use Rattle.field.specs.Airspace.{orderOf};
+ghost use Rattle.gaps.specs.Gaps.{toGo, wayOf, gapOf, spacingOf, onApproach, noPair, pairOf, pairsIn, pairsListed, spacingRefused, legalSpacing, gapsOf};
 
 // The widest spacing that may be asked for, in 64ths of a mile.
 const WIDEST: u16 = 512;
@@ -127,8 +127,8 @@ fn pair_of(f: Field, spacing: u16, leader: u16, follower: u16) -> Pair
 }
 
 // The answer with a refusal's number and no pair.
-pub fn refused(number: u16) -> Spacings
-    ensures { λ r. ⌜ r ≡ refused number ⌝ }
+pub fn spacing_refused(number: u16) -> Spacings
+    ensures { λ r. ⌜ r ≡ spacingRefused number ⌝ }
 {
     let p = no_pair();
     Spacings {
@@ -139,8 +139,8 @@ pub fn refused(number: u16) -> Spacings
 }
 
 // The answer with every pair of the field.
-fn listed(f: Field, spacing: u16) -> Spacings
-    ensures { λ r. ⌜ r ≡ listed (pairsIn f spacing (orderOf (f .sequence))) ⌝ }
+fn pairs_listed(f: Field, spacing: u16) -> Spacings
+    ensures { λ r. ⌜ r ≡ pairsListed (pairsIn f spacing (orderOf (f .sequence))) ⌝ }
 {
     let s = f.sequence;
     let end = order_length(s);
@@ -178,10 +178,10 @@ pub fn gaps(f: Field, spacing: u16) -> Spacings
     ensures { λ r. ⌜ r ≡ gapsOf f spacing ⌝ }
 {
     if !legal_spacing(spacing) {
-        return refused(4);
+        return spacing_refused(4);
     }
     if !within_bounds(f) {
-        return refused(10);
+        return spacing_refused(10);
     }
-    listed(f, spacing)
+    pairs_listed(f, spacing)
 }

@@ -1,4 +1,4 @@
-pub mod Known
-pub mod Kept
-pub mod Moved
-pub mod Numbers
+pub mod HistoryKnown
+pub mod KeptTested
+pub mod MovedUp
+pub mod StepNumbers

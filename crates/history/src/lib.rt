@@ -1,6 +1,6 @@
 // A field with the eight fields before the last accepted requests, and one step back (specs/History.antt).
 use field::Legs;
-use field::boxes::empty_field;
+use field::airspace::empty_field;
 use finder::Indexed;
 use finder::within_bounds_indexed;
 use indexed::step_indexed;

@@ -19,7 +19,7 @@ use Rattle.dialect.specs.declared.Listing.{Listing}
 use Rattle.dialect.specs.declared.Built.{Built}
 use Rattle.dialect.specs.Going as going
 use Rattle.dialect.specs.Going.{listOf}
-use Rattle.layout.specs.Read.{historyOf}
+use Rattle.layout.specs.Read.{readHistory}
 use Rattle.layout.specs.Written.{stateAfter}
 
 -- ---- the start
@@ -40,34 +40,34 @@ builtState state b = stateAfter state (b .number) (startWith (b .after))
 
 -- the state after a request
 abbrev pub askedState : List ℕ → Request → List ℕ
-askedState state r = stateAfter state (stepHistory (historyOf state) r .answer .number) (stepHistory (historyOf state) r .after)
+askedState state r = stateAfter state (stepHistory (readHistory state) r .answer .number) (stepHistory (readHistory state) r .after)
 
 -- the state after a step back by a desk
 abbrev pub steppedBackState : List ℕ → ℕ → List ℕ
-steppedBackState state desk = stateAfter state (stepBack (historyOf state) desk .answer .number) (stepBack (historyOf state) desk .after)
+steppedBackState state desk = stateAfter state (stepBack (readHistory state) desk .answer .number) (stepBack (readHistory state) desk .after)
 
 -- ---- the button (02, 2.6)
 
 -- one press on the state
 unfoldable pub pressedOf : List ℕ → PressedKept
-pressedOf state = pressKept (historyOf state)
+pressedOf state = pressKept (readHistory state)
 
 -- the state after a press; one that says none leaves the field and its kept ones, and so writes what they were
 abbrev pub pressedState : List ℕ → List ℕ
 pressedState state = stateAfter state (pressedOf state .stepped .answer .number) (pressedOf state .stepped .after)
 
 -- the button held down on the state
-unfoldable pub heldOf : List ℕ → HeldKept
-heldOf state = heldKept (historyOf state)
+unfoldable pub heldOnState : List ℕ → HeldKept
+heldOnState state = heldKept (readHistory state)
 
 -- ---- the spacing (02, 2.8)
 
 -- the spacing of the pairs on the field; 10 also where a kept field breaks a bound
 unfoldable pub spacingsOf : History → ℕ → Spacings
-spacingsOf h spacing = cond (legalSpacing spacing) (cond (withinBoundsHistory h) (gapsOf (h .now .field) spacing) (gaps.refused 10)) (gaps.refused 4)
+spacingsOf h spacing = cond (legalSpacing spacing) (cond (withinBoundsHistory h) (gapsOf (h .now .field) spacing) (gaps.spacingRefused 10)) (gaps.spacingRefused 4)
 
 -- ---- the classroom dialect (02, 2.12)
 
 -- the field as a list; 10 also where a kept field breaks a bound
 unfoldable pub listingOf : History → Listing
-listingOf h = cond (withinBoundsHistory h) (listOf (h .now)) (going.refused 10)
+listingOf h = cond (withinBoundsHistory h) (listOf (h .now)) (going.listRefused 10)

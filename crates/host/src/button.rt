@@ -1,5 +1,5 @@
 // The button on a state that a host lends (document 02, 2.6): one press, and the button held down.
-use decoding::history_of;
+use decoding::read_history;
 use encoding::store_after;
 use layout::State;
 use press_kept::hold_kept;
@@ -11,7 +11,7 @@ use replies::request_numbers;
 ghost use mathlib.Core.Path.{_≡_};
 ghost use Rattle.layout.specs.Written.{stateAfter};
 ghost use Rattle.replies.specs.Replies.{answerNumbers, requestNumbers, endNumber, heldNumbers};
-ghost use Rattle.host.specs.Calls.{pressedOf, pressedState, heldOf};
+ghost use Rattle.host.specs.Calls.{pressedOf, pressedState, heldOnState};
 
 // One press of the button on the state: its number, the request that it plays, and the answer.
 #[no_mangle]
@@ -25,7 +25,7 @@ pub extern "C" fn baguymo_host_press(
     ensures { λ _. ⌜ now (answer .exit) ≡ answerNumbers (pressedOf (now (state .entry)) .stepped .answer) ⌝ }
     ensures { λ _. ⌜ now (state .exit) ≡ pressedState (now (state .entry)) ⌝ }
 {
-    let p = press_kept(history_of(state));
+    let p = press_kept(read_history(state));
     let proposal = p.proposal;
     let s = p.stepped;
     let a = s.answer;
@@ -38,11 +38,11 @@ pub extern "C" fn baguymo_host_press(
 // The button held down on the state: its number, how many requests it played, and whether its presses are spent.
 #[no_mangle]
 pub extern "C" fn baguymo_host_hold_down(state: &mut State, report: &mut [usize; 2]) -> u16
-    ensures { λ r. ⌜ r ≡ endNumber (heldOf (now (state .entry)) .ending) ⌝ }
-    ensures { λ _. ⌜ now (report .exit) ≡ heldNumbers (heldOf (now (state .entry)) .played) (heldOf (now (state .entry)) .ending) ⌝ }
-    ensures { λ _. ⌜ now (state .exit) ≡ stateAfter (now (state .entry)) (endNumber (heldOf (now (state .entry)) .ending)) (heldOf (now (state .entry)) .after) ⌝ }
+    ensures { λ r. ⌜ r ≡ endNumber (heldOnState (now (state .entry)) .ending) ⌝ }
+    ensures { λ _. ⌜ now (report .exit) ≡ heldNumbers (heldOnState (now (state .entry)) .played) (heldOnState (now (state .entry)) .ending) ⌝ }
+    ensures { λ _. ⌜ now (state .exit) ≡ stateAfter (now (state .entry)) (endNumber (heldOnState (now (state .entry)) .ending)) (heldOnState (now (state .entry)) .after) ⌝ }
 {
-    let h = hold_kept(history_of(state));
+    let h = hold_kept(read_history(state));
     let e = h.ending;
     *report = held_numbers(h.played, e);
     let number = end_number(e);

@@ -2,8 +2,8 @@
 pub mod button;
 pub mod views;
 
-use decoding::history_of;
-use dialect::coming::field_of;
+use decoding::read_history;
+use dialect::coming::field_of_list;
 use encoding::store;
 use encoding::store_after;
 use history::start;
@@ -17,9 +17,9 @@ use practice::legs_allowed;
 use replies::answer_numbers;
 use request::Request;
 ghost use mathlib.Core.Path.{_≡_};
-ghost use Rattle.dialect.specs.Coming.{fieldOf};
+ghost use Rattle.dialect.specs.Coming.{fieldOfList};
 ghost use Rattle.history.specs.History.{stepHistory, stepBack};
-ghost use Rattle.layout.specs.Read.{historyOf};
+ghost use Rattle.layout.specs.Read.{readHistory};
 ghost use Rattle.replies.specs.Replies.{answerNumbers};
 ghost use Rattle.host.specs.Calls.{startNumber, startedState, askedState, steppedBackState, builtState};
 
@@ -59,8 +59,8 @@ pub extern "C" fn baguymo_host_ask(
     amount: u16,
     answer: &mut [usize; 6],
 ) -> u16
-    ensures { λ r. ⌜ r ≡ stepHistory (historyOf (now (state .entry))) (record { kind = kind; side = side; number = number; amount = amount; desk = desk }) .answer .number ⌝ }
-    ensures { λ _. ⌜ now (answer .exit) ≡ answerNumbers (stepHistory (historyOf (now (state .entry))) (record { kind = kind; side = side; number = number; amount = amount; desk = desk }) .answer) ⌝ }
+    ensures { λ r. ⌜ r ≡ stepHistory (readHistory (now (state .entry))) (record { kind = kind; side = side; number = number; amount = amount; desk = desk }) .answer .number ⌝ }
+    ensures { λ _. ⌜ now (answer .exit) ≡ answerNumbers (stepHistory (readHistory (now (state .entry))) (record { kind = kind; side = side; number = number; amount = amount; desk = desk }) .answer) ⌝ }
     ensures { λ _. ⌜ now (state .exit) ≡ askedState (now (state .entry)) (record { kind = kind; side = side; number = number; amount = amount; desk = desk }) ⌝ }
 {
     let r = Request {
@@ -70,7 +70,7 @@ pub extern "C" fn baguymo_host_ask(
         amount: amount,
         desk: desk,
     };
-    let s = step_history(history_of(state), r);
+    let s = step_history(read_history(state), r);
     let a = s.answer;
     *answer = answer_numbers(a);
     store_after(state, a.number, s.after);
@@ -80,10 +80,10 @@ pub extern "C" fn baguymo_host_ask(
 // One step back of the state by a desk: its number.
 #[no_mangle]
 pub extern "C" fn baguymo_host_back(state: &mut State, desk: u8) -> u16
-    ensures { λ r. ⌜ r ≡ stepBack (historyOf (now (state .entry))) desk .answer .number ⌝ }
+    ensures { λ r. ⌜ r ≡ stepBack (readHistory (now (state .entry))) desk .answer .number ⌝ }
     ensures { λ _. ⌜ now (state .exit) ≡ steppedBackState (now (state .entry)) desk ⌝ }
 {
-    let stepped = step_back(history_of(state), desk);
+    let stepped = step_back(read_history(state), desk);
     let a = stepped.answer;
     store_after(state, a.number, stepped.after);
     a.number
@@ -100,8 +100,8 @@ pub extern "C" fn baguymo_host_field(
     list: &[u8],
     state: &mut State,
 ) -> u16
-    ensures { λ r. ⌜ r ≡ fieldOf (record { base = base; intermediate = intermediate; last = last; missed = missed }) speed (now (list .entry)) .number ⌝ }
-    ensures { λ _. ⌜ now (state .exit) ≡ builtState (now (state .entry)) (fieldOf (record { base = base; intermediate = intermediate; last = last; missed = missed }) speed (now (list .entry))) ⌝ }
+    ensures { λ r. ⌜ r ≡ fieldOfList (record { base = base; intermediate = intermediate; last = last; missed = missed }) speed (now (list .entry)) .number ⌝ }
+    ensures { λ _. ⌜ now (state .exit) ≡ builtState (now (state .entry)) (fieldOfList (record { base = base; intermediate = intermediate; last = last; missed = missed }) speed (now (list .entry))) ⌝ }
 {
     let legs = FileLegs {
         base: base,
@@ -109,7 +109,7 @@ pub extern "C" fn baguymo_host_field(
         last: last,
         missed: missed,
     };
-    let b = field_of(legs, speed, list);
+    let b = field_of_list(legs, speed, list);
     store_after(state, b.number, start_with(b.after));
     b.number
 }

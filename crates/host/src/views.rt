@@ -1,12 +1,12 @@
 // What a host reads off a state that it lends: the spacing of the pairs on the approach, and the field as a list of the classroom dialect.
-use decoding::history_of;
+use decoding::read_history;
 use dialect::Listing;
 use dialect::going::list_of;
-use dialect::going::refused as not_listed;
+use dialect::going::list_refused as not_listed;
 use gaps::Spacings;
 use gaps::gaps;
 use gaps::legal_spacing;
-use gaps::refused;
+use gaps::spacing_refused;
 use history::History;
 use history::within_bounds_history;
 use layout::State;
@@ -14,7 +14,7 @@ use replies::listing_numbers;
 use replies::pair_gaps;
 use replies::spacing_numbers;
 ghost use mathlib.Core.Path.{_≡_};
-ghost use Rattle.layout.specs.Read.{historyOf};
+ghost use Rattle.layout.specs.Read.{readHistory};
 ghost use Rattle.replies.specs.Replies.{pairGaps, spacingNumbers, listingNumbers};
 ghost use Rattle.host.specs.Calls.{spacingsOf, listingOf};
 
@@ -23,10 +23,10 @@ fn spacings_of(h: History, spacing: u16) -> Spacings
     ensures { λ r. ⌜ r ≡ spacingsOf h spacing ⌝ }
 {
     if !legal_spacing(spacing) {
-        return refused(4);
+        return spacing_refused(4);
     }
     if !within_bounds_history(h) {
-        return refused(10);
+        return spacing_refused(10);
     }
     let x = h.now;
     gaps(x.field, spacing)
@@ -40,11 +40,11 @@ pub extern "C" fn baguymo_host_spacing(
     pairs: &mut [usize; 10],
     miles: &mut [f64; 3],
 ) -> u16
-    ensures { λ r. ⌜ r ≡ spacingsOf (historyOf (now (state .entry))) spacing .number ⌝ }
-    ensures { λ _. ⌜ now (pairs .exit) ≡ spacingNumbers (spacingsOf (historyOf (now (state .entry))) spacing) ⌝ }
-    ensures { λ _. ⌜ now (miles .exit) ≡ pairGaps (spacingsOf (historyOf (now (state .entry))) spacing .pairs) ⌝ }
+    ensures { λ r. ⌜ r ≡ spacingsOf (readHistory (now (state .entry))) spacing .number ⌝ }
+    ensures { λ _. ⌜ now (pairs .exit) ≡ spacingNumbers (spacingsOf (readHistory (now (state .entry))) spacing) ⌝ }
+    ensures { λ _. ⌜ now (miles .exit) ≡ pairGaps (spacingsOf (readHistory (now (state .entry))) spacing .pairs) ⌝ }
 {
-    let s = spacings_of(history_of(state), spacing);
+    let s = spacings_of(read_history(state), spacing);
     *pairs = spacing_numbers(s);
     *miles = pair_gaps(s);
     s.number
@@ -63,10 +63,10 @@ fn listing_of(h: History) -> Listing
 // The field of the state as a list of the classroom dialect: its number, the count and the entries.
 #[no_mangle]
 pub extern "C" fn baguymo_host_list(state: &State, entries: &mut [usize; 21]) -> u16
-    ensures { λ r. ⌜ r ≡ listingOf (historyOf (now (state .entry))) .number ⌝ }
-    ensures { λ _. ⌜ now (entries .exit) ≡ listingNumbers (listingOf (historyOf (now (state .entry)))) ⌝ }
+    ensures { λ r. ⌜ r ≡ listingOf (readHistory (now (state .entry))) .number ⌝ }
+    ensures { λ _. ⌜ now (entries .exit) ≡ listingNumbers (listingOf (readHistory (now (state .entry)))) ⌝ }
 {
-    let l = listing_of(history_of(state));
+    let l = listing_of(read_history(state));
     *entries = listing_numbers(l);
     l.number
 }

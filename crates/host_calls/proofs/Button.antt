@@ -11,35 +11,35 @@ use borrow.Author.Tests.{eqb-true, eqb-false}
 use Rattle.limits.specs.Limits.{mostPresses}
 use Rattle.request.specs.Input.{inputNumber}
 use Rattle.request.specs.declared.Request.{Request}
-use Rattle.request.proofs.Tests.{both-right}
+use Rattle.request.proofs.InputTests.{both-right}
 use Rattle.field.specs.declared.Field.{Field}
-use Rattle.field.proofs.Tests.{passed, pass, decided, either-way, if-true, if-false}
+use Rattle.field.proofs.TestLaws.{passed, pass, decided, either-way, if-true, if-false}
 use Rattle.finder.specs.Finder.{withinBoundsIndexed}
 use Rattle.bounds.specs.Bounds.{withinBounds}
 use Rattle.rules.specs.Step.{numberOf, numberAndZeros, stepOf}
 use Rattle.rules.specs.Play.{fieldAfter}
 use Rattle.rules.proofs.StepLaws.{number-is, field-refused}
 use Rattle.rules.proofs.Refusals.{accepted-within}
-use Rattle.step.proofs.Steps.{number-by}
+use Rattle.step.proofs.StepsByTests.{number-by}
 use Rattle.indexed.specs.Indexed.{withIndex}
-use Rattle.indexed.proofs.Steps as indexed
+use Rattle.indexed.proofs.StepsIndexed as indexed
 use Rattle.indexed.proofs.Own.{within-own}
 use Rattle.history.specs.declared.History.{History}
 use Rattle.history.specs.declared.SteppedHistory.{SteppedHistory}
 use Rattle.history.specs.History.{mostKept, keptWithinBounds, withinBoundsHistory, keeping, numberHistory, stepHistory}
-use Rattle.history.proofs.Numbers as numbers
+use Rattle.history.proofs.StepNumbers as numbers
 use Rattle.press.specs.declared.Proposal.{Proposal}
 use Rattle.press.specs.declared.Proposal.the-variants.{Refused, None, Play}
 use Rattle.press.specs.declared.Ending.the-variants as ending
 use Rattle.press.specs.Press.{proposalOf}
 use Rattle.press.specs.HeldDown.{thenPressed, presses, heldRequests, endingOn, heldOf}
 use Rattle.press_kept.specs.PressKept.{proposalKept, pressesKept, afterAsked, endingKept, heldKept}
-use Rattle.press_kept.proofs.Pressing.{kept-proposed}
+use Rattle.press_kept.proofs.PressingKept.{kept-proposed}
 use Rattle.taken_back.specs.Calls as calls
 use Rattle.taken_back.specs.Calls.{afterCalls}
 use Rattle.taken_back.proofs.GivenBack.{keeping-within}
 use Rattle.layout.specs.Held.{HistoryHeld}
-use Rattle.layout.proofs.States.{step-history-held}
+use Rattle.layout.proofs.CallsReadBack.{step-history-held}
 
 -- ---- one request on a history within the bounds
 module _ (h : History) (w : withinBoundsHistory h ≡ true) where

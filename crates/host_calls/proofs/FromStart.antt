@@ -13,10 +13,10 @@ use Rattle.request.specs.declared.Request.{Request}
 use Rattle.practice.specs.declared.FileLegs.{FileLegs}
 use Rattle.practice.specs.File.{legsAllowed}
 use Rattle.playing.specs.Playing.{legsInMiles}
-use Rattle.playing.proofs.Files.{file-legs-legal}
+use Rattle.playing.proofs.PlayedFiles.{file-legs-legal}
 use Rattle.field.specs.declared.Legs.{Legs}
 use Rattle.field.specs.Lists.{every}
-use Rattle.field.proofs.Tests.{passed, fail, either-way}
+use Rattle.field.proofs.TestLaws.{passed, fail, either-way}
 use Rattle.questions.specs.Counts.{presentOn}
 use Rattle.fits.specs.Fits.{legalLegs}
 use Rattle.bounds.specs.Bounds.{withinBounds}
@@ -43,14 +43,14 @@ use Rattle.taken_back.specs.Calls.{Call, called, afterCalls, historyOf}
 use Rattle.taken_back.specs.TakenBack.{Follows}
 use Rattle.taken_back.proofs.Calls.{taken-back, one-call}
 use Rattle.taken_back.proofs.Follows.{field-now}
-use Rattle.layout.proofs.States.{start-held, legs-in-64ths-held}
+use Rattle.layout.proofs.CallsReadBack.{start-held, legs-in-64ths-held}
 use Rattle.replies.specs.Replies.{endNumber}
 use Rattle.host.specs.Calls.{spacingsOf, listingOf}
 use Rattle.host_calls.specs.HostCalls.{HostCall, start, ask, back, press, holdDown, spacing, list, field, replyOf, leftBy, repliesOf, leftByAll}
 use Rattle.host_calls.specs.FromStart.{goesOn, callsOf, allCallsOf, neverReplied, FromStart}
 use Rattle.host_calls.proofs.Held.{all-held}
 use Rattle.host_calls.proofs.Button.{asked-calls, held-same}
-use Rattle.host_calls.proofs.Within.{stays-within-from-start}
+use Rattle.host_calls.proofs.WithinAfterCalls.{stays-within-from-start}
 
 -- ---- a call as requests and steps back
 
@@ -88,7 +88,7 @@ end-not-25 ending.None e = omega (arith, e)
 end-not-25 ending.Spent e = omega (arith, e)
 
 spacing-not-25 : (h : History) (n : ℕ) → spacingsOf h n .number ≡ 25 → ⊥
-unfolding spacingsOf gapsOf gaps.listed gaps.refused
+unfolding spacingsOf gapsOf gaps.pairsListed gaps.spacingRefused
 spacing-not-25 h n =
     let Not : Spacings → Type 0 = λ s. s .number ≡ 25 → ⊥ in
     either-way Not (legalSpacing n) _ _
@@ -98,7 +98,7 @@ spacing-not-25 h n =
     (λ e q. omega (arith, q))
 
 list-not-25 : (h : History) → listingOf h .number ≡ 25 → ⊥
-unfolding listingOf listOf going.listed going.refused
+unfolding listingOf listOf going.entriesListed going.listRefused
 list-not-25 h =
     let Not : Listing → Type 0 = λ l. l .number ≡ 25 → ⊥ in
     either-way Not (withinBoundsHistory h) _ _

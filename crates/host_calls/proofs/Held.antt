@@ -8,22 +8,22 @@ use lib.Ieee.Fits.{ofInt-fits}
 use Rattle.request.specs.declared.Request.{Request}
 use Rattle.practice.specs.declared.FileLegs.{FileLegs}
 use Rattle.field.specs.declared.Field.{Field}
-use Rattle.field.specs.Boxes.{opposite, zoneOf, entering, emptyField}
+use Rattle.field.specs.Airspace.{opposite, zoneOf, entering, emptyField}
 use Rattle.field.specs.Edits.{withTail, appended, withZone}
-use Rattle.field.proofs.Tests.{either-way}
+use Rattle.field.proofs.TestLaws.{either-way}
 use Rattle.playing.specs.Playing.{legsInMiles, noLegs}
 use Rattle.history.specs.declared.History.{History}
 use Rattle.history.specs.History.{stepHistory}
-use Rattle.dialect.specs.declared.Entry.{Entry}
+use Rattle.dialect.specs.declared.ListEntry.{ListEntry}
 use Rattle.dialect.specs.declared.Built.{Built}
-use Rattle.dialect.specs.Coming.{entriesIn, fixIn, withEntry, builtOn, built, comingNumber, notBuilt, fieldOf}
+use Rattle.dialect.specs.Coming.{entriesIn, fixIn, withEntry, builtOn, built, comingNumber, notBuilt, fieldOfList}
 use Rattle.press.specs.declared.Proposal.{Proposal}
 use Rattle.press.specs.declared.Proposal.the-variants.{Refused, None, Play}
 use Rattle.press_kept.specs.PressKept.{proposalKept, playedKept, pressKept, pressesKept, afterAsked, heldKept}
 use Rattle.limits.specs.Limits.{mostPresses}
 use Rattle.layout.specs.Held.{MilesHeld, FieldWith, IndexedWith, HistoryHeld}
-use Rattle.layout.proofs.Kept.{zone-held, with-tail-held, with-zone-held, appended-held, with-sequence-held, empty-field-held}
-use Rattle.layout.proofs.States.{with-index-held, start-with-held, start-held, legs-in-64ths-held, step-history-held, step-back-held}
+use Rattle.layout.proofs.StaysHeld.{zone-held, with-tail-held, with-zone-held, appended-held, with-sequence-held, empty-field-held}
+use Rattle.layout.proofs.CallsReadBack.{with-index-held, start-with-held, start-held, legs-in-64ths-held, step-history-held, step-back-held}
 use Rattle.host.specs.Calls.{startNumber}
 use Rattle.host_calls.specs.HostCalls.{HostCall, start, ask, back, press, holdDown, spacing, list, field, leftBy, leftByAll}
 
@@ -32,7 +32,7 @@ use Rattle.host_calls.specs.HostCalls.{HostCall, start, ask, back, press
 abbrev On : Field → Type 0
 On = FieldWith MilesHeld
 
-entry-held : (f : Field) (speed : ℕ) (e : Entry) → On f → On (withEntry f speed e)
+entry-held : (f : Field) (speed : ℕ) (e : ListEntry) → On f → On (withEntry f speed e)
 unfolding withEntry entering
 entry-held f speed e h =
     let a = entering (e .number) (fixIn (e .fix)) speed 1 in
@@ -41,15 +41,15 @@ entry-held f speed e h =
     (with-tail-held (zoneOf f (e .location)) a (zone-held f (e .location) h) (record { progress = tt; waited = ofInt-fits binary64 (pos 0); leg = ofInt-fits binary64 (pos 0) })))
     (appended-held (f .sequence) (e .number) (h .numbers))
 
-built-on-held : (f : Field) (speed : ℕ) (es : List Entry) → On f → On (builtOn f speed es)
+built-on-held : (f : Field) (speed : ℕ) (es : List ListEntry) → On f → On (builtOn f speed es)
 built-on-held f speed [] h = h
 built-on-held f speed (e ∷ es) h = built-on-held (withEntry f speed e) speed es (entry-held f speed e h)
 
 empty-held : (legs : FileLegs) → On (emptyField (legsInMiles legs))
 empty-held legs = empty-field-held (legsInMiles legs) (legs-in-64ths-held (legs .missed) (legs .base) (legs .intermediate) (legs .last))
 
-field-of-held : (legs : FileLegs) (speed : ℕ) (bytes : List ℕ) → IndexedWith MilesHeld (fieldOf legs speed bytes .after)
-unfolding fieldOf notBuilt built
+field-of-held : (legs : FileLegs) (speed : ℕ) (bytes : List ℕ) → IndexedWith MilesHeld (fieldOfList legs speed bytes .after)
+unfolding fieldOfList notBuilt built
 field-of-held legs speed bytes =
     either-way (λ (b : Built). IndexedWith MilesHeld (b .after)) (eqb (comingNumber legs speed bytes) 0) _ _
     (λ e. with-index-held _ (built-on-held (emptyField (legsInMiles legs)) speed (entriesIn bytes) (empty-held legs)))
@@ -81,7 +81,7 @@ left-held h holdDown k = asked-held h (pressesKept mostPresses h) k
 left-held h (spacing n) k = k
 left-held h list k = k
 left-held h (field legs speed bytes) k =
-    either-way HistoryHeld (eqb (fieldOf legs speed bytes .number) 0) _ h (λ e. start-with-held (fieldOf legs speed bytes .after) (field-of-held legs speed bytes)) (λ e. k)
+    either-way HistoryHeld (eqb (fieldOfList legs speed bytes .number) 0) _ h (λ e. start-with-held (fieldOfList legs speed bytes .after) (field-of-held legs speed bytes)) (λ e. k)
 
 pub all-held : (h : History) (cs : List HostCall) → HistoryHeld h → HistoryHeld (leftByAll h cs)
 all-held h [] k = k

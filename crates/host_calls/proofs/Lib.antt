@@ -1,5 +1,5 @@
 pub mod Held
 pub mod Button
-pub mod Within
+pub mod WithinAfterCalls
 pub mod OnTheBytes
 pub mod FromStart

@@ -12,7 +12,7 @@ use Rattle.practice.specs.declared.FileLegs.{FileLegs}
 use Rattle.practice.specs.File.{legsAllowed}
 use Rattle.playing.specs.Playing.{legsInMiles}
 use Rattle.field.specs.declared.Field.{Field}
-use Rattle.field.proofs.Tests.{decided, either-way, if-true, if-false}
+use Rattle.field.proofs.TestLaws.{decided, either-way, if-true, if-false}
 use Rattle.questions.specs.Counts.{presentOn}
 use Rattle.history.specs.declared.History.{History}
 use Rattle.history.specs.History.{startWith, startOf, withinBoundsHistory, stepHistory, stepBack}
@@ -23,18 +23,18 @@ use Rattle.press.specs.declared.Ending.{Ending}
 use Rattle.press.specs.declared.Ending.the-variants as ending
 use Rattle.press.specs.HeldDown.{thenPressed, endingOn}
 use Rattle.press_kept.specs.PressKept.{proposalKept, playedKept, pressKept, pressesKept, afterAsked, endingKept, heldKept}
-use Rattle.press_kept.proofs.Pressing.{kept-refused, asked-none, presses-ended}
-use Rattle.dialect.specs.Coming.{fieldOf}
+use Rattle.press_kept.proofs.PressingKept.{kept-refused, asked-none, presses-ended}
+use Rattle.dialect.specs.Coming.{fieldOfList}
 use Rattle.taken_back.specs.Calls.{Call, request, back, called}
 use Rattle.taken_back.proofs.GivenBack.{nothing-changed}
-use Rattle.layout.specs.Read.{historyOf}
+use Rattle.layout.specs.Read.{readHistory}
 use Rattle.layout.specs.Written.{historyBytes, stateAfter}
 use Rattle.layout.specs.Held.{HistoryHeld}
-use Rattle.layout.proofs.Sizes.{state-size}
-use Rattle.layout.proofs.ReadBack.{read-back}
-use Rattle.layout.proofs.States.{start-held, legs-in-64ths-held}
+use Rattle.layout.proofs.PartSizes.{state-size}
+use Rattle.layout.proofs.HistoryReadBack.{read-back}
+use Rattle.layout.proofs.CallsReadBack.{start-held, legs-in-64ths-held}
 use Rattle.replies.specs.Replies.{endNumber}
-use Rattle.host.specs.Calls.{startNumber, pressedOf, heldOf}
+use Rattle.host.specs.Calls.{startNumber, pressedOf, heldOnState}
 use Rattle.host_calls.specs.HostCalls.{HostCall, start, ask, back as stepBackBy, press, holdDown, spacing, list, field, replyOf, leftBy, repliesOf, leftByAll, bytesLeft, repliesOn, bytesLeftByAll, OnTheBytes}
 use Rattle.host_calls.proofs.Held.{left-held, all-held}
 
@@ -80,7 +80,7 @@ held-bytes h =
     ]
 
 left-bytes : (h : History) (c : HostCall) → HistoryHeld h → bytesLeft (historyBytes h) c ≡ historyBytes (leftBy h c)
-unfolding pressedOf heldOf pressKept
+unfolding pressedOf heldOnState pressKept
 left-bytes h (start legs) k = begun (eqb (startNumber legs) 0) h (startOf (legsInMiles legs))
 left-bytes h (ask r) k = ap (λ (g : History). stateAfter (historyBytes h) (stepHistory g r .answer .number) (stepHistory g r .after)) (read-back h k) ∙ called-bytes h (request r)
 left-bytes h (stepBackBy desk) k = ap (λ (g : History). stateAfter (historyBytes h) (stepBack g desk .answer .number) (stepBack g desk .after)) (read-back h k) ∙ called-bytes h (back desk)
@@ -88,7 +88,7 @@ left-bytes h press k = ap (λ (g : History). stateAfter (historyBytes h) (played
 left-bytes h holdDown k = ap (λ (g : History). stateAfter (historyBytes h) (endNumber (heldKept g .ending)) (heldKept g .after)) (read-back h k) ∙ held-bytes h
 left-bytes h (spacing n) k = refl
 left-bytes h list k = refl
-left-bytes h (field legs speed bytes) k = begun (eqb (fieldOf legs speed bytes .number) 0) h (startWith (fieldOf legs speed bytes .after))
+left-bytes h (field legs speed bytes) k = begun (eqb (fieldOfList legs speed bytes .number) 0) h (startWith (fieldOfList legs speed bytes .after))
 
 -- ---- any list
 
@@ -106,7 +106,7 @@ pub on-the-bytes : (h : History) (cs : List HostCall) → HistoryHeld h → OnTh
 on-the-bytes h cs k =
     let e = bytes-same h cs k in
     let q = all-held h cs k in
-    record { replies = replies-same h cs k; bytes = e; size = ap length e ∙ state-size (leftByAll h cs) q; state = ap historyOf e ∙ read-back (leftByAll h cs) q }
+    record { replies = replies-same h cs k; bytes = e; size = ap length e ∙ state-size (leftByAll h cs) q; state = ap readHistory e ∙ read-back (leftByAll h cs) q }
 
 -- an accepted start writes the bytes of the start, whatever stood there; from there on, any list
 pub started : (b : List ℕ) (legs : FileLegs) → legsAllowed legs ≡ true → bytesLeft b (start legs) ≡ historyBytes (startOf (legsInMiles legs))
@@ -118,4 +118,4 @@ on-the-bytes-from-start legs cs =
 
 -- two histories with the same bytes are the same
 pub same-state : (h g : History) → HistoryHeld h → HistoryHeld g → historyBytes h ≡ historyBytes g → h ≡ g
-same-state h g p q e = sym (read-back h p) ∙ ap historyOf e ∙ read-back g q
+same-state h g p q e = sym (read-back h p) ∙ ap readHistory e ∙ read-back g q

@@ -13,11 +13,11 @@ use Rattle.playing.specs.Playing.{legsInMiles}
 use Rattle.history.specs.declared.History.{History}
 use Rattle.history.specs.History.{startWith, startOf, stepHistory, stepBack}
 use Rattle.press_kept.specs.PressKept.{pressKept, heldKept}
-use Rattle.dialect.specs.Coming.{fieldOf}
-use Rattle.layout.specs.Read.{stateSize, historyOf}
+use Rattle.dialect.specs.Coming.{fieldOfList}
+use Rattle.layout.specs.Read.{stateSize, readHistory}
 use Rattle.layout.specs.Written.{historyBytes, stateAfter}
 use Rattle.replies.specs.Replies.{answerNumbers, requestNumbers, endNumber, heldNumbers, pairGaps, spacingNumbers, listingNumbers}
-use Rattle.host.specs.Calls.{startNumber, startedState, askedState, steppedBackState, builtState, pressedState, spacingsOf, listingOf, heldOf}
+use Rattle.host.specs.Calls.{startNumber, startedState, askedState, steppedBackState, builtState, pressedState, spacingsOf, listingOf, heldOnState}
 
 -- a start with four legs, a request, a step back by a desk, a press, the button held down, the spacing with its 64ths of a mile, the list of the field, and
 -- the field of a list with four legs and a speed
@@ -50,7 +50,7 @@ replyOf h press =
 replyOf h holdDown = record { number = endNumber (heldKept h .ending); numbers = heldNumbers (heldKept h .played) (heldKept h .ending); gaps = [] }
 replyOf h (spacing n) = let s = spacingsOf h n in record { number = s .number; numbers = spacingNumbers s; gaps = pairGaps (s .pairs) }
 replyOf h list = let l = listingOf h in record { number = l .number; numbers = listingNumbers l; gaps = [] }
-replyOf h (field legs speed bytes) = record { number = fieldOf legs speed bytes .number; numbers = []; gaps = [] }
+replyOf h (field legs speed bytes) = record { number = fieldOfList legs speed bytes .number; numbers = []; gaps = [] }
 
 -- what it leaves: an accepted start or field begins anew, the spacing and the list only read, and of the others each is what it is on the history
 abbrev pub leftBy : History → HostCall → History
@@ -61,7 +61,7 @@ leftBy h press = pressKept h .stepped .after
 leftBy h holdDown = heldKept h .after
 leftBy h (spacing n) = h
 leftBy h list = h
-leftBy h (field legs speed bytes) = cond (eqb (fieldOf legs speed bytes .number) 0) (startWith (fieldOf legs speed bytes .after)) h
+leftBy h (field legs speed bytes) = cond (eqb (fieldOfList legs speed bytes .number) 0) (startWith (fieldOfList legs speed bytes .after)) h
 
 -- a list of calls, each on what the one before left: what each replies, ..
 abbrev pub repliesOf : History → List HostCall → List Reply
@@ -81,15 +81,15 @@ bytesLeft b (start legs) = startedState b legs
 bytesLeft b (ask r) = askedState b r
 bytesLeft b (back desk) = steppedBackState b desk
 bytesLeft b press = pressedState b
-bytesLeft b holdDown = stateAfter b (endNumber (heldOf b .ending)) (heldOf b .after)
+bytesLeft b holdDown = stateAfter b (endNumber (heldOnState b .ending)) (heldOnState b .after)
 bytesLeft b (spacing n) = b
 bytesLeft b list = b
-bytesLeft b (field legs speed bytes) = builtState b (fieldOf legs speed bytes)
+bytesLeft b (field legs speed bytes) = builtState b (fieldOfList legs speed bytes)
 
 -- a list of calls: what each replies, read from the bytes that the one before left, ..
 abbrev pub repliesOn : List ℕ → List HostCall → List Reply
 repliesOn b [] = []
-repliesOn b (c ∷ cs) = replyOf (historyOf b) c ∷ repliesOn (bytesLeft b c) cs
+repliesOn b (c ∷ cs) = replyOf (readHistory b) c ∷ repliesOn (bytesLeft b c) cs
 
 -- .. and the bytes that the last left
 abbrev pub bytesLeftByAll : List ℕ → List HostCall → List ℕ
@@ -103,4 +103,4 @@ pub record OnTheBytes (h : History) (cs : List HostCall) : Type 0 where
   pub replies : repliesOn (historyBytes h) cs ≡ repliesOf h cs
   pub bytes : bytesLeftByAll (historyBytes h) cs ≡ historyBytes (leftByAll h cs)
   pub size : length (bytesLeftByAll (historyBytes h) cs) ≡ stateSize
-  pub state : historyOf (bytesLeftByAll (historyBytes h) cs) ≡ leftByAll h cs
+  pub state : readHistory (bytesLeftByAll (historyBytes h) cs) ≡ leftByAll h cs

@@ -10,7 +10,7 @@ use crate::lists::four_missed;
 use crate::lists::lateral;
 use crate::lists::one_lands;
 use field::Legs;
-use field::boxes::empty_field;
+use field::airspace::empty_field;
 use finder::Entry;
 use finder::Index;
 use finder::Indexed;

@@ -7,13 +7,13 @@ use borrow.Author.Tests.{eqb-true, eqb-false}
 use Rattle.request.specs.declared.Request.{Request}
 use Rattle.field.specs.declared.Legs.{Legs}
 use Rattle.field.specs.declared.Field.{Field}
-use Rattle.field.specs.Boxes.{emptyField}
-use Rattle.field.proofs.Tests.{pass, decided}
+use Rattle.field.specs.Airspace.{emptyField}
+use Rattle.field.proofs.TestLaws.{pass, decided}
 use Rattle.bounds.specs.Bounds.{withinBounds}
 use Rattle.fits.specs.Fits.{legalLegs}
 use Rattle.finder.specs.declared.Indexed.{Indexed}
 use Rattle.finder.specs.Finder.{indexOf, withinBoundsIndexed}
-use Rattle.finder.proofs.Theorems.{found-as-looked, indexed-as-looked}
+use Rattle.finder.proofs.IndexLaws.{found-as-looked, indexed-as-looked}
 use Rattle.rules.specs.declared.Answer.{Answer}
 use Rattle.rules.specs.Step.{numberOf, stepOf}
 use Rattle.rules.specs.Play.{fieldAfter, played}
@@ -21,13 +21,13 @@ use Rattle.rules.proofs.StepLaws.{number-is, field-accepted, field-refused}
 use Rattle.rules.proofs.Refusals.{accepted-within}
 use Rattle.demand.specs.Demand.{Demand3Of}
 use Rattle.demand.specs.Exact.{WholeLegs, inMiles, ExactOf}
-use Rattle.line.proofs.Within.{within-bounds}
+use Rattle.line.proofs.LineWithin.{within-bounds}
 use Rattle.reason.proofs.Reason.{after-list}
 use Rattle.demand.proofs.Demand.{demand-3}
 use Rattle.demand.proofs.Exact.{exactness}
 use Rattle.indexed.specs.declared.SteppedIndexed.{SteppedIndexed}
 use Rattle.indexed.specs.Indexed.{withIndex, stepIndexed, playedIndexed, indexedAfter}
-use Rattle.indexed.proofs.Steps.{field-within, index-own, tick-leaves}
+use Rattle.indexed.proofs.StepsIndexed.{field-within, index-own, tick-leaves}
 use Rattle.indexed.proofs.Own.{within-own, step-own, played-own, after-own}
 use Rattle.index_kept.specs.IndexKept.{SaysAsLooked, Kept, emptyIndexed, Demand3Indexed, ExactIndexed}
 

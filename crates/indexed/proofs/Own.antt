@@ -9,7 +9,7 @@ use borrow.Author.Tests.{eq-eqb, ne-eqb, eqb-false}
 use Rattle.request.specs.Input.{inputNumber}
 use Rattle.request.specs.declared.Request.{Request}
 use Rattle.field.specs.declared.Field.{Field}
-use Rattle.field.proofs.Tests.{decided, if-true, if-false, same}
+use Rattle.field.proofs.TestLaws.{decided, if-true, if-false, same}
 use Rattle.bounds.specs.Bounds.{withinBounds}
 use Rattle.finder.specs.declared.Entry.{Entry}
 use Rattle.finder.specs.declared.Index.{Index}
@@ -19,7 +19,7 @@ use Rattle.rules.specs.declared.Answer.{Answer}
 use Rattle.rules.specs.declared.Stepped.{Stepped}
 use Rattle.rules.specs.Step.{effectOf, numberOf, numberAndZeros, answerOf, stepOf}
 use Rattle.rules.specs.Play.{fieldAfter, played}
-use Rattle.step.proofs.Steps.{number-by, turned-away}
+use Rattle.step.proofs.StepsByTests.{number-by, turned-away}
 use Rattle.indexed.specs.declared.SteppedIndexed.{SteppedIndexed}
 use Rattle.indexed.specs.Indexed.{withIndex, numberIndexed, stepIndexed, playedIndexed, indexedAfter}
 

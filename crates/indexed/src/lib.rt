@@ -3,7 +3,7 @@ use bounds::within_bounds;
 use effects::effect;
 use field::Field;
 use field::Sequence;
-use field::boxes::side_of;
+use field::airspace::side_of;
 use field::zones::AT_2000;
 use field::zones::BASE;
 use field::zones::FINAL;

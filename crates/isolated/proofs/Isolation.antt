@@ -16,10 +16,10 @@ use Rattle.request.specs.declared.Request.{Request}
 use Rattle.field.specs.declared.Aircraft.{Aircraft}
 use Rattle.field.specs.declared.Zone.{Zone}
 use Rattle.field.specs.declared.Field.{Field}
-use Rattle.field.specs.Boxes.{everywhere, emptyZone, zoneOf, queueOf, inZone}
+use Rattle.field.specs.Airspace.{everywhere, emptyZone, zoneOf, queueOf, inZone}
 use Rattle.field.specs.Lists.{every, Each}
-use Rattle.field.proofs.Lists.{every-listed, zone-listed}
-use Rattle.field.proofs.Tests.{decided, if-false, either-way}
+use Rattle.field.proofs.NumberLists.{every-listed, zone-listed}
+use Rattle.field.proofs.TestLaws.{decided, if-false, either-way}
 use Rattle.bounds.specs.Bounds.{isNobody, zoneKept, withinBounds}
 use Rattle.fits.specs.Fits.{isWaiting}
 use Rattle.laws.proofs.BoundLaws.{within-e}
@@ -27,9 +27,9 @@ use Rattle.rules.specs.declared.Answer.{Answer}
 use Rattle.rules.specs.Step.{stepOf}
 use Rattle.rules.specs.Play.{played, ofDesk}
 use Rattle.renaming.specs.Renaming.{Renaming, renamedAircraft, renamedZone, renamedField, renamedRequest, renamedPair}
-use Rattle.renaming.proofs.Theorems.{played-renamed}
+use Rattle.renaming.proofs.StepsRenamed.{played-renamed}
 use Rattle.isolated.specs.Isolated.{FixesRequest, FixesRequests, FixesOne, FixesAircraft, Isolation, renamedOther, renamedOthersIn, renamedOthers, renamedOtherRequest, renamedOtherRequests}
-use Rattle.owners.proofs.Lists.{each-parts, each-places, maps-agree}
+use Rattle.owners.proofs.EachOfList.{each-parts, each-places, maps-agree}
 use Rattle.isolated.proofs.Stays.{StaysIn, Stays, own-numbers-stay}
 use Rattle.isolated.proofs.Shown.{pair-stays}
 

@@ -2,4 +2,4 @@ pub mod Stays
 pub mod Shown
 pub mod Isolation
 pub mod WithIndex
-pub mod Computed
+pub mod ConditionsNeeded

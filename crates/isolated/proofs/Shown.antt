@@ -6,8 +6,8 @@ use borrow.Author.Tests.{eqb-true}
 use Rattle.request.specs.declared.Request.{Request}
 use Rattle.field.specs.declared.Aircraft.{Aircraft}
 use Rattle.field.specs.declared.Field.{Field}
-use Rattle.field.specs.Boxes.{sideOf, at3000}
-use Rattle.field.proofs.Tests.{either-way}
+use Rattle.field.specs.Airspace.{sideOf, at3000}
+use Rattle.field.proofs.TestLaws.{either-way}
 use Rattle.questions.specs.Find.{placeOf, aircraftAt, leaderOf}
 use Rattle.rules.specs.declared.Answer.{Answer}
 use Rattle.rules.specs.declared.Stepped.{Stepped}

@@ -3,12 +3,12 @@ use mathlib.Core.Path.{_≡_, sym, ap, _∙_}
 use mathlib.Core.List.{List}
 use lib.Dec.{T}
 use Rattle.request.specs.declared.Request.{Request}
-use Rattle.field.proofs.Tests.{pass}
+use Rattle.field.proofs.TestLaws.{pass}
 use Rattle.finder.specs.declared.Indexed.{Indexed}
 use Rattle.finder.specs.Finder.{withinBoundsIndexed}
 use Rattle.rules.specs.Play.{played, ofDesk}
 use Rattle.indexed.specs.Indexed.{withIndex, playedIndexed}
-use Rattle.indexed.proofs.Steps.{field-within, index-own}
+use Rattle.indexed.proofs.StepsIndexed.{field-within, index-own}
 use Rattle.indexed.proofs.Own.{played-own}
 use Rattle.isolated.specs.Isolated.{renamedOthers, renamedOtherRequests}
 use Rattle.isolated.specs.WithIndex.{IsolationIndexed}

@@ -10,7 +10,7 @@ use Rattle.request.specs.declared.Request.{Request}
 use Rattle.field.specs.declared.Aircraft.{Aircraft}
 use Rattle.field.specs.declared.Zone.{Zone}
 use Rattle.field.specs.declared.Field.{Field}
-use Rattle.field.specs.Boxes.{inZone}
+use Rattle.field.specs.Airspace.{inZone}
 use Rattle.field.specs.Lists.{Each}
 use Rattle.bounds.specs.Bounds.{withinBounds}
 use Rattle.rules.specs.Play.{played, ofDesk}

@@ -1,4 +1,4 @@
-pub mod Kept
+pub mod KeptAfter
 pub mod Renamed
-pub mod Isolation
-pub mod Computed
+pub mod IsolationBack
+pub mod KeptNeeded

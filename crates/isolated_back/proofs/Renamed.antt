@@ -13,28 +13,28 @@ use Rattle.request.specs.Input.{within, firstRefused}
 use Rattle.request.specs.declared.Request.{Request}
 use Rattle.field.specs.declared.Field.{Field}
 use Rattle.field.specs.Lists.{every, Each}
-use Rattle.field.proofs.Tests.{decided, either-way}
+use Rattle.field.proofs.TestLaws.{decided, either-way}
 use Rattle.finder.specs.declared.Indexed.{Indexed}
 use Rattle.finder.specs.Finder.{withinBoundsIndexed}
 use Rattle.rules.specs.declared.Stepped.{Stepped}
 use Rattle.rules.specs.Step.{numberOf, numberAndZeros, stepOf}
 use Rattle.renaming.specs.Renaming.{Renaming, renamedField, renamedRequest, renamedAnswer}
-use Rattle.renaming.proofs.Lists.{take-map, drop-map}
+use Rattle.renaming.proofs.ListsRenamed.{take-map, drop-map}
 use Rattle.renaming.proofs.Bounded.{within-renamed}
 use Rattle.renaming.proofs.Needed.{input-renamed}
-use Rattle.renaming.proofs.Theorems.{number-renamed, step-renamed}
+use Rattle.renaming.proofs.StepsRenamed.{number-renamed, step-renamed}
 use Rattle.indexed.specs.Indexed.{withIndex}
 use Rattle.indexed.proofs.Own.{within-own}
 use Rattle.isolated.specs.Isolated.{FixesRequest}
-use Rattle.owners.proofs.Lists.{each-drop, each-take, each-append, each-at}
+use Rattle.owners.proofs.EachOfList.{each-drop, each-take, each-append, each-at}
 use Rattle.isolated.proofs.Stays.{Stays, own-numbers-stay}
 use Rattle.isolated.proofs.Shown.{zeros-stay}
 use Rattle.history.specs.declared.History.{History}
 use Rattle.history.specs.declared.SteppedHistory.{SteppedHistory}
 use Rattle.history.specs.History.{mostKept, counted, keptWithinBounds, withinBoundsHistory, keeping, numberHistory, stepHistory, numberBack, givenBack, stepBack}
-use Rattle.history.proofs.Numbers as numbers
-use Rattle.taken_back.proofs.Counts.{some-kept, keeping-count}
-use Rattle.isolated_back.proofs.Kept.{leftOf, kept-now, kept-few, kept-places, kept-counted, map-behind}
+use Rattle.history.proofs.StepNumbers as numbers
+use Rattle.taken_back.proofs.KeptCounts.{some-kept, keeping-count}
+use Rattle.isolated_back.proofs.KeptAfter.{leftOf, kept-now, kept-few, kept-places, kept-counted, map-behind}
 
 module _ (d : ℕ) {π : ℕ → ℕ} (p : Renaming π) where
   -- a field with its index: all numbers renamed, and the index put in order again

@@ -40,9 +40,9 @@ callDesk (request r) = r .desk
 callDesk (back desk) = desk
 
 -- the calls of one desk with their answers
-abbrev pub callsOf : ℕ → List (Call × Answer) → List (Call × Answer)
-callsOf desk [] = []
-callsOf desk (p ∷ ps) = cond (eqb (callDesk (p .0)) desk) (p ∷ callsOf desk ps) (callsOf desk ps)
+abbrev pub callsByDesk : ℕ → List (Call × Answer) → List (Call × Answer)
+callsByDesk desk [] = []
+callsByDesk desk (p ∷ ps) = cond (eqb (callDesk (p .0)) desk) (p ∷ callsByDesk desk ps) (callsByDesk desk ps)
 
 -- ---- the numbers that stay
 
@@ -76,4 +76,4 @@ pub record Shaped (h : History) : Type 0 where
 abbrev pub IsolationBack : Type 0
 IsolationBack =
     (h : History) → Shaped h → T (withinBoundsHistory h) → (d : ℕ) (cs : List Call) (π : ℕ → ℕ) → KeepsOwnBack d π h cs
-    → callsOf d (playedCalls (renamedHistory d π h) (map (renamedOtherCall d π) cs)) ≡ callsOf d (playedCalls h cs)
+    → callsByDesk d (playedCalls (renamedHistory d π h) (map (renamedOtherCall d π) cs)) ≡ callsByDesk d (playedCalls h cs)

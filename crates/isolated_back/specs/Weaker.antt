@@ -12,13 +12,13 @@ use Rattle.isolated.specs.Isolated.{renamedOthers, FixesAircraft}
 use Rattle.history.specs.declared.History.{History}
 use Rattle.history.specs.History.{counted, withinBoundsHistory}
 use Rattle.taken_back.specs.Calls.{Call, playedCalls}
-use Rattle.isolated_back.specs.IsolatedBack.{renamedIndexed, renamedHistory, renamedOtherCall, callsOf, FixesCall, KeepsOwnBack, Shaped}
+use Rattle.isolated_back.specs.IsolatedBack.{renamedIndexed, renamedHistory, renamedOtherCall, callsByDesk, FixesCall, KeepsOwnBack, Shaped}
 
 -- the claim, with this asked of the new numbers and this made of the field and its kept ones
 abbrev pub ClaimBack : (ℕ → (ℕ → ℕ) → History → List Call → Type 0) → (ℕ → (ℕ → ℕ) → History → History) → Type 0
 ClaimBack Asked made =
     (h : History) → Shaped h → T (withinBoundsHistory h) → (d : ℕ) (cs : List Call) (π : ℕ → ℕ) → Asked d π h cs
-    → callsOf d (playedCalls (made d π h) (map (renamedOtherCall d π) cs)) ≡ callsOf d (playedCalls h cs)
+    → callsByDesk d (playedCalls (made d π h) (map (renamedOtherCall d π) cs)) ≡ callsByDesk d (playedCalls h cs)
 
 -- the field renamed, and this made of each kept one that counts
 abbrev pub withKept : (ℕ → (ℕ → ℕ) → Indexed → Indexed) → ℕ → (ℕ → ℕ) → History → History

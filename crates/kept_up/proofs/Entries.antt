@@ -9,12 +9,12 @@ use native.Mathlib.Omega.{arith}
 use borrow.Author.Tests.{eqb-true, eq-eqb, ne-eqb}
 use lib.Dec.{eqb, ltb}
 use lib.ListN.{length, length-append}
-use Rattle.field.proofs.Parts.{and-cut}
-use Rattle.field.proofs.Tests.{if-true, if-false, either-way}
+use Rattle.field.proofs.TestParts.{and-cut}
+use Rattle.field.proofs.TestLaws.{if-true, if-false, either-way}
 use Rattle.questions.specs.declared.Place.{Place}
 use Rattle.questions.specs.Find.{nowhere}
 use Rattle.finder.specs.declared.Entry.{Entry}
-use Rattle.finder.specs.Finder.{unused, put, Unused, InOrder, foundAmong}
+use Rattle.finder.specs.Finder.{unused, putAmong, Unused, InOrder, foundAmong}
 use Rattle.finder.proofs.Found.{free, before-unused, put-before, put-zero, put-by}
 use Rattle.finder.proofs.Determined.{HasZone, HaveZones, absent}
 use Rattle.kept_up.specs.KeptUp.{movedEntry, descendedEntry, without}
@@ -238,7 +238,7 @@ module _ (side : ℕ) (start : 1 ≤ side) where
 -- ---- one more is put among them
 -- what is found then, where its number was not among them and a place was unused
 pub put-found : (k : ℕ) (e : Entry) → k < e .number → (es : List Entry) → InOrder k es → HaveZones es → foundAmong (e .number) es .zone ≡ 0 → 1 ≤ free es → (n : ℕ) → n ≢ 0
-    → foundAmong n (put e es) ≡ cond (eqb (e .number) n) (record { zone = e .zone; place = e .place }) (foundAmong n es)
+    → foundAmong n (putAmong e es) ≡ cond (eqb (e .number) n) (record { zone = e .zone; place = e .place }) (foundAmong n es)
 put-found k e h [] o z a room n u = absurd (omega arith)
 put-found k e h (x ∷ xs) (inl o) z a room n u =
     let none : x .number ≡ 0 = ap (λ (y : Entry). y .number) (o .0) in

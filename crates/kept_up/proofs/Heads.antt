@@ -9,12 +9,12 @@ use lib.Dec.{eqb}
 use lib.ListN.{length, getD}
 use Rattle.request.specs.Input.{within, isEntry, isTick, firstRefused}
 use Rattle.request.specs.declared.Request.{Request}
-use Rattle.request.proofs.Tests.{within-low, within-high}
+use Rattle.request.proofs.InputTests.{within-low, within-high}
 use Rattle.field.specs.declared.Aircraft.{Aircraft}
 use Rattle.field.specs.declared.Field.{Field}
-use Rattle.field.specs.Boxes.{nobody, sideOf, everywhere, inZone}
+use Rattle.field.specs.Airspace.{nobody, sideOf, everywhere, inZone}
 use Rattle.field.specs.Lists.{isIn}
-use Rattle.field.proofs.Tests.{if-false, each-from}
+use Rattle.field.proofs.TestLaws.{if-false, each-from}
 use Rattle.questions.specs.declared.Place.{Place}
 use Rattle.questions.specs.Counts.{howMany}
 use Rattle.questions.specs.Find.{aircraftAt, numbersIn}

@@ -9,9 +9,9 @@ use lib.Dec.{eqb, leb}
 use Rattle.leg.specs.Ticks.{Between}
 use Rattle.request.specs.Input.{within}
 use Rattle.request.specs.declared.Request.{Request}
-use Rattle.field.specs.Boxes.{sideOf}
+use Rattle.field.specs.Airspace.{sideOf}
 use Rattle.field.specs.declared.Sequence.{Sequence}
-use Rattle.field.proofs.Tests.{decided, either-way}
+use Rattle.field.proofs.TestLaws.{decided, either-way}
 use Rattle.rules.specs.Kinds.{mayApproach}
 use Rattle.rules.proofs.Checks.{by-kind}
 use Rattle.kept_up.specs.KeptUp.{approachTo, holdTo, leadsTo}

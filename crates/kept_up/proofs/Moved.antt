@@ -10,14 +10,14 @@ use lib.Dec.{T, eqb, ltb}
 use lib.ListN.{length, getD, length-append}
 use Rattle.leg.specs.Ticks.{Between}
 use Rattle.request.specs.Input.{within}
-use Rattle.request.proofs.Tests.{within-low, within-high}
+use Rattle.request.proofs.InputTests.{within-low, within-high}
 use Rattle.field.specs.declared.Aircraft.{Aircraft}
 use Rattle.field.specs.declared.Field.{Field}
-use Rattle.field.specs.Boxes.{nobody, everywhere, inZone}
+use Rattle.field.specs.Airspace.{nobody, everywhere, inZone}
 use Rattle.field.specs.Lists.{isIn, allDifferent}
-use Rattle.field.proofs.Lists.{every-listed, zone-listed, absent-left, absent-right}
-use Rattle.field.proofs.Parts.{and-then, and-cut}
-use Rattle.field.proofs.Tests.{decided, passed, if-true, if-false}
+use Rattle.field.proofs.NumberLists.{every-listed, zone-listed, absent-left, absent-right}
+use Rattle.field.proofs.TestParts.{and-then, and-cut}
+use Rattle.field.proofs.TestLaws.{decided, passed, if-true, if-false}
 use Rattle.questions.specs.declared.Place.{Place}
 use Rattle.questions.specs.Counts.{howMany, presentOn}
 use Rattle.questions.specs.Find.{aircraftAt, nowhere, placeFrom, findIn, placeOf, numbersIn}

@@ -12,9 +12,9 @@ use lib.ListN.{length, length-map}
 use Rattle.request.specs.Input.{within}
 use Rattle.request.specs.declared.Request.{Request}
 use Rattle.field.specs.declared.Field.{Field}
-use Rattle.field.specs.Boxes.{inZone}
-use Rattle.field.proofs.Parts.{and-cut}
-use Rattle.field.proofs.Tests.{decided, pass, if-true, if-false}
+use Rattle.field.specs.Airspace.{inZone}
+use Rattle.field.proofs.TestParts.{and-cut}
+use Rattle.field.proofs.TestLaws.{decided, pass, if-true, if-false}
 use Rattle.questions.specs.declared.Place.{Place}
 use Rattle.questions.specs.Counts.{howMany, presentOn}
 use Rattle.questions.specs.Find.{nowhere, placeOf}
@@ -24,11 +24,11 @@ use Rattle.laws.proofs.EditLaws.{Shaped}
 use Rattle.laws.proofs.BoundLaws.{numbers-different, five-present}
 use Rattle.finder.specs.declared.Entry.{Entry}
 use Rattle.finder.specs.declared.Index.{Index}
-use Rattle.finder.specs.Finder.{unused, put, indexOf, InOrder, foundAmong, foundIn}
+use Rattle.finder.specs.Finder.{unused, putAmong, indexOf, InOrder, foundAmong, foundIn}
 use Rattle.finder.proofs.Found.{free}
 use Rattle.finder.proofs.Putting.{put-length}
 use Rattle.finder.proofs.Ordered.{index-in-order, put-ordered}
-use Rattle.finder.proofs.Theorems.{found-as-looked, index-free}
+use Rattle.finder.proofs.IndexLaws.{found-as-looked, index-free}
 use Rattle.finder.proofs.Determined.{HaveZones, put-zoned, index-zoned, index-length, index-determined}
 use Rattle.rules.specs.Kinds.{placeBefore, zoneBefore, madeRoom}
 use Rattle.rules.specs.Step.{effectOf, numberOf}
@@ -144,9 +144,9 @@ module _ (f g : Field) (before : T (withinBounds f)) (after : T (withinBounds g)
             ∙ sym (others-come (l .between) g w n (l .come) m other)
 
     -- Somebody has come onto the field.
-    put-own : (c : Come h g w n) → placeOf h n .zone ≡ 0 → 1 ≤ free xs → place ≡ suc (howMany h w) → record { entries = put goes xs } ≡ indexOf g
+    put-own : (c : Come h g w n) → placeOf h n .zone ≡ 0 → 1 ≤ free xs → place ≡ suc (howMany h w) → record { entries = putAmong goes xs } ≡ indexOf g
     put-own c absent room there =
-        own-index (put goes xs)
+        own-index (putAmong goes xs)
         (record {
           long = put-length goes xs ∙ ready .long;
           order = put-ordered 0 goes some xs (ready .order);

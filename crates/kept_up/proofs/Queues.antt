@@ -13,12 +13,12 @@ use Rattle.leg.specs.Ticks.{Between}
 use Rattle.request.specs.Input.{within}
 use Rattle.field.specs.declared.Aircraft.{Aircraft}
 use Rattle.field.specs.declared.Field.{Field}
-use Rattle.field.specs.Boxes.{right, left, nobody, operation, everywhere, zonesFrom, inZone, zoneOf, arrived}
+use Rattle.field.specs.Airspace.{right, left, nobody, operation, everywhere, zonesFrom, inZone, zoneOf, arrived}
 use Rattle.field.specs.Edits.{withoutHead, withTail}
 use Rattle.field.specs.Lists.{isIn, every}
-use Rattle.field.proofs.Arrival.{into-arrived}
-use Rattle.field.proofs.Parts.{and-cut}
-use Rattle.field.proofs.Tests.{decided, if-true, if-false, every-from, each-operation}
+use Rattle.field.proofs.ArrivalLaws.{into-arrived}
+use Rattle.field.proofs.TestParts.{and-cut}
+use Rattle.field.proofs.TestLaws.{decided, if-true, if-false, every-from, each-operation}
 use Rattle.questions.specs.declared.Place.{Place}
 use Rattle.questions.specs.Counts.{total, howMany, isEmpty, inOperation, presentOn}
 use Rattle.questions.specs.Find.{aircraftAt, placeOf, numbersIn}

@@ -12,20 +12,21 @@ use lib.ListN.{length, getD}
 use Rattle.leg.specs.Ticks.{Between}
 use Rattle.request.specs.Input.{within, isEntry, isTick, firstRefused}
 use Rattle.request.specs.declared.Request.{Request}
-use Rattle.request.proofs.Tests.{within-low, within-high}
+use Rattle.request.proofs.InputTests.{within-low, within-high}
 use Rattle.request.proofs.ByKind.{kind-known, entry-known}
 use Rattle.field.specs.declared.Aircraft.{Aircraft}
 use Rattle.field.specs.declared.Field.{Field}
-use Rattle.field.specs.Boxes.{right, left, nobody, sideOf, isSide, opposite, at3000, at2000, base, missed, finalApproach, inZone, zoneOf, entering, withFix, turnedAway}
+use Rattle.field.specs.Airspace.{right, left, nobody, sideOf, isSide, opposite, at3000, at2000, base, missed, finalApproach, inZone, zoneOf, entering, withFix, arrivedByMiss}
 use Rattle.field.specs.Edits.{withSequence}
 use Rattle.field.specs.Lists.{every}
-use Rattle.field.proofs.Arrival.{into-turned-away}
-use Rattle.field.proofs.Parts.{or-else}
-use Rattle.field.proofs.Tests.{decided, pass, passed, if-true, if-false, either-way, each-from}
+use Rattle.field.proofs.ArrivalLaws.{into-arrived-by-miss}
+use Rattle.field.proofs.TestParts.{or-else}
+use Rattle.field.proofs.TestLaws.{decided, pass, passed, if-true, if-false, either-way, each-from}
 use Rattle.questions.specs.Counts.{howMany, isEmpty, inArea, approachHolds, potentialOf}
 use Rattle.questions.specs.Find.{aircraftAt}
 use Rattle.questions.proofs.FindLaws.{at}
-use Rattle.bounds.specs.Bounds.{boundB, withinBounds, fitsZone}
+use Rattle.fits.specs.Fits.{fitsZone}
+use Rattle.bounds.specs.Bounds.{boundB, withinBounds}
 use Rattle.laws.proofs.EditLaws.{Shaped}
 use Rattle.laws.proofs.BoundLaws.{within-each}
 use Rattle.laws.proofs.Fits.{fits-parts, all-fit}
@@ -236,7 +237,7 @@ module _ (f : Field) (sh : Shaped f) (r : Request) (e : numberOf f r ≡ 0) wher
       (led-same (λ y. ap (λ (x : Field). inZone x y) (effect-at f r q))
       (put-led f sh 12 w n (in-area 12 (omega arith) (omega arith)) (in-area w (omega arith) (omega (arith, high))) apart
       (room-in f bounded 12 w (in-operation 12 (omega arith) (omega arith)) (in-operation w (omega arith) (omega (arith, high))) apart has) head
-      (withFix (turnedAway (f .legs) w a) (fixAfterMiss f a)) (into-turned-away (f .legs) w a .number ∙ head-alike f 12 n head))))
+      (withFix (arrivedByMiss (f .legs) w a) (fixAfterMiss f a)) (into-arrived-by-miss (f .legs) w a .number ∙ head-alike f 12 n head))))
     where
       either-side : (s : ℕ) → T (eqb s right || eqb s left) → sideOf s ≡ s
       either-side s u =

@@ -5,11 +5,11 @@ use Prim.Native.Nat.{ℕ, _-_}
 use lib.Dec.{eqb, ltb, leb}
 use Rattle.request.specs.Input.{within}
 use Rattle.request.specs.declared.Request.{Request}
-use Rattle.field.specs.Boxes.{sideOf, at3000, at2000, lateral, missed, base, intermediate, finalApproach, runway}
+use Rattle.field.specs.Airspace.{sideOf, at3000, at2000, lateral, missed, base, intermediate, finalApproach, runway}
 use Rattle.field.specs.declared.Sequence.{Sequence}
 use Rattle.finder.specs.declared.Entry.{Entry}
 use Rattle.finder.specs.declared.Index.{Index}
-use Rattle.finder.specs.Finder.{unused, put}
+use Rattle.finder.specs.Finder.{unused, putAmong}
 use Rattle.rules.specs.Kinds.{mayApproach}
 use Rattle.rules.specs.Step.{byKind}
 
@@ -80,7 +80,7 @@ without number (e ∷ es) = cond (eqb (e .number) number) (es ++ (unused ∷ [])
 
 -- entries after an aircraft has gone from the head of zone `from`, or from outside the field where that is 0, to where the entry `to` says
 abbrev pub arrivedAt : ℕ → Entry → List Entry → List Entry
-arrivedAt from to es = cond (eqb from 0) (put to es) (movedEntries from to es)
+arrivedAt from to es = cond (eqb from 0) (putAmong to es) (movedEntries from to es)
 
 -- the index after that: to zone 0 it has left the field, and at 3000, zones 1 and 2, whoever was there has made room
 unfoldable pub keptUp : ℕ → Entry → Index → Index

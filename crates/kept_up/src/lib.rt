@@ -1,6 +1,6 @@
 // Document 02, 2.9: the index kept up by a request (specs/KeptUp.antt).
 use field::Sequence;
-use field::boxes::side_of;
+use field::airspace::side_of;
 use field::zones::AT_2000;
 use field::zones::BASE;
 use field::zones::FINAL;

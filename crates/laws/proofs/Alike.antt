@@ -9,13 +9,13 @@ use Rattle.field.specs.declared.Aircraft.{Aircraft}
 use Rattle.field.specs.declared.Sequence.{Sequence}
 use Rattle.field.specs.declared.Field.{Field}
 use Rattle.questions.specs.declared.Place.{Place}
-use Rattle.field.specs.Boxes.{right, left, at3000, at2000, lateral, missed, finalApproach, runway, area, zonesFrom, operation, everywhere, nobody, inZone, orderOf}
+use Rattle.field.specs.Airspace.{right, left, at3000, at2000, lateral, missed, finalApproach, runway, area, zonesFrom, operation, everywhere, nobody, inZone, orderOf}
 use Rattle.field.specs.Lists.{isIn, every, allDifferent}
 use Rattle.questions.specs.Counts.{total, haveFix, howMany, howManyWithFix, inOperation, inArea, perFix}
 use Rattle.questions.specs.Find.{placeOf, aircraftAt, fixOf, isFirst, numbersIn}
 use Rattle.bounds.specs.Bounds.{boundA, boundB, lateralRule, boundC, boundD, finalFirst, alternate, boundF}
 use Rattle.numbers.specs.Numbers.{numbersDiffer, sequenceExact}
-use Rattle.questions.proofs.Listed.{numberOf}
+use Rattle.questions.proofs.NumbersListed.{numberOf}
 use Rattle.questions.proofs.FindLaws.{look-up-same, numbers-same}
 
 abbrev pub fixOfOne : Aircraft → ℕ

@@ -10,7 +10,7 @@ use lib.ListN.{length, drop}
 use Rattle.leg.specs.Ticks.{Between}
 use Rattle.field.specs.declared.Legs.{Legs}
 use Rattle.field.specs.declared.Field.{Field}
-use Rattle.field.specs.Boxes.{isSide, zoneOf, queueOf, inZone, orderOf, emptyField, runway, everywhere}
+use Rattle.field.specs.Airspace.{isSide, zoneOf, queueOf, inZone, orderOf, emptyField, runway, everywhere}
 use Rattle.questions.specs.Counts.{howMany, howManyWithFix, presentOn, inOperation, inArea, perFix}
 use Rattle.field.specs.Lists.{every, allDifferent}
 use Rattle.bounds.specs.Bounds.{boundA, boundB, lateralRule, boundC, boundD, finalFirst, isNobody, zoneKept, sequenceKept, boundE, boundF, withinBounds}
@@ -18,7 +18,7 @@ use Rattle.fits.specs.Fits.{legalLegs, boundG}
 use Rattle.questions.specs.Find.{numbersIn}
 use Rattle.numbers.specs.Numbers.{numbersDiffer, sequenceExact}
 use Rattle.laws.proofs.EditLaws.{Shaped, shaped-by-zones}
-use Rattle.field.proofs.Lists.{every-listed, zone-listed}
+use Rattle.field.proofs.NumberLists.{every-listed, zone-listed}
 
 -- The empty field is within the bounds exactly where its legs are legal.
 pub empty-within : (legs : Legs) → withinBounds (emptyField legs) ≡ legalLegs legs

@@ -13,11 +13,11 @@ use Rattle.leg.specs.Ticks.{Between}
 use Rattle.field.specs.declared.Aircraft.{Aircraft}
 use Rattle.field.specs.declared.Zone.{Zone}
 use Rattle.field.specs.declared.Field.{Field}
-use Rattle.field.specs.Boxes.{queueOf, inZone}
+use Rattle.field.specs.Airspace.{queueOf, inZone}
 use Rattle.field.specs.Lists.{isIn, allDifferent}
 use Rattle.questions.specs.Counts.{total}
 use Rattle.field.specs.Edits.{withZone}
-use Rattle.field.proofs.Tests.{failed, decided, if-true, if-false}
+use Rattle.field.proofs.TestLaws.{failed, decided, if-true, if-false}
 use Rattle.laws.proofs.EditLaws.{queue-replaced, queue-kept}
 
 -- ---- a sum over zones that differs at one of them

@@ -15,11 +15,11 @@ use Rattle.field.specs.declared.Aircraft.{Aircraft}
 use Rattle.field.specs.declared.Zone.{Zone}
 use Rattle.field.specs.declared.Sequence.{Sequence}
 use Rattle.field.specs.declared.Field.{Field}
-use Rattle.field.specs.Boxes.{nobody, emptyZone, zoneOf, queueOf, inZone}
+use Rattle.field.specs.Airspace.{nobody, emptyZone, zoneOf, queueOf, inZone}
 use Rattle.questions.specs.Counts.{howMany}
 use Rattle.field.specs.Edits.{withoutHead, withTail, withZone}
 use Rattle.field.proofs.Arrays.{set-from-one}
-use Rattle.field.proofs.Tests.{decided, if-true, if-false, either-way}
+use Rattle.field.proofs.TestLaws.{decided, if-true, if-false, either-way}
 
 -- ---- shapes
 

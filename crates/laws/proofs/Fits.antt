@@ -14,17 +14,17 @@ use Rattle.leg.specs.Progress.{whole, waitedWithin, legalLeg, legalMissedLeg, m
 use Rattle.leg.specs.Ticks.{Between}
 use Rattle.leg.specs.declared.Progress.{Progress}
 use Rattle.leg.specs.declared.Progress.the-variants.{Flying}
-use Rattle.leg.proofs.Theorems.{zero-within-up-to, zero-waited, missed-leg-legal}
+use Rattle.leg.proofs.ProgressLaws.{zero-within-up-to, zero-waited, missed-leg-legal}
 use Rattle.leg.proofs.Missed.{equal-legal, equal-self, longer-legal}
 use Rattle.field.specs.declared.Aircraft.{Aircraft}
 use Rattle.field.specs.declared.Legs.{Legs}
 use Rattle.field.specs.declared.Field.{Field}
 use Rattle.field.specs.Lists.{every}
-use Rattle.field.specs.Boxes.{right, left, missed, finalApproach, everywhere, inZone, isSide, isFlyingZone, legOf, entering, arrived, turnedAway, withFix}
+use Rattle.field.specs.Airspace.{right, left, missed, finalApproach, everywhere, inZone, isSide, isFlyingZone, legOf, entering, arrived, arrivedByMiss, withFix}
 use Rattle.fits.specs.Fits.{isWaiting, legFits, fitsZone, legalLegs, boundG}
-use Rattle.field.proofs.Arrival.{progress-by, leg-not-flown, Into, into-arrived, into-turned-away}
-use Rattle.field.proofs.Parts.{or-else}
-use Rattle.field.proofs.Tests.{pass, passed, decided, if-true, if-false, either-way, each-from, every-from}
+use Rattle.field.proofs.ArrivalLaws.{progress-by, leg-not-flown, Into, into-arrived, into-arrived-by-miss}
+use Rattle.field.proofs.TestParts.{or-else}
+use Rattle.field.proofs.TestLaws.{pass, passed, decided, if-true, if-false, either-way, each-from, every-from}
 
 -- ---- an aircraft that fits its zone
 
@@ -177,10 +177,10 @@ pub arrived-fits : (legs : Legs) → T (legalLegs legs) → (from to : ℕ) (a :
 arrived-fits legs l from to a t = into-fits legs l from to (legOf legs to) a (arrived legs to a) (into-arrived legs to a) (zone-leg-fits legs l to) t
 
 -- And so does one that misses, in a missed zone: the leg ahead is from 1/64 of a mile to 128 miles (02, 2.7).
-pub turned-away-fits : (legs : Legs) → T (legalLegs legs) → (z : ℕ) (a : Aircraft) → (eqb z (missed right) || eqb z (missed left)) ≡ true
-    → T (fitsZone legs finalApproach a) → T (fitsZone legs z (turnedAway legs z a))
+pub arrived-by-miss-fits : (legs : Legs) → T (legalLegs legs) → (z : ℕ) (a : Aircraft) → (eqb z (missed right) || eqb z (missed left)) ≡ true
+    → T (fitsZone legs finalApproach a) → T (fitsZone legs z (arrivedByMiss legs z a))
 unfolding legFits isFlyingZone legalLegs legOf
-turned-away-fits legs l z a e t =
+arrived-by-miss-fits legs l z a e t =
     let p = fits-parts legs finalApproach a t in
     let m = legalLeg (legs .missed) in
     let b = legalLeg (legs .base) in
@@ -189,7 +189,7 @@ turned-away-fits legs l z a e t =
     let last = equal-legal (a .leg) (legs .«final_approach») (and-r (m && b && i) f l) (p .own) in
     let ahead = missedLeg (legs .missed) (a .progress) (a .leg) in
     let legal : T (legalMissedLeg ahead) = missed-leg-legal (legs .missed) (a .leg) (a .progress) (and-l m b (and-l (m && b) i (and-l (m && b && i) f l))) last (p .along refl) in
-    into-fits legs l finalApproach z ahead a (turnedAway legs z a) (into-turned-away legs z a) (subst T (sym (if-true (legalMissedLeg ahead) (eq ahead (legOf legs z)) e)) legal) t
+    into-fits legs l finalApproach z ahead a (arrivedByMiss legs z a) (into-arrived-by-miss legs z a) (subst T (sym (if-true (legalMissedLeg ahead) (eq ahead (legOf legs z)) e)) legal) t
 
 -- ---- an aircraft with another fix
 

@@ -17,15 +17,15 @@ use Rattle.field.specs.declared.Zone.{Zone}
 use Rattle.field.specs.declared.Legs.{Legs}
 use Rattle.field.specs.declared.Sequence.{Sequence}
 use Rattle.field.specs.declared.Field.{Field}
-use Rattle.field.specs.Boxes.{nobody, emptyZone, isSide, everywhere, zoneOf, queueOf, inZone}
+use Rattle.field.specs.Airspace.{nobody, emptyZone, isSide, everywhere, zoneOf, queueOf, inZone}
 use Rattle.field.specs.Edits.{withoutHead, withTail, withZone, withSequence}
 use Rattle.field.specs.Lists.{every}
 use Rattle.bounds.specs.Bounds.{isNobody, zoneKept, sequenceKept, boundE, withinBounds}
 use Rattle.fits.specs.Fits.{fitsZone, legalLegs, boundG}
 use Rattle.tick.specs.Tick.{ticked}
 use Rattle.tick.proofs.Tick.{tickedIn, length-ticked}
-use Rattle.field.proofs.Tests.{passed, decided, either-way, if-true, if-false}
-use Rattle.questions.proofs.Listed.{numberOf}
+use Rattle.field.proofs.TestLaws.{passed, decided, either-way, if-true, if-false}
+use Rattle.questions.proofs.NumbersListed.{numberOf}
 use Rattle.laws.proofs.EditLaws.{ShapedZone, no-zone-empty, shaped-empty-zone, head-taken, tail-put, shaped-without-head, shaped-with-tail, zone-replaced, zone-kept}
 use Rattle.laws.proofs.Alike.{fixOfOne, Alike, a-alike, b-alike, c-alike, d-alike, differ-alike, exact-alike, first-alike, f-alike}
 use Rattle.laws.proofs.BoundLaws.{within-each, each-within}

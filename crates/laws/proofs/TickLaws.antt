@@ -17,18 +17,18 @@ use Rattle.leg.specs.Progress.{whole, progressAfter, waitedWith}
 use Rattle.leg.specs.Ticks.{Between, flying}
 use Rattle.leg.specs.declared.Progress.{Progress}
 use Rattle.leg.specs.declared.Progress.the-variants.{Waiting, Flying}
-use Rattle.leg.proofs.Theorems.{within-kept-up-to, waited-kept-up-to, flying-kept}
+use Rattle.leg.proofs.ProgressLaws.{within-kept-up-to, waited-kept-up-to, flying-kept}
 use Rattle.field.specs.declared.Aircraft.{Aircraft}
 use Rattle.field.specs.declared.Zone.{Zone}
 use Rattle.field.specs.declared.Legs.{Legs}
 use Rattle.field.specs.declared.Field.{Field}
-use Rattle.field.specs.Boxes.{isSide, everywhere, isFlyingZone, emptyZone, zoneOf, queueOf, inZone}
+use Rattle.field.specs.Airspace.{isSide, everywhere, isFlyingZone, emptyZone, zoneOf, queueOf, inZone}
 use Rattle.field.specs.Lists.{every}
 use Rattle.bounds.specs.Bounds.{isNobody, zoneKept, sequenceKept, boundE, withinBounds}
 use Rattle.fits.specs.Fits.{isWaiting, fitsZone, legalLegs, boundG}
 use Rattle.tick.specs.Tick.{tickedAircraft, tickedZone, tickedFrom, ticked}
-use Rattle.field.proofs.Tests.{pass, decided, either-way}
-use Rattle.questions.proofs.Listed.{numberOf}
+use Rattle.field.proofs.TestLaws.{pass, decided, either-way}
+use Rattle.questions.proofs.NumbersListed.{numberOf}
 use Rattle.tick.proofs.Tick.{tickedIn, length-ticked, getD-ticked}
 use Rattle.laws.proofs.Alike.{fixOfOne, Alike, a-alike, b-alike, c-alike, d-alike, differ-alike, exact-alike, first-alike, f-alike}
 use Rattle.laws.proofs.BoundLaws.{within-each, each-within}

@@ -1,8 +1,8 @@
-pub mod Bytes
-pub mod Sizes
-pub mod ReadBack
+pub mod BytesAt
+pub mod PartSizes
+pub mod HistoryReadBack
 pub mod WriteBack
 pub mod NoNan
 pub mod Owned
-pub mod Kept
-pub mod States
+pub mod StaysHeld
+pub mod CallsReadBack

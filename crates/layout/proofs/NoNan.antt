@@ -18,23 +18,23 @@ use Rattle.field.specs.declared.Aircraft.{Aircraft}
 use Rattle.field.specs.declared.Zone.{Zone}
 use Rattle.field.specs.declared.Legs.{Legs}
 use Rattle.field.specs.declared.Field.{Field}
-use Rattle.field.specs.Boxes.{right, left, missed, everywhere, isFlyingZone, isSide, emptyZone, zoneOf, queueOf, inZone, legOf}
+use Rattle.field.specs.Airspace.{right, left, missed, everywhere, isFlyingZone, isSide, emptyZone, zoneOf, queueOf, inZone, legOf}
 use Rattle.field.specs.Lists.{every, Each}
-use Rattle.field.proofs.Lists.{every-listed, zone-listed}
-use Rattle.field.proofs.Tests.{either-way}
+use Rattle.field.proofs.NumberLists.{every-listed, zone-listed}
+use Rattle.field.proofs.TestLaws.{either-way}
 use Rattle.fits.specs.Fits.{isWaiting, legFits, fitsZone, legalLegs, boundG}
 use Rattle.bounds.specs.Bounds.{isNobody, zoneKept, withinBounds}
 use Rattle.finder.specs.declared.Indexed.{Indexed}
 use Rattle.finder.specs.Finder.{indexOf, sameIndex, withinBoundsIndexed}
-use Rattle.owners.proofs.Lists.{each-parts, each-places}
+use Rattle.owners.proofs.EachOfList.{each-parts, each-places}
 use Rattle.history.specs.declared.History.{History}
 use Rattle.history.specs.History.{mostKept, counted, keptWithinBounds, withinBoundsHistory}
 use Rattle.laws.proofs.Fits.{Fits, fits-parts, all-fit}
 use Rattle.laws.proofs.BoundLaws.{within-each, within-e}
 use Rattle.layout.specs.Held.{NoNan, ProgressWith, AircraftWith, ZoneWith, LegsWith, FieldWith, IndexedWith, HistoryWith, HistoryNoNan}
-use Rattle.layout.specs.Read.{several, aircraftSize, zoneSize, fieldSize, stateSize, aircraftAt, zoneAt, sequenceAt, fieldAt, indexedAt, historyOf}
+use Rattle.layout.specs.Read.{several, aircraftSize, zoneSize, fieldSize, stateSize, readAircraft, readZone, readSequence, readField, readIndexed, readHistory}
 use Rattle.layout.specs.Written.{historyBytes}
-use Rattle.layout.proofs.Sizes.{Any}
+use Rattle.layout.proofs.PartSizes.{Any}
 use Rattle.layout.proofs.WriteBack.{write-back}
 
 -- ---- a float that compares
@@ -177,34 +177,34 @@ each-several P read size one zero at = tt
 each-several P read size one (suc n) at = (one at, each-several P read size one n (at + size))
 
 module _ (b : List ℕ) where
-  aircraft-read : (at : ℕ) → AircraftWith Any (aircraftAt b at)
-  aircraft-read at = record { progress = any (aircraftAt b at .progress); waited = tt; leg = tt }
+  aircraft-read : (at : ℕ) → AircraftWith Any (readAircraft b at)
+  aircraft-read at = record { progress = any (readAircraft b at .progress); waited = tt; leg = tt }
     where
       any : (p : Progress) → ProgressWith Any p
       any Waiting = tt
       any (Flying miles) = tt
 
-  zone-read : (at : ℕ) → ZoneWith Any (zoneAt b at)
-  unfolding zoneAt
-  zone-read at = record { places = refl; aircraft = each-several (AircraftWith Any) (aircraftAt b) aircraftSize aircraft-read 4 at }
+  zone-read : (at : ℕ) → ZoneWith Any (readZone b at)
+  unfolding readZone
+  zone-read at = record { places = refl; aircraft = each-several (AircraftWith Any) (readAircraft b) aircraftSize aircraft-read 4 at }
 
-  indexed-read : (at : ℕ) → IndexedWith Any (indexedAt b at)
-  unfolding indexedAt fieldAt sequenceAt
+  indexed-read : (at : ℕ) → IndexedWith Any (readIndexed b at)
+  unfolding readIndexed readField readSequence
   indexed-read at = record {
     field = record {
       places = refl;
-      zones = each-several (ZoneWith Any) (zoneAt b) zoneSize zone-read 13 at;
+      zones = each-several (ZoneWith Any) (readZone b) zoneSize zone-read 13 at;
       numbers = refl;
       legs = record { missed = tt; base = tt; intermediate = tt; last = tt };
     };
     entries = refl;
   }
 
-  state-read : HistoryWith Any (historyOf b)
-  unfolding historyOf
-  state-read = record { now = indexed-read 0; places = refl; kept = each-several (IndexedWith Any) (indexedAt b) fieldSize indexed-read mostKept fieldSize }
+  state-read : HistoryWith Any (readHistory b)
+  unfolding readHistory
+  state-read = record { now = indexed-read 0; places = refl; kept = each-several (IndexedWith Any) (readIndexed b) fieldSize indexed-read mostKept fieldSize }
 
 -- bytes that are a state within the bounds are what is written of it, where no kept field that does not count has a NaN
-pub write-back-within : (b : List ℕ) → Each (λ (x : ℕ). x < 256) b → length b ≡ stateSize → T (withinBoundsHistory (historyOf b))
-    → Each (IndexedWith NoNan) (drop (historyOf b .count) (historyOf b .kept)) → historyBytes (historyOf b) ≡ b
-write-back-within b bytes long t past = write-back b bytes long (history-no-nan (historyOf b) (state-read b) t past)
+pub write-back-within : (b : List ℕ) → Each (λ (x : ℕ). x < 256) b → length b ≡ stateSize → T (withinBoundsHistory (readHistory b))
+    → Each (IndexedWith NoNan) (drop (readHistory b .count) (readHistory b .kept)) → historyBytes (readHistory b) ≡ b
+write-back-within b bytes long t past = write-back b bytes long (history-no-nan (readHistory b) (state-read b) t past)

@@ -1,4 +1,4 @@
--- What owning a history tells of it: `HistoryHeld`. `Is the-row x vs` is what field's proofs/Known.antt says it is. Assumes nothing.
+-- What owning a history tells of it: `HistoryHeld`. `Is the-row x vs` is what field's proofs/FieldKnown.antt says it is. Assumes nothing.
 use mathlib.Core.List.{List, [], _∷_, map}
 use lib.Ieee.{Float, binary64}
 use mir.Val.{Val}
@@ -14,7 +14,7 @@ use Rattle.field.proofs.Legs as legs
 use Rattle.field.proofs.Field as field
 use Rattle.finder.proofs.Indexed as indexed
 use Rattle.history.proofs.History as history
-use Rattle.field.proofs.Known.{array-known, sequence-known}
+use Rattle.field.proofs.FieldKnown.{array-known, sequence-known}
 use Rattle.leg.specs.declared.Progress.{Progress}
 use Rattle.leg.specs.declared.Progress.the-variants.{Waiting, Flying}
 use Rattle.field.specs.declared.Aircraft.{Aircraft}
@@ -22,7 +22,7 @@ use Rattle.field.specs.declared.Zone.{Zone}
 use Rattle.field.specs.declared.Legs.{Legs}
 use Rattle.field.specs.declared.Field.{Field}
 use Rattle.finder.specs.declared.Indexed.{Indexed}
-use Rattle.finder.proofs.Known.{index-known}
+use Rattle.finder.proofs.IndexKnown.{index-known}
 use Rattle.history.specs.declared.History.{History}
 use Rattle.field.specs.Lists.{Each}
 use Rattle.layout.specs.Held.{MilesHeld, ProgressWith, AircraftWith, ZoneWith, LegsWith, FieldWith, IndexedWith, HistoryHeld}

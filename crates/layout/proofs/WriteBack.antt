@@ -16,13 +16,13 @@ use Rattle.practice.specs.Practice.{bytes16, bytes32}
 use Rattle.words.specs.Words.{number64, bytes64, milesOf, bitsOf}
 use Rattle.leg.specs.declared.Progress.{Progress}
 use Rattle.leg.specs.declared.Progress.the-variants.{Waiting, Flying}
-use Rattle.field.proofs.Tests.{if-true, if-false}
-use Rattle.layout.specs.Read.{several, waiting, progressOf, aircraftAt, zoneAt, sequenceAt, legsAt, fieldAt, entryAt, indexedAt, historyOf, stateSize}
-use Rattle.layout.specs.Written.{bytesOfEach, progressBits, aircraftBytes, zoneBytes, sequenceBytes, legsBytes, fieldBytes, entryBytes, indexedBytes, historyBytes}
+use Rattle.field.proofs.TestLaws.{if-true, if-false}
+use Rattle.layout.specs.Read.{several, waiting, progressOf, readAircraft, readZone, readSequence, readLegs, readField, readEntry, readIndexed, readHistory, stateSize}
+use Rattle.layout.specs.Written.{bytesOfEach, progressBits, aircraftBytes, zoneBytes, sequenceBytes, legsBytes, fieldBytes, indexEntryBytes, indexedBytes, historyBytes}
 use Rattle.field.specs.Lists.{Each}
 use Rattle.layout.specs.Held.{NoNan, ProgressWith, AircraftWith, ZoneWith, LegsWith, FieldWith, IndexedWith, HistoryNoNan}
-use Rattle.layout.proofs.Sizes.{Any, any-each, aircraft-size, zone-size, sequence-size, zones-size, field-size, indexed-size, kept-size, state-size}
-use Rattle.layout.proofs.Bytes.{Holds, each-size}
+use Rattle.layout.proofs.PartSizes.{Any, any-each, aircraft-size, zone-size, sequence-size, zones-size, field-size, indexed-size, kept-size, state-size}
+use Rattle.layout.proofs.BytesAt.{Holds, each-size}
 
 holds-both : (b : List ℕ) (at : ℕ) (xs ys : List ℕ) → Holds b at xs → {n : ℕ} → length xs ≡ n → Holds b (at + n) ys → Holds b at (xs ++ ys)
 holds-both b at [] ys p {n} e q = subst (λ (i : ℕ). Holds b i ys) (omega arith) q
@@ -85,8 +85,8 @@ module _ (b : List ℕ) (small : (i : ℕ) → getD b i 0 < 256) where
   each-there P write size sized read reads (suc n) at ps =
       holds-both b at (write (read at)) (bytesOfEach write (several read size n (at + size))) (reads at (ps .0)) (sized (read at) (ps .0)) (each-there P write size sized read reads n (at + size) (ps .1))
 
-  aircraft-there : (at : ℕ) → AircraftWith NoNan (aircraftAt b at) → Holds b at (aircraftBytes (aircraftAt b at))
-  unfolding aircraftAt aircraftBytes
+  aircraft-there : (at : ℕ) → AircraftWith NoNan (readAircraft b at) → Holds b at (aircraftBytes (readAircraft b at))
+  unfolding readAircraft aircraftBytes
   aircraft-there at p =
       let n = bytes16 (number16 b at) in
       let d = getD b (at + 2) 0 ∷ getD b (at + 3) 0 ∷ [] in
@@ -102,22 +102,22 @@ module _ (b : List ℕ) (small : (i : ℕ) → getD b i 0 < 256) where
       let h5 = holds-both b at (n ++ d ++ s ++ r) w h4 refl (miles-there (at + 14) (p .waited)) in
       holds-both b at (n ++ d ++ s ++ r ++ w) l h5 refl (miles-there (at + 22) (p .leg))
 
-  zone-there : (at : ℕ) → ZoneWith NoNan (zoneAt b at) → Holds b at (zoneBytes (zoneAt b at))
-  unfolding zoneAt zoneBytes
+  zone-there : (at : ℕ) → ZoneWith NoNan (readZone b at) → Holds b at (zoneBytes (readZone b at))
+  unfolding readZone zoneBytes
   zone-there at p =
-      let four = several (aircraftAt b) 30 4 at in
+      let four = several (readAircraft b) 30 4 at in
       let e = each-size (AircraftWith NoNan) aircraftBytes 30 aircraft-size four (p .aircraft) in
       let before : length (bytesOfEach aircraftBytes four) ≡ 120 = e in
-      holds-both b at (bytesOfEach aircraftBytes four) (bytes64 (number64 b (at + 120))) (each-there (AircraftWith NoNan) aircraftBytes 30 aircraft-size (aircraftAt b) aircraft-there 4 at (p .aircraft)) before (there64 (at + 120))
+      holds-both b at (bytesOfEach aircraftBytes four) (bytes64 (number64 b (at + 120))) (each-there (AircraftWith NoNan) aircraftBytes 30 aircraft-size (readAircraft b) aircraft-there 4 at (p .aircraft)) before (there64 (at + 120))
 
-  sequence-there : (at : ℕ) → Holds b at (sequenceBytes (sequenceAt b at))
-  unfolding sequenceAt sequenceBytes
+  sequence-there : (at : ℕ) → Holds b at (sequenceBytes (readSequence b at))
+  unfolding readSequence sequenceBytes
   sequence-there at =
       let four = several (number16 b) 2 4 at in
       holds-both b at (bytesOfEach bytes16 four) (bytes64 (number64 b (at + 8))) (each-there Any bytes16 2 (λ x p. refl) (number16 b) (λ i p. there16 i) 4 at (any-each four)) refl (there64 (at + 8))
 
-  legs-there : (at : ℕ) → LegsWith NoNan (legsAt b at) → Holds b at (legsBytes (legsAt b at))
-  unfolding legsAt legsBytes
+  legs-there : (at : ℕ) → LegsWith NoNan (readLegs b at) → Holds b at (legsBytes (readLegs b at))
+  unfolding readLegs legsBytes
   legs-there at p =
       let m = bytes64 (bitsOf (milesOf (number64 b at))) in
       let s = bytes64 (bitsOf (milesOf (number64 b (at + 8)))) in
@@ -127,49 +127,49 @@ module _ (b : List ℕ) (small : (i : ℕ) → getD b i 0 < 256) where
       let h3 = holds-both b at (m ++ s) i h2 refl (miles-there (at + 16) (p .intermediate)) in
       holds-both b at (m ++ s ++ i) f h3 refl (miles-there (at + 24) (p .last))
 
-  field-there : (at : ℕ) → FieldWith NoNan (fieldAt b at) → Holds b at (fieldBytes (fieldAt b at))
-  unfolding fieldAt fieldBytes
+  field-there : (at : ℕ) → FieldWith NoNan (readField b at) → Holds b at (fieldBytes (readField b at))
+  unfolding readField fieldBytes
   field-there at p =
-      let zs = several (zoneAt b) 128 13 at in
+      let zs = several (readZone b) 128 13 at in
       let z = bytesOfEach zoneBytes zs in
-      let s = sequenceBytes (sequenceAt b (at + 1664)) in
+      let s = sequenceBytes (readSequence b (at + 1664)) in
       let o = getD b (at + 1680) 0 ∷ [] in
-      let l = legsBytes (legsAt b (at + 1681)) in
-      let e1 = zones-size (fieldAt b at) p in
-      let e2 = sequence-size (sequenceAt b (at + 1664)) (p .numbers) in
+      let l = legsBytes (readLegs b (at + 1681)) in
+      let e1 = zones-size (readField b at) p in
+      let e2 = sequence-size (readSequence b (at + 1664)) (p .numbers) in
       let a1 = length-append z s in
       let a2 = length-append (z ++ s) o in
       let two : length (z ++ s) ≡ 1680 = omega (arith, a1, e1, e2) in
       let three : length (z ++ s ++ o) ≡ 1681 = omega (arith, a2, two) in
-      let h1 = holds-both b at z s (each-there (ZoneWith NoNan) zoneBytes 128 zone-size (zoneAt b) zone-there 13 at (p .zones)) e1 (sequence-there (at + 1664)) in
+      let h1 = holds-both b at z s (each-there (ZoneWith NoNan) zoneBytes 128 zone-size (readZone b) zone-there 13 at (p .zones)) e1 (sequence-there (at + 1664)) in
       let next : Holds b (at + 1680) o = (refl, tt) in
       let h2 = holds-both b at (z ++ s) o h1 two next in
       holds-both b at (z ++ s ++ o) l h2 three (legs-there (at + 1681) (p .legs))
 
-  entry-there : (at : ℕ) → Holds b at (entryBytes (entryAt b at))
+  entry-there : (at : ℕ) → Holds b at (indexEntryBytes (readEntry b at))
   entry-there at =
       let place : at + 2 + 1 ≡ at + 3 = omega arith in
       let two : Holds b (at + 2) (getD b (at + 2) 0 ∷ getD b (at + 3) 0 ∷ []) = (refl, (ap (λ (i : ℕ). getD b i 0) place, tt)) in
       holds-both b at (bytes16 (number16 b at)) (getD b (at + 2) 0 ∷ getD b (at + 3) 0 ∷ []) (there16 at) refl two
 
-  indexed-there : (at : ℕ) → IndexedWith NoNan (indexedAt b at) → Holds b at (indexedBytes (indexedAt b at))
-  unfolding indexedAt indexedBytes
+  indexed-there : (at : ℕ) → IndexedWith NoNan (readIndexed b at) → Holds b at (indexedBytes (readIndexed b at))
+  unfolding readIndexed indexedBytes
   indexed-there at p =
-      let es = several (entryAt b) 4 5 (at + 1713) in
-      holds-both b at (fieldBytes (fieldAt b at)) (bytesOfEach entryBytes es) (field-there at (p .field)) (field-size (fieldAt b at) (p .field))
-      (each-there Any entryBytes 4 (λ x p. refl) (entryAt b) (λ i p. entry-there i) 5 (at + 1713) (any-each es))
+      let es = several (readEntry b) 4 5 (at + 1713) in
+      holds-both b at (fieldBytes (readField b at)) (bytesOfEach indexEntryBytes es) (field-there at (p .field)) (field-size (readField b at) (p .field))
+      (each-there Any indexEntryBytes 4 (λ x p. refl) (readEntry b) (λ i p. entry-there i) 5 (at + 1713) (any-each es))
 
-  state-there : HistoryNoNan (historyOf b) → Holds b 0 (historyBytes (historyOf b))
-  unfolding historyOf historyBytes
+  state-there : HistoryNoNan (readHistory b) → Holds b 0 (historyBytes (readHistory b))
+  unfolding readHistory historyBytes
   state-there p =
-      let ks = several (indexedAt b) 1733 8 1733 in
-      let x = indexedBytes (indexedAt b 0) in
+      let ks = several (readIndexed b) 1733 8 1733 in
+      let x = indexedBytes (readIndexed b 0) in
       let k = bytesOfEach indexedBytes ks in
-      let e1 = indexed-size (indexedAt b 0) (p .now) in
-      let e2 = kept-size (historyOf b) p in
+      let e1 = indexed-size (readIndexed b 0) (p .now) in
+      let e2 = kept-size (readHistory b) p in
       let a = length-append x k in
       let two : length (x ++ k) ≡ 15597 = omega (arith, a, e1, e2) in
-      let first = holds-both b 0 x k (indexed-there 0 (p .now)) e1 (each-there (IndexedWith NoNan) indexedBytes 1733 indexed-size (indexedAt b) indexed-there 8 1733 (p .kept)) in
+      let first = holds-both b 0 x k (indexed-there 0 (p .now)) e1 (each-there (IndexedWith NoNan) indexedBytes 1733 indexed-size (readIndexed b) indexed-there 8 1733 (p .kept)) in
       holds-both b 0 (x ++ k) (bytes64 (number64 b 15597)) first two (there64 15597)
 
 -- bytes below 256 each, read where there are none too
@@ -178,5 +178,5 @@ small-each [] p i = omega arith
 small-each (x ∷ xs) p zero = p .0
 small-each (x ∷ xs) p (suc i) = small-each xs (p .1) i
 
-pub write-back : (b : List ℕ) → Each (λ (x : ℕ). x < 256) b → length b ≡ stateSize → HistoryNoNan (historyOf b) → historyBytes (historyOf b) ≡ b
-write-back b bytes long p = all-held b (historyBytes (historyOf b)) (state-size (historyOf b) p ∙ sym long) (state-there b (small-each b bytes) p)
+pub write-back : (b : List ℕ) → Each (λ (x : ℕ). x < 256) b → length b ≡ stateSize → HistoryNoNan (readHistory b) → historyBytes (readHistory b) ≡ b
+write-back b bytes long p = all-held b (historyBytes (readHistory b)) (state-size (readHistory b) p ∙ sym long) (state-there b (small-each b bytes) p)

@@ -59,8 +59,8 @@ abbrev pub progressOf : ℕ → Progress
 progressOf n = cond (eqb n waiting) Waiting (Flying (milesOf n))
 
 -- the aircraft at a place of the bytes
-unfoldable pub aircraftAt : List ℕ → ℕ → Aircraft
-aircraftAt bytes at = record {
+unfoldable pub readAircraft : List ℕ → ℕ → Aircraft
+readAircraft bytes at = record {
   number = number16 bytes at;
   fix = getD bytes (at + 2) 0;
   desk = getD bytes (at + 3) 0;
@@ -73,16 +73,16 @@ aircraftAt bytes at = record {
 -- ---- a field with its index
 
 -- the zone at a place: four aircraft, the head first, and the length
-unfoldable pub zoneAt : List ℕ → ℕ → Zone
-zoneAt bytes at = record { aircraft = several (aircraftAt bytes) aircraftSize 4 at; length = number64 bytes (at + 120) }
+unfoldable pub readZone : List ℕ → ℕ → Zone
+readZone bytes at = record { aircraft = several (readAircraft bytes) aircraftSize 4 at; length = number64 bytes (at + 120) }
 
 -- the sequence at a place: four numbers, and the length
-unfoldable pub sequenceAt : List ℕ → ℕ → Sequence
-sequenceAt bytes at = record { numbers = several (number16 bytes) 2 4 at; length = number64 bytes (at + 8) }
+unfoldable pub readSequence : List ℕ → ℕ → Sequence
+readSequence bytes at = record { numbers = several (number16 bytes) 2 4 at; length = number64 bytes (at + 8) }
 
 -- the legs at a place: missed, base, intermediate and final, in miles
-unfoldable pub legsAt : List ℕ → ℕ → Legs
-legsAt bytes at = record {
+unfoldable pub readLegs : List ℕ → ℕ → Legs
+readLegs bytes at = record {
   missed = milesOf (number64 bytes at);
   base = milesOf (number64 bytes (at + 8));
   intermediate = milesOf (number64 bytes (at + 16));
@@ -90,28 +90,28 @@ legsAt bytes at = record {
 }
 
 -- the field at a place: zones 1 to 13, the sequence, the next fix and the legs
-unfoldable pub fieldAt : List ℕ → ℕ → Field
-fieldAt bytes at = record {
-  zones = several (zoneAt bytes) zoneSize 13 at;
-  sequence = sequenceAt bytes (at + 1664);
+unfoldable pub readField : List ℕ → ℕ → Field
+readField bytes at = record {
+  zones = several (readZone bytes) zoneSize 13 at;
+  sequence = readSequence bytes (at + 1664);
   next = getD bytes (at + 1680) 0;
-  legs = legsAt bytes (at + 1681);
+  legs = readLegs bytes (at + 1681);
 }
 
 -- the entry of the index at a place
-abbrev pub entryAt : List ℕ → ℕ → Entry
-entryAt bytes at = record { number = number16 bytes at; zone = getD bytes (at + 2) 0; place = getD bytes (at + 3) 0 }
+abbrev pub readEntry : List ℕ → ℕ → Entry
+readEntry bytes at = record { number = number16 bytes at; zone = getD bytes (at + 2) 0; place = getD bytes (at + 3) 0 }
 
 -- the field at a place with the index behind it
-unfoldable pub indexedAt : List ℕ → ℕ → Indexed
-indexedAt bytes at = record { field = fieldAt bytes at; index = record { entries = several (entryAt bytes) entrySize 5 (at + 1713) } }
+unfoldable pub readIndexed : List ℕ → ℕ → Indexed
+readIndexed bytes at = record { field = readField bytes at; index = record { entries = several (readEntry bytes) entrySize 5 (at + 1713) } }
 
 -- ---- the state
 
 -- the field, the eight kept ones, oldest first, and how many of them count
-unfoldable pub historyOf : List ℕ → History
-historyOf bytes = record {
-  now = indexedAt bytes 0;
-  kept = several (indexedAt bytes) fieldSize mostKept fieldSize;
+unfoldable pub readHistory : List ℕ → History
+readHistory bytes = record {
+  now = readIndexed bytes 0;
+  kept = several (readIndexed bytes) fieldSize mostKept fieldSize;
   count = number64 bytes 15597;
 }

@@ -54,12 +54,12 @@ unfoldable pub fieldBytes : Field → List ℕ
 fieldBytes f = bytesOfEach zoneBytes (f .zones) ++ sequenceBytes (f .sequence) ++ (f .next ∷ []) ++ legsBytes (f .legs)
 
 -- an entry of the index
-abbrev pub entryBytes : Entry → List ℕ
-entryBytes e = bytes16 (e .number) ++ (e .zone ∷ e .place ∷ [])
+abbrev pub indexEntryBytes : Entry → List ℕ
+indexEntryBytes e = bytes16 (e .number) ++ (e .zone ∷ e .place ∷ [])
 
 -- a field with its index
 unfoldable pub indexedBytes : Indexed → List ℕ
-indexedBytes x = fieldBytes (x .field) ++ bytesOfEach entryBytes (x .index .entries)
+indexedBytes x = fieldBytes (x .field) ++ bytesOfEach indexEntryBytes (x .index .entries)
 
 -- the state
 unfoldable pub historyBytes : History → List ℕ

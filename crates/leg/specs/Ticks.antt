@@ -1,4 +1,4 @@
--- What the theorems of `proofs/Theorems.antt` speak of besides `Progress.antt`: ranges of whole numbers, lists of ticks, and miles that are exactly a whole number of 4096ths. Definitions only.
+-- What the theorems of `proofs/ProgressLaws.antt` speak of besides `Progress.antt`: ranges of whole numbers, lists of ticks, and miles that are exactly a whole number of 4096ths. Definitions only.
 use Prim.Native.Nat.{ℕ, _+_, _^_, _≤_, _<_}
 use mathlib.Core.List.{List, [], _∷_}
 use mathlib.Core.Bool.{Bool, true, false}

@@ -11,9 +11,9 @@ use Rattle.field.specs.declared.Legs.{Legs}
 use Rattle.questions.specs.declared.Place.{Place}
 use Rattle.questions.specs.Find.{placeOf, leaderOf, leaderZone}
 use Rattle.field.specs.Lists.{every, allDifferent}
-use Rattle.order.specs.Model.{Side, lastOr, all}
-use Rattle.field.proofs.Tests.{if-false, failed}
-use Rattle.line.proofs.Lists.{map-append, Ends, nothing, with-last, ends, last-is}
+use Rattle.order.specs.Model.{Side, lastOr}
+use Rattle.field.proofs.TestLaws.{if-false, failed}
+use Rattle.line.proofs.AheadInLists.{map-append, Ends, nothing, with-last, ends, last-is}
 use Rattle.line.proofs.Line.{Placed, zonesIn, numbersOf, fieldOf}
 use Rattle.questions.proofs.FindLaws.{numbers}
 use Rattle.line.proofs.Located.{located, leader-there}
@@ -26,9 +26,9 @@ pub every-at : (p : ℕ → Bool) (g : Placed → ℕ) (a : List Placed) (e : Pl
 every-at p g [] e b t = and-l (p (g e)) (every p (map g b)) t
 every-at p g (x ∷ a) e b t = every-at p g a e b (and-r (p (g x)) (every p (map g (a ++ e ∷ b))) t)
 
-pub all-at : (p : ℕ → Bool) (g : Placed → ℕ) (a : List Placed) (e : Placed) (b : List Placed) → T (all p (map g (a ++ e ∷ b))) → T (p (g e))
-all-at p g [] e b t = and-l (p (g e)) (all p (map g b)) t
-all-at p g (x ∷ a) e b t = all-at p g a e b (and-r (p (g x)) (all p (map g (a ++ e ∷ b))) t)
+pub all-at : (p : ℕ → Bool) (g : Placed → ℕ) (a : List Placed) (e : Placed) (b : List Placed) → T (every p (map g (a ++ e ∷ b))) → T (p (g e))
+all-at p g [] e b t = and-l (p (g e)) (every p (map g b)) t
+all-at p g (x ∷ a) e b t = all-at p g a e b (and-r (p (g x)) (every p (map g (a ++ e ∷ b))) t)
 
 module _ (f : Side) (e : Placed) (b : List Placed) (runway : List Aircraft) (legs : Legs) where
   -- the leader's zone by the leader's number
@@ -40,14 +40,14 @@ module _ (f : Side) (e : Placed) (b : List Placed) (runway : List Aircraft) (leg
       ∙ if-false 0 (placeOf (fieldOf f (a ++ e ∷ b) runway legs) m .zone) (failed {b = eqb m 0} t)
       ∙ p
 
-  go : {a : List Placed} → Ends a → T (allDifferent (numbersOf (a ++ e ∷ b) ++ numbers runway)) → T (every nonzero (numbersOf (a ++ e ∷ b))) → T (all (within 1 12) (zonesIn (a ++ e ∷ b)))
+  go : {a : List Placed} → Ends a → T (allDifferent (numbersOf (a ++ e ∷ b) ++ numbers runway)) → T (every nonzero (numbersOf (a ++ e ∷ b))) → T (every (within 1 12) (zonesIn (a ++ e ∷ b)))
       → leaderZone (fieldOf f (a ++ e ∷ b) runway legs) (e .aircraft .number) ≡ lastOr 0 (zonesIn a)
   unfolding leaderZone
   go nothing d n t = ap (λ (k : ℕ). cond (eqb k 0) 0 (placeOf (fieldOf f (e ∷ b) runway legs) k .zone)) (leader-there f [] e b runway legs d)
   go (with-last a x) d n t =
       let s : (a ++ (x ∷ [])) ++ e ∷ b ≡ a ++ x ∷ e ∷ b = append-assoc a (x ∷ []) (e ∷ b) in
       let m = x .aircraft .number in
-      let u = subst (λ (l : List Placed). T (all (within 1 12) (zonesIn l))) s t in
+      let u = subst (λ (l : List Placed). T (every (within 1 12) (zonesIn l))) s t in
       by-number (a ++ (x ∷ [])) m (lastOr 0 (zonesIn (a ++ (x ∷ []))))
       (leader-there f (a ++ (x ∷ [])) e b runway legs d ∙ ap (lastOr 0) (map-append (λ (p : Placed). p .aircraft .number) a (x ∷ [])) ∙ last-is 0 (numbersOf a) m)
       (every-at nonzero (λ (p : Placed). p .aircraft .number) a x (e ∷ b) (subst (λ (l : List Placed). T (every nonzero (numbersOf l))) s n))
@@ -56,6 +56,6 @@ module _ (f : Side) (e : Placed) (b : List Placed) (runway : List Aircraft) (leg
       (subst (λ (l : List Placed). T (allDifferent (numbersOf l ++ numbers runway))) s d) (all-at (within 1 12) (λ (p : Placed). p .zone) a x (e ∷ b) u))
       ∙ sym (ap (lastOr 0) (map-append (λ (p : Placed). p .zone) a (x ∷ [])) ∙ last-is 0 (zonesIn a) (x .zone)))
 
-  pub leader-zone : (a : List Placed) → T (allDifferent (numbersOf (a ++ e ∷ b) ++ numbers runway)) → T (every nonzero (numbersOf (a ++ e ∷ b))) → T (all (within 1 12) (zonesIn (a ++ e ∷ b)))
+  pub leader-zone : (a : List Placed) → T (allDifferent (numbersOf (a ++ e ∷ b) ++ numbers runway)) → T (every nonzero (numbersOf (a ++ e ∷ b))) → T (every (within 1 12) (zonesIn (a ++ e ∷ b)))
       → leaderZone (fieldOf f (a ++ e ∷ b) runway legs) (e .aircraft .number) ≡ lastOr 0 (zonesIn a)
   leader-zone a = go (ends a)

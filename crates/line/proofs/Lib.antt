@@ -1,8 +1,8 @@
-pub mod Lists
+pub mod AheadInLists
 pub mod Line
-pub mod Counted
+pub mod CountedOnLine
 pub mod Located
 pub mod Leaders
 pub mod Members
 pub mod Orderly
-pub mod Within
+pub mod LineWithin

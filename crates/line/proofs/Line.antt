@@ -15,10 +15,10 @@ use Rattle.field.specs.declared.Zone.{Zone}
 use Rattle.field.specs.declared.Sequence.{Sequence}
 use Rattle.field.specs.declared.Legs.{Legs}
 use Rattle.field.specs.declared.Field.{Field}
-use Rattle.field.specs.Boxes.{everywhere, nobody, zoneOf, queueOf, orderOf, emptyField}
+use Rattle.field.specs.Airspace.{everywhere, nobody, zoneOf, queueOf, orderOf, emptyField}
 use Rattle.field.specs.Edits.{withoutHead, withTail, appended, removed, withZone}
-use Rattle.order.specs.Model.{Side, right, num, nextFix}
-use Rattle.field.proofs.Tests.{same, each-zone}
+use Rattle.order.specs.Model.{Side, rightSide, num, nextFix}
+use Rattle.field.proofs.TestLaws.{same, each-zone}
 
 -- ---- queues
 
@@ -125,6 +125,6 @@ zonesOf line runway z = cond (eqb z 13) (zoneFor runway) (zoneFor (inside z line
 unfoldable pub fieldOf : Side → List Placed → List Aircraft → Legs → Field
 fieldOf first line runway legs = fieldBy (zonesOf line runway) (sequenceFor (numbersOf line)) (num (nextFix first (zonesIn line))) legs
 
-pub empty-is : (legs : Legs) → emptyField legs ≡ fieldOf right [] [] legs
+pub empty-is : (legs : Legs) → emptyField legs ≡ fieldOf rightSide [] [] legs
 unfolding emptyField fieldOf
 empty-is legs = refl

@@ -15,16 +15,16 @@ use Rattle.field.specs.declared.Aircraft.{Aircraft}
 use Rattle.field.specs.declared.Legs.{Legs}
 use Rattle.field.specs.declared.Field.{Field}
 use Rattle.questions.specs.declared.Place.{Place}
-use Rattle.field.specs.Boxes.{everywhere, inZone, orderOf, nobody}
-use Rattle.field.specs.Lists.{isIn, allDifferent}
+use Rattle.field.specs.Airspace.{everywhere, inZone, orderOf, nobody}
+use Rattle.field.specs.Lists.{isIn, allDifferent, every}
 use Rattle.questions.specs.Find.{placeFrom, nowhere, findIn, placeOf, aircraftAt, fixOf, isHead, isFirst, aheadOf, leaderOf}
-use Rattle.order.specs.Model.{Side, lastOr, isNil, all}
-use Rattle.field.proofs.Tests.{pass, if-true, if-false, decided, same, each-zone}
-use Rattle.field.proofs.Lists.{or-false-left, or-false-right, absent-left, absent-right, Alone, alone}
-use Rattle.line.proofs.Lists.{map-append, head-is, ahead-is}
+use Rattle.order.specs.Model.{Side, lastOr, isNil}
+use Rattle.field.proofs.TestLaws.{pass, if-true, if-false, decided, same, each-zone}
+use Rattle.field.proofs.NumberLists.{or-false-left, or-false-right, absent-left, absent-right, Alone, alone}
+use Rattle.line.proofs.AheadInLists.{map-append, head-is, ahead-is}
 use Rattle.questions.proofs.FindLaws.{numbers, at, no-place, place-at}
 use Rattle.line.proofs.Line.{order-for, Placed, zonesIn, numbersOf, inside, fieldOf}
-use Rattle.line.proofs.Counted.{inside-append, in-line, on-runway}
+use Rattle.line.proofs.CountedOnLine.{inside-append, in-line, on-runway}
 
 -- ---- the place in a queue
 -- who is not in the line is in none of its zones
@@ -38,21 +38,21 @@ absent-inside n z (p ∷ line) e = go (eqb (p .zone) z) (absent-inside n z line 
 
 -- ---- the search over zones
 module _ (f : Field) (n : ℕ) where
-  pub find-none : (zs : List ℕ) → T (all (within 1 13) zs) → ((z : ℕ) → T (within 1 13 z) → placeFrom 1 n (inZone f z) ≡ 0) → findIn f n zs ≡ nowhere
+  pub find-none : (zs : List ℕ) → T (every (within 1 13) zs) → ((z : ℕ) → T (within 1 13 z) → placeFrom 1 n (inZone f z) ≡ 0) → findIn f n zs ≡ nowhere
   unfolding findIn
   find-none [] t h = refl
   find-none (z ∷ zs) t h =
-      if-true (findIn f n zs) (at z (placeFrom 1 n (inZone f z))) (eq-eqb (placeFrom 1 n (inZone f z)) 0 (h z (and-l (within 1 13 z) (all (within 1 13) zs) t)))
-      ∙ find-none zs (and-r (within 1 13 z) (all (within 1 13) zs) t) h
+      if-true (findIn f n zs) (at z (placeFrom 1 n (inZone f z))) (eq-eqb (placeFrom 1 n (inZone f z)) 0 (h z (and-l (within 1 13 z) (every (within 1 13) zs) t)))
+      ∙ find-none zs (and-r (within 1 13 z) (every (within 1 13) zs) t) h
 
-  pub find-at : (zs : List ℕ) (w k : ℕ) → T (all (within 1 13) zs) → isIn w zs ≡ true → placeFrom 1 n (inZone f w) ≡ suc k
+  pub find-at : (zs : List ℕ) (w k : ℕ) → T (every (within 1 13) zs) → isIn w zs ≡ true → placeFrom 1 n (inZone f w) ≡ suc k
       → ((z : ℕ) → T (within 1 13 z) → (z ≡ w → ⊥) → placeFrom 1 n (inZone f z) ≡ 0) → findIn f n zs ≡ at w (suc k)
   unfolding findIn
   find-at [] w k t i p h = absurd (true≢false (sym i))
-  find-at (z ∷ zs) w k t i p h = go (decided (eqb z w)) (λ j. find-at zs w k (and-r (within 1 13 z) (all (within 1 13) zs) t) j p h)
+  find-at (z ∷ zs) w k t i p h = go (decided (eqb z w)) (λ j. find-at zs w k (and-r (within 1 13 z) (every (within 1 13) zs) t) j p h)
     where
       v : T (within 1 13 z)
-      v = and-l (within 1 13 z) (all (within 1 13) zs) t
+      v = and-l (within 1 13 z) (every (within 1 13) zs) t
 
       here : z ≡ w → placeFrom 1 n (inZone f z) ≡ suc k
       here e = ap (λ (y : ℕ). placeFrom 1 n (inZone f y)) e ∙ p
@@ -78,7 +78,7 @@ zone-below z t h =
     and-i (leb 1 z) (leb z 12) (le→leb 1 z l) (le→leb z 12 (below z l u h))
   where
     below : (z : ℕ) → 1 ≤ z → z ≤ 13 → (z ≡ 13 → ⊥) → z ≤ 12
-    below z l u h = elim (Rattle.field.proofs.Tests.decided (leb z 12)) [ inl e ↦ leb→le z 12 (pass e) | inr e ↦ absurd (h (let k = borrow.Author.Tests.leb-false z 12 e in omega arith)) ]
+    below z l u h = elim (Rattle.field.proofs.TestLaws.decided (leb z 12)) [ inl e ↦ leb→le z 12 (pass e) | inr e ↦ absurd (h (let k = borrow.Author.Tests.leb-false z 12 e in omega arith)) ]
 
 -- a zone of the field is the runway, or one of the operation area
 pub zone-split : {P : ℕ → Type 0} → P 13 → ((z : ℕ) → T (within 1 12 z) → P z) → (z : ℕ) → T (within 1 13 z) → P z
@@ -136,7 +136,7 @@ module _ (f : Side) (a : List Placed) (e : Placed) (b : List Placed) (runway : L
   elsewhere z h =
       ap (λ (l : List Aircraft). isIn n (numbers l)) (inside-other z a e b h ∙ sym (inside-append z a b))
       ∙ absent-inside n z (a ++ b) (ap (isIn n) (map-append (λ (p : Placed). p .aircraft .number) a b)
-      ∙ Rattle.field.proofs.Lists.absent-both n (numbersOf a) (numbersOf b) (apart .ahead) (absent-left n (numbersOf b) (numbers runway) (apart .behind)))
+      ∙ Rattle.field.proofs.NumberLists.absent-both n (numbersOf a) (numbersOf b) (apart .ahead) (absent-left n (numbersOf b) (numbers runway) (apart .behind)))
 
   pub located : T (within 1 12 (e .zone)) → placeOf F n ≡ at (e .zone) (suc (length (inside (e .zone) a)))
   unfolding placeOf

@@ -13,14 +13,14 @@ use Rattle.request.specs.Input.{within}
 use Rattle.field.specs.declared.Aircraft.{Aircraft}
 use Rattle.field.specs.declared.Legs.{Legs}
 use Rattle.field.specs.declared.Field.{Field}
-use Rattle.field.specs.Boxes.{everywhere, operation, inZone}
+use Rattle.field.specs.Airspace.{everywhere, operation, inZone}
 use Rattle.field.specs.Lists.{isIn, every, allDifferent}
 use Rattle.questions.specs.Counts.{total}
 use Rattle.questions.specs.Find.{numbersIn}
-use Rattle.order.specs.Model.{Side, count, all, one}
-use Rattle.field.proofs.Tests.{pass, failed, fail, decided, if-true, if-false, same, each-zone}
+use Rattle.order.specs.Model.{Side, count, one}
+use Rattle.field.proofs.TestLaws.{pass, failed, fail, decided, if-true, if-false, same, each-zone}
 use Rattle.line.proofs.Line.{Placed, zonesIn, numbersOf, inside, fieldOf}
-use Rattle.line.proofs.Counted.{in-line, on-runway, total-same, total-add}
+use Rattle.line.proofs.CountedOnLine.{in-line, on-runway, total-same, total-add}
 use Rattle.questions.proofs.FindLaws.{numbers}
 use Rattle.line.proofs.Leaders.{nonzero}
 
@@ -122,24 +122,24 @@ in-one-zone h z =
     each-zone (λ (z : ℕ). T (within 1 12 z) → total (λ w. cond (eqb z w) h 0) operation ≡ h)
     ((λ u. omega arith), ((λ u. omega arith), ((λ u. omega arith), ((λ u. omega arith), ((λ u. omega arith), ((λ u. omega arith), ((λ u. omega arith), ((λ u. omega arith), ((λ u. omega arith), ((λ u. omega arith), ((λ u. omega arith), ((λ u. omega arith), ((λ u. absurd u), tt))))))))))))) z
 
-line-total : (n : ℕ) (line : List Placed) → T (all (within 1 12) (zonesIn line)) → total (λ z. count (numbers (inside z line)) n) operation ≡ count (numbersOf line) n
+line-total : (n : ℕ) (line : List Placed) → T (every (within 1 12) (zonesIn line)) → total (λ z. count (numbers (inside z line)) n) operation ≡ count (numbersOf line) n
 line-total n [] t = refl
 line-total n (e ∷ line) t =
     let hit = one (eqb (e .aircraft .number) n) in
-    let v = and-l (within 1 12 (e .zone)) (all (within 1 12) (zonesIn line)) t in
+    let v = and-l (within 1 12 (e .zone)) (every (within 1 12) (zonesIn line)) t in
     let a =
-    Rattle.line.proofs.Counted.total-same (λ z. count (numbers (inside z (e ∷ line))) n)
+    Rattle.line.proofs.CountedOnLine.total-same (λ z. count (numbers (inside z (e ∷ line))) n)
     (λ z. cond (eqb (e .zone) z) hit 0 + count (numbers (inside z line)) n) operation tt (λ z u. split (eqb (e .zone) z) z) in
     let b = total-add (λ z. cond (eqb (e .zone) z) hit 0) (λ z. count (numbers (inside z line)) n) operation in
-    let c = in-one-zone hit (e .zone) (Rattle.line.proofs.Counted.lower (e .zone) v) v in
-    let d = line-total n line (and-r (within 1 12 (e .zone)) (all (within 1 12) (zonesIn line)) t) in
+    let c = in-one-zone hit (e .zone) (Rattle.line.proofs.CountedOnLine.lower (e .zone) v) v in
+    let d = line-total n line (and-r (within 1 12 (e .zone)) (every (within 1 12) (zonesIn line)) t) in
     omega arith
   where
     split : (b : Bool) (z : ℕ) → count (numbers (cond b (e .aircraft ∷ inside z line) (inside z line))) n ≡ cond b (one (eqb (e .aircraft .number) n)) 0 + count (numbers (inside z line)) n
     split true z = refl
     split false z = omega arith
 
-module _ (f : Side) (line : List Placed) (runway : List Aircraft) (legs : Legs) (t : T (all (within 1 12) (zonesIn line))) (n : ℕ) where
+module _ (f : Side) (line : List Placed) (runway : List Aircraft) (legs : Legs) (t : T (every (within 1 12) (zonesIn line))) (n : ℕ) where
   abbrev F : Field
   F = fieldOf f line runway legs
 

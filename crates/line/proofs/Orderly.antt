@@ -14,14 +14,14 @@ use borrow.Author.Tests.{eq-eqb, eqb-true}
 use Rattle.request.specs.Input.{within}
 use Rattle.field.specs.declared.Aircraft.{Aircraft}
 use Rattle.field.specs.declared.Legs.{Legs}
-use Rattle.field.specs.Boxes.{opposite}
+use Rattle.field.specs.Airspace.{opposite}
 use Rattle.field.specs.Lists.{every, allDifferent}
 use Rattle.bounds.specs.Bounds.{isNobody, zoneKept, sequenceKept, alternate}
 use Rattle.fits.specs.Fits.{fitsZone, legalLegs}
-use Rattle.order.specs.Model.{Side, right, left, opp, num, nextFix, count, free, all, okay}
-use Rattle.field.proofs.Tests.{pass, decided}
+use Rattle.order.specs.Model.{Side, rightSide, leftSide, opp, num, nextFix, count, free, okay}
+use Rattle.field.proofs.TestLaws.{pass, decided}
 use Rattle.line.proofs.Line.{zoneFor, sequenceFor, Placed, zonesIn, numbersOf, inside}
-use Rattle.line.proofs.Counted.{length-inside, Alternates}
+use Rattle.line.proofs.CountedOnLine.{length-inside, Alternates}
 use Rattle.questions.proofs.FindLaws.{numbers}
 use Rattle.line.proofs.Leaders.{nonzero}
 
@@ -38,16 +38,16 @@ pub record Orderly (f : Side) (line : List Placed) (runway : List Aircraft) (leg
   pub legal : T (legalLegs legs)
 
 -- ---- tests over zones
-pub every-zone : (p : ℕ → Bool) (zs : List ℕ) → T (all (within 1 13) zs) → ((z : ℕ) → T (within 1 13 z) → T (p z)) → T (every p zs)
+pub every-zone : (p : ℕ → Bool) (zs : List ℕ) → T (every (within 1 13) zs) → ((z : ℕ) → T (within 1 13 z) → T (p z)) → T (every p zs)
 every-zone p [] t h = tt
 every-zone p (z ∷ zs) t h =
-    and-i (p z) (every p zs) (h z (and-l (within 1 13 z) (all (within 1 13) zs) t)) (every-zone p zs (and-r (within 1 13 z) (all (within 1 13) zs) t) h)
+    and-i (p z) (every p zs) (h z (and-l (within 1 13 z) (every (within 1 13) zs) t)) (every-zone p zs (and-r (within 1 13 z) (every (within 1 13) zs) t) h)
 
-pub every-same : (p q : ℕ → Bool) (zs : List ℕ) → T (all (within 1 12) zs) → ((z : ℕ) → T (within 1 12 z) → p z ≡ q z) → every p zs ≡ every q zs
+pub every-same : (p q : ℕ → Bool) (zs : List ℕ) → T (every (within 1 12) zs) → ((z : ℕ) → T (within 1 12 z) → p z ≡ q z) → every p zs ≡ every q zs
 every-same p q [] t e = refl
 every-same p q (z ∷ zs) t e =
-    ap (λ (b : Bool). b && every p zs) (e z (and-l (within 1 12 z) (all (within 1 12) zs) t))
-    ∙ ap (λ (b : Bool). q z && b) (every-same p q zs (and-r (within 1 12 z) (all (within 1 12) zs) t) e)
+    ap (λ (b : Bool). b && every p zs) (e z (and-l (within 1 12 z) (every (within 1 12) zs) t))
+    ∙ ap (λ (b : Bool). q z && b) (every-same p q zs (and-r (within 1 12 z) (every (within 1 12) zs) t) e)
 
 -- ---- a queue and a sequence of at most four are kept as arrays should be
 pub kept-for : (xs : List Aircraft) → length xs ≤ 4 → T (zoneKept (zoneFor xs))
@@ -121,8 +121,8 @@ fixesOf line = map (λ e. e .aircraft .fix) line
 
 pub opposite-num : (f : Side) → opposite (num f) ≡ num (opp f)
 unfolding opposite
-opposite-num right = refl
-opposite-num left = refl
+opposite-num rightSide = refl
+opposite-num leftSide = refl
 
 pub alternates-pass : (f : Side) (line : List Placed) → Alternates f line → T (alternate (fixesOf line ++ (num (nextFix f (zonesIn line)) ∷ [])))
 alternates-pass f [] a = tt

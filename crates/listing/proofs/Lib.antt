@@ -1,3 +1,3 @@
-pub mod Known
-pub mod Rows
-pub mod Sizes
+pub mod ListingKnown
+pub mod EntryLines
+pub mod ListReportSizes

@@ -5,28 +5,28 @@ use mathlib.Core.List.{List, [], _∷_, _++_}
 use lib.Dec.{eqb, leb}
 use lib.ListN.{length, take, drop}
 use Rattle.practice.specs.File.{number16, legsOf, fileNumber}
-use Rattle.text.specs.Text.{space, line}
+use Rattle.text.specs.Text.{space, lineOf}
 use Rattle.playing.specs.Playing.{fieldOfFile}
 use Rattle.session.specs.Report.{refusedReport}
 use Rattle.indexed.specs.Indexed.{withIndex}
-use Rattle.dialect.specs.declared.Entry.{Entry}
+use Rattle.dialect.specs.declared.ListEntry.{ListEntry}
 use Rattle.dialect.specs.declared.Listing.{Listing}
 use Rattle.dialect.specs.declared.Built.{Built}
 use Rattle.dialect.specs.Going.{listOf}
-use Rattle.dialect.specs.Coming.{fieldOf}
+use Rattle.dialect.specs.Coming.{fieldOfList}
 
 -- a line for each of a list: number, location, place, fix
-unfoldable pub entryLine : Entry → List ℕ
-entryLine e = line (e .number ∷ e .location ∷ e .place ∷ e .fix ∷ [])
+unfoldable pub entryLine : ListEntry → List ℕ
+entryLine e = lineOf (e .number ∷ e .location ∷ e .place ∷ e .fix ∷ [])
 
 -- the lines of a list
-abbrev pub entryLines : List Entry → List ℕ
+abbrev pub entryLines : List ListEntry → List ℕ
 entryLines [] = []
 entryLines (e ∷ es) = entryLine e ++ entryLines es
 
 -- a refusal: `refused` and its number
 unfoldable pub refusal : ℕ → List ℕ
-refusal number = 114 ∷ 101 ∷ 102 ∷ 117 ∷ 115 ∷ 101 ∷ 100 ∷ space ∷ line (number ∷ [])
+refusal number = 114 ∷ 101 ∷ 102 ∷ 117 ∷ 115 ∷ 101 ∷ 100 ∷ space ∷ lineOf (number ∷ [])
 
 -- the report of a list: a refusal, or a line for each
 unfoldable pub listReport : Listing → List ℕ
@@ -38,7 +38,7 @@ listedOf file = cond (eqb (fileNumber file) 0) (listReport (listOf (withIndex (f
 
 -- the next fix: `next` and the side
 unfoldable pub nextLine : ℕ → List ℕ
-nextLine fix = 110 ∷ 101 ∷ 120 ∷ 116 ∷ space ∷ line (fix ∷ [])
+nextLine fix = 110 ∷ 101 ∷ 120 ∷ 116 ∷ space ∷ lineOf (fix ∷ [])
 
 -- the report of a field that a list built: a refusal, or its next fix and its list
 unfoldable pub builtReport : Built → List ℕ
@@ -51,7 +51,7 @@ speedIn input = cond (leb 10 (length input)) (number16 input 8) 0
 -- of bytes that hold the legs, as body 1 of a practice file has them, the speed and the entries; with fewer bytes than the legs have, a leg is
 -- not there, which is refused 7
 unfoldable pub builtOf : List ℕ → List ℕ
-builtOf input = cond (leb 8 (length input)) (builtReport (fieldOf (legsOf input) (speedIn input) (drop 10 input))) (refusal 7)
+builtOf input = cond (leb 8 (length input)) (builtReport (fieldOfList (legsOf input) (speedIn input) (drop 10 input))) (refusal 7)
 
 -- how many bytes the caller's buffer has
 abbrev pub classroomRoom : ℕ

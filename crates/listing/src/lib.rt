@@ -4,7 +4,7 @@ mod lines;
 use crate::lines::put_built;
 use crate::lines::put_list;
 use crate::lines::put_refusal;
-use dialect::coming::field_of;
+use dialect::coming::field_of_list;
 use dialect::going::list_of;
 use indexed::with_index;
 use playing::play;
@@ -63,10 +63,10 @@ pub fn rebuilt(input: &[u8], out: &mut ClassroomBuffer) -> usize
     }
     let legs = legs_in(input);
     if input.len() < 10 {
-        return put_built(bytes, field_of(legs, 0, &input[8..8]));
+        return put_built(bytes, field_of_list(legs, 0, &input[8..8]));
     }
     let speed = word(input[8], input[9]);
-    let b = field_of(legs, speed, &input[10..]);
+    let b = field_of_list(legs, speed, &input[10..]);
     put_built(bytes, b)
 }
 

@@ -1,6 +1,6 @@
 // The lines of a classroom report, put into the caller's buffer (specs/Report.antt). Each function yields the place after what it put.
 use dialect::Built;
-use dialect::Entry;
+use dialect::ListEntry;
 use dialect::Listing;
 use dialect::going::list_of;
 use text::put_line;
@@ -11,7 +11,7 @@ ghost use Rattle.text.specs.Buffer.{Put};
 ghost use Rattle.listing.specs.Report.{entryLine, refusal, listReport, nextLine, builtReport, classroomRoom};
 
 // The line of an entry.
-fn put_entry(out: &mut [u8], at: usize, e: Entry) -> usize
+fn put_entry(out: &mut [u8], at: usize, e: ListEntry) -> usize
     ensures { λ r. ⌜ Put (now (out .entry)) at (entryLine e) (now (out .exit)) r ⌝ }
 {
     let numbers = [

@@ -5,9 +5,9 @@ use Prim.Native.Nat.{ℕ, _*_, _^_, _<_}
 use native.Mathlib.Omega.{arith}
 use lib.Dec.{T, eqb, eqb→eq}
 use lib.Ieee.Fits.{and-l, and-r}
-use Rattle.field.specs.Boxes.{zonesFrom}
+use Rattle.field.specs.Airspace.{zonesFrom}
 use Rattle.field.specs.Lists.{every}
-use Rattle.field.proofs.Tests.{every-from}
+use Rattle.field.proofs.TestLaws.{every-from}
 use Rattle.miles.specs.Miles.{decimals, worthOf, endsWell}
 
 abbrev sound : ℕ → Bool

@@ -4,8 +4,8 @@ use Prim.Native.Nat.{ℕ, _≤_}
 use lib.Ieee.{neg, add, sub, mul, div, ofInt, round, lt, le, eq}
 use Rattle.leg.specs.Progress.{advanced, pastEnd, waitedAfter, missedLeg}
 use Rattle.request.specs.Input.{deskAllowed, kindAllowed, sideAllowed, numberAllowed, amountAllowed, inputNumber}
-use Rattle.field.specs.Boxes.{isSide, sideOf, opposite, isFlyingZone, zoneOf, queueOf, inZone, orderOf, legOf}
-use Rattle.field.specs.Boxes.{progressInto, entering, onLeg, arrived, turnedAway, withFix, legFlownOut, emptyField}
+use Rattle.field.specs.Airspace.{isSide, sideOf, opposite, isFlyingZone, zoneOf, queueOf, inZone, orderOf, legOf}
+use Rattle.field.specs.Airspace.{progressInto, entering, onLeg, arrived, arrivedByMiss, withFix, legFlownOut, emptyField}
 use Rattle.questions.specs.Counts.{howMany, howManyWithFix, presentOn, inOperation, inArea, perFix, approachHolds, countedFor, potentialOf}
 use Rattle.questions.specs.Find.{findIn, placeOf, aircraftAt, fixOf, isFirst, leaderOf, leaderZone}
 use Rattle.bounds.specs.Bounds.{boundA, boundB, lateralRule, boundC, boundD, finalFirst, isNobody, zoneKept, sequenceKept, boundE, boundF, withinBounds}
@@ -24,7 +24,7 @@ use Rattle.most_moves.specs.MostMoves.{AllUsed, TwentySeven}
 pub all-used : AllUsed
 unfolding
     advanced pastEnd waitedAfter missedLeg deskAllowed kindAllowed sideAllowed numberAllowed amountAllowed inputNumber isSide opposite isFlyingZone zoneOf queueOf inZone orderOf progressInto entering
-    onLeg arrived turnedAway withFix legOf legFlownOut emptyField howMany howManyWithFix presentOn inOperation inArea perFix approachHolds countedFor potentialOf findIn placeOf
+    onLeg arrived arrivedByMiss withFix legOf legFlownOut emptyField howMany howManyWithFix presentOn inOperation inArea perFix approachHolds countedFor potentialOf findIn placeOf
     aircraftAt fixOf isFirst leaderOf leaderZone boundA boundB lateralRule boundC boundD numbersDiffer sequenceExact finalFirst isNobody zoneKept sequenceKept
     boundE boundF legFits fitsZone legalLegs boundG withinBounds withoutHead withTail appended removed withZone withSequence tickedAircraft tickedZone ticked sideOf
     startsFrom mayApproach baseFree mayMerge headGone tailPut moved

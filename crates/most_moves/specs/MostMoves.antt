@@ -7,7 +7,7 @@ use lib.Dec.{T}
 use Rattle.limits.specs.Limits.{mostMoves}
 use Rattle.request.specs.declared.Request.{Request}
 use Rattle.field.specs.declared.Legs.{Legs}
-use Rattle.field.specs.Boxes.{emptyField}
+use Rattle.field.specs.Airspace.{emptyField}
 use Rattle.fits.specs.Fits.{legalLegs}
 use Rattle.rules.specs.Play.{fieldAfter, played, accepted, addsMoves, moves}
 use Rattle.demand.specs.Demand.{AtMostMoves}

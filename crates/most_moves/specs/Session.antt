@@ -3,7 +3,7 @@
 use mathlib.Core.List.{List, [], _∷_}
 use Rattle.request.specs.declared.Request.{Request}
 use Rattle.field.specs.declared.Legs.{Legs}
-use Rattle.field.specs.Boxes.{legsIn64ths}
+use Rattle.field.specs.Airspace.{legsIn64ths}
 use Rattle.rules.specs.Cases.{ask}
 
 -- missed, base, intermediate and final, in 64ths of a mile: at speed 512 one tick of 64 flies any of them out, and missed and final together

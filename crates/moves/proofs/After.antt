@@ -18,18 +18,18 @@ use Rattle.order.proofs.Facts.{okay-length, okay-zones, moves}
 use Rattle.rules.specs.Kinds.{moved}
 use Rattle.rules.specs.Step.{effectOf}
 use Rattle.rules.specs.Play.{addsMoves}
-use Rattle.field.proofs.Lists.{or-false-left}
-use Rattle.field.proofs.Tests.{failed}
-use Rattle.field.proofs.Arrival.{into-arrived}
+use Rattle.field.proofs.NumberLists.{or-false-left}
+use Rattle.field.proofs.TestLaws.{failed}
+use Rattle.field.proofs.ArrivalLaws.{into-arrived}
 use Rattle.laws.proofs.Fits.{arrived-fits}
-use Rattle.line.proofs.Lists.{map-append}
+use Rattle.line.proofs.AheadInLists.{map-append}
 use Rattle.line.proofs.Line.{Placed, zonesIn, inside, fieldOf}
-use Rattle.line.proofs.Counted.{free-inside}
+use Rattle.line.proofs.CountedOnLine.{free-inside}
 use Rattle.line.proofs.Leaders.{all-at}
 use Rattle.line.proofs.Orderly.{Orderly, length-zones}
 use Rattle.moves.proofs.Moves.{into, MayMove, moved-line}
 use Rattle.moves.proofs.Owners.{owners, owners-all, passing, desksOn, same-desks}
-use Rattle.moves.proofs.Ticking.{tickPlaced}
+use Rattle.moves.proofs.TickOnLine.{tickPlaced}
 use Rattle.moves.proofs.StaysOrderly.{changed, placedFits}
 use Rattle.moves.proofs.Carried.{onward-into, Carried, carried-one}
 
@@ -97,7 +97,7 @@ module _ (f : Side) (a : List Placed) (e : Placed) (b : List Placed) (runway : L
   room-for = let p = okay-length f (zonesIn (a ++ e ∷ b)) (o .okay-line) in let q = length-zones (a ++ e ∷ b) in omega arith
 
   pub fit-here : T (placedFits legs e)
-  fit-here = and-l (placedFits legs e) (every (placedFits legs) b) (Rattle.line.proofs.Lists.every-right (placedFits legs) a (e ∷ b) (o .fit-line))
+  fit-here = and-l (placedFits legs e) (every (placedFits legs) b) (Rattle.line.proofs.AheadInLists.every-right (placedFits legs) a (e ∷ b) (o .fit-line))
 
   -- a move that the model allows, to zone w
   module _ (w : ℕ) (heads : T (free (zonesIn a) (e .zone))) (behind : T (free (zonesIn b) w)) (other : T (not (eqb w (e .zone))))

@@ -15,25 +15,25 @@ use Rattle.leg.specs.Ticks.{Between}
 use Rattle.field.specs.declared.Aircraft.{Aircraft}
 use Rattle.field.specs.declared.Legs.{Legs}
 use Rattle.field.specs.declared.Field.{Field}
-use Rattle.field.specs.Boxes.{isFlyingZone, missed, entering, arrived, turnedAway, withFix}
+use Rattle.field.specs.Airspace.{isFlyingZone, missed, entering, arrived, arrivedByMiss, withFix}
 use Rattle.field.specs.Lists.{isIn, every, Each}
 use Rattle.fits.specs.Fits.{fitsZone}
-use Rattle.order.specs.Model.{Side, right, left, opp, num, okay, firstFix, weight, one}
+use Rattle.order.specs.Model.{Side, rightSide, leftSide, opp, num, okay, firstFix, weight, one}
 use Rattle.order.proofs.Facts.{okay-length, first-leaves, misses, exit-lighter, landing-lighter}
 use Rattle.rules.specs.Step.{effectOf}
 use Rattle.rules.specs.Kinds.{entered}
 use Rattle.rules.specs.Play.{addsMoves}
-use Rattle.field.proofs.Arrival.{into-arrived, into-turned-away}
-use Rattle.laws.proofs.Fits.{arrived-fits, turned-away-fits, refixed-fits, entering-fits}
-use Rattle.field.proofs.Tests.{passed, failed, fail}
-use Rattle.field.proofs.Lists.{absent-left, absent-right}
+use Rattle.field.proofs.ArrivalLaws.{into-arrived, into-arrived-by-miss}
+use Rattle.laws.proofs.Fits.{arrived-fits, arrived-by-miss-fits, refixed-fits, entering-fits}
+use Rattle.field.proofs.TestLaws.{passed, failed, fail}
+use Rattle.field.proofs.NumberLists.{absent-left, absent-right}
 use Rattle.line.proofs.Line.{Placed, zonesIn, numbersOf, fieldOf}
 use Rattle.questions.proofs.FindLaws.{numbers}
 use Rattle.line.proofs.Leaders.{nonzero}
 use Rattle.line.proofs.Orderly.{Orderly, length-zones}
 use Rattle.moves.proofs.Leaves.{taxied, first-exits, first-lands}
 use Rattle.moves.proofs.Enters.{entryFix, entrant, enters, misser, misses-approach}
-use Rattle.moves.proofs.Ticking.{tickPlaced, ticks, zones-same}
+use Rattle.moves.proofs.TickOnLine.{tickPlaced, ticks, zones-same}
 use Rattle.moves.proofs.Owners.{passing, owners, one-more, desks-ticked}
 use Rattle.moves.proofs.StaysOrderly.{side-fits, first-gone, landed-on, runway-left, come, ticked-orderly}
 use Rattle.moves.proofs.Carried.{each-append, onRunway, onward-into, Turned, Entered, Came, went, turned, came-in, stay-all, stay-runway, apart-in}
@@ -42,8 +42,8 @@ use Rattle.rules.proofs.Checks.{effect-at}
 
 -- ---- the missed zone of a side
 missed-zone : (f : Side) → (eqb (missed (num f)) 7 || eqb (missed (num f)) 8) ≡ true
-missed-zone right = refl
-missed-zone left = refl
+missed-zone rightSide = refl
+missed-zone leftSide = refl
 
 -- ---- the first of the line leaves the sequence
 module _ (f : Side) (e : Placed) (b : List Placed) (runway : List Aircraft) (legs : Legs) (o : Orderly f (e ∷ b) runway legs) (r : Request) (named : r .number ≡ e .aircraft .number) where
@@ -95,7 +95,7 @@ module _ (f : Side) (e : Placed) (b : List Placed) (runway : List Aircraft) (leg
       let g = misser f e b runway legs r z room fix named (o .different) in
       let al = apart-in [] e b runway (o .different) in
       let gone = first-gone f e b runway legs o rest-okay in
-      let same = into-turned-away legs w (e .aircraft) .number in
+      let same = into-arrived-by-miss legs w (e .aircraft) .number in
       record {
         first-after = firstFix f (opp f) (zonesIn b);
         line-after = b ++ (g ∷ []);
@@ -105,16 +105,16 @@ module _ (f : Side) (e : Placed) (b : List Placed) (runway : List Aircraft) (leg
             come f (opp f) b g runway legs gone (misses f (zonesIn b) (subst (λ (v : ℕ). T (okay f (v ∷ zonesIn b))) z (o .okay-line))) refl
             (subst (λ (n : ℕ). T (nonzero n)) (sym same) (and-l (nonzero (e .aircraft .number)) (every nonzero (numbersOf b ++ numbers runway)) (o .nonzeros)))
             (ap (λ (n : ℕ). isIn n (numbersOf b ++ numbers runway)) same ∙ al .behind)
-            (refixed-fits legs w (num (entryFix f (opp f) (zonesIn b))) (turnedAway legs w (e .aircraft)) (side-fits (entryFix f (opp f) (zonesIn b)))
-            (turned-away-fits legs (o .legal) w (e .aircraft) (missed-zone f) (subst (λ (v : ℕ). T (fitsZone legs v (e .aircraft))) z (fit-here f [] e b runway legs o))));
+            (refixed-fits legs w (num (entryFix f (opp f) (zonesIn b))) (arrivedByMiss legs w (e .aircraft)) (side-fits (entryFix f (opp f) (zonesIn b)))
+            (arrived-by-miss-fits legs (o .legal) w (e .aircraft) (missed-zone f) (subst (λ (v : ℕ). T (fitsZone legs v (e .aircraft))) z (fit-here f [] e b runway legs o))));
         balance =
             λ who.
             let p = one-more who b g in
-            let t = ap (λ (d : ℕ). one (who d)) (into-turned-away legs w (e .aircraft) .desk) in
+            let t = ap (λ (d : ℕ). one (who d)) (into-arrived-by-miss legs w (e .aircraft) .desk) in
             subst (λ (k : ℕ). owners who (b ++ (g ∷ [])) runway + one (leaves k && who (r .desk)) ≡ owners who (e ∷ b) runway + one (isEntry k && who (r .desk))) (sym h) (omega arith);
         lighter = λ u. absurd (true≢false (ap addsMoves (sym h) ∙ u));
         carried =
-            let i = into-turned-away legs w (e .aircraft) in
+            let i = into-arrived-by-miss legs w (e .aircraft) in
             let to : Turned legs e g =
             record { turned-number = i .number; turned-speed = i .speed; turned-waited = i .waited; begins-anew = i .progress; from-final = z; to-missed = missed-zone f; leg-ahead = i .leg-is } in
             λ u. record { carry = λ Q p q. (each-append (Came legs r Q) b (g ∷ []) (behind-all Q p) (turned e (p .0) to (sym named) h, tt), runway-all Q q) };
@@ -171,7 +171,7 @@ after-8 f line x legs o r named h own =
     }
   where
     not-in-line : isIn (x .number) (numbersOf line) ≡ false
-    not-in-line = Rattle.field.proofs.Lists.alone (numbersOf line) (x .number) [] (o .different) .ahead
+    not-in-line = Rattle.field.proofs.NumberLists.alone (numbersOf line) (x .number) [] (o .different) .ahead
 
 -- kinds 1 and 2, into zone w
 pub after-entry : (s f : Side) (line : List Placed) (runway : List Aircraft) (legs : Legs) (o : Orderly f line runway legs) (r : Request) (w : ℕ) → T (within 1 12 w)

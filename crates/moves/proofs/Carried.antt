@@ -13,11 +13,11 @@ use Rattle.request.specs.Input.{isEntry}
 use Rattle.request.specs.declared.Request.{Request}
 use Rattle.field.specs.declared.Aircraft.{Aircraft}
 use Rattle.field.specs.declared.Legs.{Legs}
-use Rattle.field.specs.Boxes.{right, left, missed, finalApproach, isFlyingZone, legOf, progressInto}
+use Rattle.field.specs.Airspace.{right, left, missed, finalApproach, isFlyingZone, legOf, progressInto}
 use Rattle.field.specs.Lists.{isIn, allDifferent, Each}
 use Rattle.rules.specs.Play.{addsMoves}
-use Rattle.field.proofs.Lists.{or-false-left, or-false-right, absent-left, absent-right, Alone, alone}
-use Rattle.field.proofs.Arrival.{into-arrived}
+use Rattle.field.proofs.NumberLists.{or-false-left, or-false-right, absent-left, absent-right, Alone, alone}
+use Rattle.field.proofs.ArrivalLaws.{into-arrived}
 use Rattle.line.proofs.Line.{Placed, numbersOf}
 use Rattle.line.proofs.Located.{numbers-split}
 use Rattle.questions.proofs.FindLaws.{numbers}

@@ -12,20 +12,20 @@ use lib.Ieee.Fits.{and-r}
 use borrow.Author.Tests.{eqb-true, eq-eqb}
 use Rattle.request.specs.Input.{within, firstRefused}
 use Rattle.request.specs.declared.Request.{Request}
-use Rattle.request.proofs.Tests as input
+use Rattle.request.proofs.InputTests as input
 use Rattle.field.specs.declared.Aircraft.{Aircraft}
 use Rattle.field.specs.declared.Legs.{Legs}
 use Rattle.field.specs.declared.Field.{Field}
-use Rattle.field.specs.Boxes.{sideOf, at3000, at2000}
+use Rattle.field.specs.Airspace.{sideOf, at3000, at2000}
 use Rattle.questions.specs.Counts.{howMany, isEmpty}
 use Rattle.questions.specs.Find.{placeOf, isFirst}
 use Rattle.order.specs.Model.{Side, count, free, isNil, okay, one}
 use Rattle.order.proofs.Facts.{final-first, hold-ahead}
 use Rattle.rules.specs.Kinds.{placeBefore, zoneBefore, startsFrom, headChecks, moved, held}
 use Rattle.rules.specs.Step.{effectOf}
-use Rattle.field.proofs.Tests.{passed, failed, decided, if-false, zones-imply}
+use Rattle.field.proofs.TestLaws.{passed, failed, decided, if-false, zones-imply}
 use Rattle.line.proofs.Line.{Placed, zonesIn, fieldOf}
-use Rattle.line.proofs.Counted.{lower, how-many-runway, none}
+use Rattle.line.proofs.CountedOnLine.{lower, how-many-runway, none}
 use Rattle.questions.proofs.FindLaws.{at}
 use Rattle.line.proofs.Located.{first-there}
 use Rattle.line.proofs.Members.{count-append}

@@ -9,7 +9,7 @@ use Rattle.request.specs.declared.Request.{Request}
 use Rattle.field.specs.declared.Aircraft.{Aircraft}
 use Rattle.field.specs.declared.Legs.{Legs}
 use Rattle.field.specs.declared.Field.{Field}
-use Rattle.field.specs.Boxes.{isFlyingZone, at3000, at2000}
+use Rattle.field.specs.Airspace.{isFlyingZone, at3000, at2000}
 use Rattle.questions.specs.Counts.{isEmpty}
 use Rattle.order.specs.Model.{Side, free, descend, needs}
 use Rattle.order.proofs.Facts.{Moved, moves}
@@ -17,8 +17,8 @@ use Rattle.rules.specs.Kinds.{descended, entered, madeRoom, enteredAbove}
 use Rattle.rules.specs.Step.{effectOf}
 use Rattle.rules.specs.Play.{addsMoves}
 use Rattle.rules.proofs.Checks.{effect-at}
-use Rattle.field.proofs.Tests.{if-true, if-false}
-use Rattle.field.proofs.Arrival.{into-arrived}
+use Rattle.field.proofs.TestLaws.{if-true, if-false}
+use Rattle.field.proofs.ArrivalLaws.{into-arrived}
 use Rattle.line.proofs.Line.{Placed, zonesIn, fieldOf}
 use Rattle.line.proofs.Orderly.{Orderly}
 use Rattle.moves.proofs.Moves.{into}

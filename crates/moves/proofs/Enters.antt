@@ -12,18 +12,18 @@ use Rattle.field.specs.declared.Zone.{Zone}
 use Rattle.field.specs.declared.Sequence.{Sequence}
 use Rattle.field.specs.declared.Legs.{Legs}
 use Rattle.field.specs.declared.Field.{Field}
-use Rattle.field.specs.Boxes.{opposite, missed, zoneOf, entering, turnedAway, withFix}
+use Rattle.field.specs.Airspace.{opposite, missed, zoneOf, entering, arrivedByMiss, withFix}
 use Rattle.questions.specs.Find.{aircraftAt}
 use Rattle.field.specs.Lists.{allDifferent}
 use Rattle.field.specs.Edits.{withTail, withZone, withSequence, appended, removed}
 use Rattle.request.specs.declared.Request.{Request}
 use Rattle.order.specs.Model.{Side, opp, num, nextFix, firstFix}
 use Rattle.rules.specs.Kinds.{headGone, tailPut, fixTaken, entered, fixAfterMiss, missedApproach}
-use Rattle.field.proofs.Tests.{if-false, flip-eqb}
-use Rattle.field.proofs.Arrival.{into-turned-away}
-use Rattle.line.proofs.Lists.{map-append}
+use Rattle.field.proofs.TestLaws.{if-false, flip-eqb}
+use Rattle.field.proofs.ArrivalLaws.{into-arrived-by-miss}
+use Rattle.line.proofs.AheadInLists.{map-append}
 use Rattle.line.proofs.Line.{zoneFor, tail-for, sequenceFor, order-for, appended-for, fieldBy, zone-by, Placed, zonesIn, numbersOf, inside, zonesOf, fieldOf}
-use Rattle.line.proofs.Counted.{lower, not-13, Alternates, missed-in}
+use Rattle.line.proofs.CountedOnLine.{lower, not-13, Alternates, missed-in}
 use Rattle.questions.proofs.FindLaws.{numbers}
 use Rattle.line.proofs.Located.{inside-at, inside-other, head-there}
 use Rattle.line.proofs.Orderly.{inside-le, length-numbers, opposite-num}
@@ -122,7 +122,7 @@ module _ (f : Side) (e : Placed) (b : List Placed) (runway : List Aircraft) (leg
 
   -- the one that has missed its approach
   abbrev pub misser : Placed
-  misser = record { aircraft = withFix (turnedAway legs (missed (num f)) (e .aircraft)) (num (entryFix f (opp f) (zonesIn b))); zone = missed (num f) }
+  misser = record { aircraft = withFix (arrivedByMiss legs (missed (num f)) (e .aircraft)) (num (entryFix f (opp f) (zonesIn b))); zone = missed (num f) }
 
   head-is : aircraftAt F₁₀ 12 1 ≡ e .aircraft
   head-is = ap (λ (w : ℕ). aircraftAt F₁₀ w 1) (sym h) ∙ head-there f [] e b runway legs d t refl
@@ -144,7 +144,7 @@ module _ (f : Side) (e : Placed) (b : List Placed) (runway : List Aircraft) (leg
   -- the field with the aircraft x at the tail of zone w and the fix n
   abbrev with-fix : Aircraft → Field → ℕ → Field
   with-fix x g n =
-      withSequence (withZone g (missed (x .fix)) (withTail (zoneOf g (missed (x .fix))) (withFix (turnedAway legs (missed (x .fix)) x) n)))
+      withSequence (withZone g (missed (x .fix)) (withTail (zoneOf g (missed (x .fix))) (withFix (arrivedByMiss legs (missed (x .fix)) x) n)))
       (appended (removed (F₁₀ .sequence) (r .number)) (r .number)) (opposite n)
 
   pub misses-approach : missedApproach F₁₀ r ≡ fieldOf (firstFix f (opp f) (zonesIn b)) (b ++ (misser ∷ [])) runway legs
@@ -154,7 +154,7 @@ module _ (f : Side) (e : Placed) (b : List Placed) (runway : List Aircraft) (leg
       ∙ ap (λ (n : ℕ). with-fix (e .aircraft) (headGone F₁₀ 12) n) fix-after
       ∙ ap (λ (g : Field). with-fix (e .aircraft) g (num (entryFix f (opp f) (zonesIn b)))) gone
       ∙ ap (λ (m : ℕ). let g = fieldBy (zonesOf b runway) (sequenceFor (numbersOf (e ∷ b))) (num (nextFix f (zonesIn (e ∷ b)))) legs in
-      withSequence (withZone g (missed m) (withTail (zoneOf g (missed m)) (withFix (turnedAway legs (missed m) (e .aircraft)) (num (entryFix f (opp f) (zonesIn b))))))
+      withSequence (withZone g (missed m) (withTail (zoneOf g (missed m)) (withFix (arrivedByMiss legs (missed m) (e .aircraft)) (num (entryFix f (opp f) (zonesIn b))))))
       (appended (removed (F₁₀ .sequence) (r .number)) (r .number)) (opposite (num (entryFix f (opp f) (zonesIn b))))) fix
       ∙ ap (λ (g : Field). withSequence g (appended (removed (F₁₀ .sequence) (r .number)) (r .number)) (opposite (num (entryFix f (opp f) (zonesIn b)))))
       (at-tail b misser runway (sequenceFor (numbersOf (e ∷ b))) (num (nextFix f (zonesIn (e ∷ b)))) legs (missed-in f) room)
@@ -162,5 +162,5 @@ module _ (f : Side) (e : Placed) (b : List Placed) (runway : List Aircraft) (leg
       ∙ ap (λ (q : Sequence). fieldBy (zonesOf (b ++ (misser ∷ [])) runway) (appended q (e .aircraft .number)) (opposite (num (entryFix f (opp f) (zonesIn b)))) legs)
       (sequence-left f e b runway legs t room)
       ∙ ap (λ (n : ℕ). fieldBy (zonesOf (b ++ (misser ∷ [])) runway) (appended (sequenceFor (numbersOf b)) n) (opposite (num (entryFix f (opp f) (zonesIn b)))) legs)
-      (sym (into-turned-away legs (missed (num f)) (e .aircraft) .number))
+      (sym (into-arrived-by-miss legs (missed (num f)) (e .aircraft) .number))
       ∙ ended f (opp f) b misser runway legs room

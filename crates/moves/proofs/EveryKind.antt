@@ -12,33 +12,33 @@ use lib.Ieee.Fits.{and-i, and-l, and-r}
 use borrow.Author.Tests.{eq-eqb, eqb-true}
 use Rattle.request.specs.Input.{within, isEntry, firstRefused, inputNumber}
 use Rattle.request.specs.declared.Request.{Request}
-use Rattle.request.proofs.Tests as input
+use Rattle.request.proofs.InputTests as input
 use Rattle.request.proofs.ByKind.{EntryKnown, kind-known, entry-known, tick-known}
 use Rattle.field.specs.declared.Aircraft.{Aircraft}
 use Rattle.field.specs.declared.Legs.{Legs}
 use Rattle.field.specs.declared.Field.{Field}
 use Rattle.questions.specs.declared.Place.{Place}
-use Rattle.field.specs.Boxes.{isFlyingZone, at3000, at2000, lateral, missed, approach}
+use Rattle.field.specs.Airspace.{isFlyingZone, at3000, at2000, lateral, missed, approach}
 use Rattle.field.specs.Lists.{isIn}
 use Rattle.questions.specs.Counts.{total, approachHolds, potentialOf, isEmpty}
 use Rattle.questions.specs.Find.{placeOf}
 use Rattle.field.proofs.Shapes.{one-of-two}
-use Rattle.order.specs.Model.{Side, right, left, num, countFix, free, potential, mayComeIn, mayEnter}
+use Rattle.order.specs.Model.{Side, rightSide, leftSide, num, countFix, free, potential, mayComeIn, mayEnter}
 use Rattle.order.proofs.Facts.{enter, enter-lateral, enter-above}
 use Rattle.rules.specs.Kinds.{placeBefore, zoneBefore, absentChecks, presenceChecks, verticalNeeds, lateralNeeds, descended, entered}
 use Rattle.rules.specs.Step.{checksOf}
-use Rattle.field.proofs.Tests.{passed, failed, pass, decided, each-zone}
-use Rattle.field.proofs.Lists.{absent-both, absent-left, absent-right, or-false-left}
-use Rattle.line.proofs.Lists.{map-append}
+use Rattle.field.proofs.TestLaws.{passed, failed, pass, decided, each-zone}
+use Rattle.field.proofs.NumberLists.{absent-both, absent-left, absent-right, or-false-left}
+use Rattle.line.proofs.AheadInLists.{map-append}
 use Rattle.line.proofs.Line.{Placed, zonesIn, numbersOf, fieldOf}
-use Rattle.line.proofs.Counted.{how-many, approach-holds, potential-is}
+use Rattle.line.proofs.CountedOnLine.{how-many, approach-holds, potential-is}
 use Rattle.questions.proofs.FindLaws.{numbers, at}
 use Rattle.line.proofs.Located.{located, located-runway}
 use Rattle.line.proofs.Orderly.{Orderly, Split, first-in}
 use Rattle.moves.proofs.After.{After, zone-in, zones-split, okay-split}
 use Rattle.moves.proofs.Heads.{find-line}
 use Rattle.rules.proofs.Checks.{besides, owned, checks-at, effect-at}
-use Rattle.field.proofs.Arrival.{into-arrived}
+use Rattle.field.proofs.ArrivalLaws.{into-arrived}
 use Rattle.moves.proofs.Moves.{into, same-numbers}
 use Rattle.moves.proofs.EnterAbove.{enters-empty, enters-occupied, lowered, lowered-is, lowered-orderly, after-above}
 use Rattle.moves.proofs.AtEnds.{after-entry, after-12}
@@ -46,7 +46,7 @@ use Rattle.moves.proofs.EachMove.{three, four, five, six, seven, eight,
 
 -- ---- a side of a request
 side-known : (n : ℕ) → 1 ≤ n → n ≤ 2 → (s : Side) × (n ≡ num s)
-side-known n l h = one-of-two (λ (m : ℕ). (s : Side) × (m ≡ num s)) 1 n l (omega arith) (right, refl) (left, refl)
+side-known n l h = one-of-two (λ (m : ℕ). (s : Side) × (m ≡ num s)) 1 n l (omega arith) (rightSide, refl) (leftSide, refl)
 
 -- ---- kinds 1 and 2
 module _ (f : Side) (line : List Placed) (runway : List Aircraft) (legs : Legs) (o : Orderly f line runway legs) (r : Request) where
@@ -192,13 +192,13 @@ module _ (f : Side) (line : List Placed) (runway : List Aircraft) (legs : Legs) 
 
   one-side : (s : Side) → r .side ≡ num s → r .kind ≡ 1 → EntryKnown r → firstRefused (absentChecks (placeBefore F r) ++ verticalNeeds F (r .side)) ≡ 0 → After f line runway legs r
   unfolding isFlyingZone
-  one-side right side k known c = entry-1 right side k known c (record { missed-in = tt; lateral-in = tt; high-in = tt; low-in = tt; high = tt; high-waits = tt; low-waits = tt })
-  one-side left side k known c = entry-1 left side k known c (record { missed-in = tt; lateral-in = tt; high-in = tt; low-in = tt; high = tt; high-waits = tt; low-waits = tt })
+  one-side rightSide side k known c = entry-1 rightSide side k known c (record { missed-in = tt; lateral-in = tt; high-in = tt; low-in = tt; high = tt; high-waits = tt; low-waits = tt })
+  one-side leftSide side k known c = entry-1 leftSide side k known c (record { missed-in = tt; lateral-in = tt; high-in = tt; low-in = tt; high = tt; high-waits = tt; low-waits = tt })
 
   two-side : (s : Side) → r .side ≡ num s → r .kind ≡ 2 → EntryKnown r → firstRefused (absentChecks (placeBefore F r) ++ lateralNeeds F (r .side)) ≡ 0 → After f line runway legs r
   unfolding isFlyingZone
-  two-side right side k known c = entry-2 right side k known c tt tt
-  two-side left side k known c = entry-2 left side k known c tt tt
+  two-side rightSide side k known c = entry-2 rightSide side k known c tt tt
+  two-side leftSide side k known c = entry-2 leftSide side k known c tt tt
 
   -- ---- every kind
   pub accepted-after : inputNumber r ≡ 0 → firstRefused (checksOf F r) ≡ 0 → After f line runway legs r

@@ -14,14 +14,14 @@ use Rattle.field.specs.declared.Aircraft.{Aircraft}
 use Rattle.field.specs.declared.Legs.{Legs}
 use Rattle.field.specs.declared.Field.{Field}
 use Rattle.questions.specs.declared.Place.{Place}
-use Rattle.field.specs.Boxes.{nobody}
+use Rattle.field.specs.Airspace.{nobody}
 use Rattle.field.specs.Lists.{isIn}
 use Rattle.questions.specs.Find.{placeOf, aircraftAt}
 use Rattle.order.specs.Model.{Side, count, free}
 use Rattle.rules.specs.Kinds.{startsFrom, belongsTo, zoneBefore}
-use Rattle.field.proofs.Tests.{decided, pass}
+use Rattle.field.proofs.TestLaws.{decided, pass}
 use Rattle.line.proofs.Line.{Placed, zonesIn, numbersOf, inside, fieldOf}
-use Rattle.line.proofs.Counted.{on-runway, length-inside}
+use Rattle.line.proofs.CountedOnLine.{on-runway, length-inside}
 use Rattle.questions.proofs.FindLaws.{at}
 use Rattle.line.proofs.Located.{located, located-runway, not-located, aircraft-there}
 use Rattle.line.proofs.Orderly.{Orderly}

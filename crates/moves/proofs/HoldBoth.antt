@@ -12,19 +12,19 @@ use Rattle.request.specs.declared.Request.{Request}
 use Rattle.field.specs.declared.Aircraft.{Aircraft}
 use Rattle.field.specs.declared.Legs.{Legs}
 use Rattle.field.specs.declared.Field.{Field}
-use Rattle.field.specs.Boxes.{isFlyingZone, sideOf, at3000, at2000}
+use Rattle.field.specs.Airspace.{isFlyingZone, sideOf, at3000, at2000}
 use Rattle.field.specs.Lists.{isIn}
 use Rattle.order.specs.Model.{Side, count, free, okay, weight, one}
 use Rattle.order.proofs.Facts.{BothMoved, hold-both}
 use Rattle.rules.specs.Play.{addsMoves}
 use Rattle.rules.specs.Kinds.{moved}
 use Rattle.rules.specs.Step.{effectOf}
-use Rattle.field.proofs.Tests.{pass, failed, zones-imply}
-use Rattle.field.proofs.Lists.{or-false-left, absent-right}
-use Rattle.field.proofs.Arrival.{into-arrived}
-use Rattle.line.proofs.Lists.{map-append}
+use Rattle.field.proofs.TestLaws.{pass, failed, zones-imply}
+use Rattle.field.proofs.NumberLists.{or-false-left, absent-right}
+use Rattle.field.proofs.ArrivalLaws.{into-arrived}
+use Rattle.line.proofs.AheadInLists.{map-append}
 use Rattle.line.proofs.Line.{Placed, zonesIn, numbersOf, fieldOf}
-use Rattle.line.proofs.Counted.{lower}
+use Rattle.line.proofs.CountedOnLine.{lower}
 use Rattle.line.proofs.Members.{count-append}
 use Rattle.line.proofs.Orderly.{Orderly}
 use Rattle.moves.proofs.Moves.{into}

@@ -12,16 +12,16 @@ use Rattle.field.specs.declared.Zone.{Zone}
 use Rattle.field.specs.declared.Sequence.{Sequence}
 use Rattle.field.specs.declared.Legs.{Legs}
 use Rattle.field.specs.declared.Field.{Field}
-use Rattle.field.specs.Boxes.{zoneOf, arrived}
+use Rattle.field.specs.Airspace.{zoneOf, arrived}
 use Rattle.questions.specs.Find.{aircraftAt}
 use Rattle.field.specs.Lists.{allDifferent}
 use Rattle.field.specs.Edits.{withoutHead, withTail, withZone, withSequence, removed}
 use Rattle.request.specs.declared.Request.{Request}
 use Rattle.order.specs.Model.{Side, opp, num, nextFix}
 use Rattle.rules.specs.Kinds.{headGone, tailPut, moved, outOfSequence, landed, exited}
-use Rattle.field.proofs.Tests.{if-false, flip-eqb}
+use Rattle.field.proofs.TestLaws.{if-false, flip-eqb}
 use Rattle.line.proofs.Line.{zoneFor, tail-for, head-for, sequenceFor, removed-for, fieldBy, Placed, zonesIn, numbersOf, inside, zonesOf, fieldOf}
-use Rattle.line.proofs.Counted.{lower, not-13, zone-of-line, zone-of-runway}
+use Rattle.line.proofs.CountedOnLine.{lower, not-13, zone-of-line, zone-of-runway}
 use Rattle.line.proofs.Located.{inside-at, inside-other, head-there}
 use Rattle.line.proofs.Orderly.{inside-le, length-numbers}
 use Rattle.moves.proofs.Moves.{one-zone, two-zones, zone-other}

@@ -1,7 +1,7 @@
 pub mod Moves
 pub mod Leaves
 pub mod Enters
-pub mod Ticking
+pub mod TickOnLine
 pub mod Owners
 pub mod StaysOrderly
 pub mod Carried

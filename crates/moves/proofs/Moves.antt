@@ -15,17 +15,17 @@ use Rattle.field.specs.declared.Zone.{Zone}
 use Rattle.field.specs.declared.Sequence.{Sequence}
 use Rattle.field.specs.declared.Legs.{Legs}
 use Rattle.field.specs.declared.Field.{Field}
-use Rattle.field.specs.Boxes.{zoneOf, arrived}
+use Rattle.field.specs.Airspace.{zoneOf, arrived}
 use Rattle.questions.specs.Find.{aircraftAt}
 use Rattle.field.specs.Lists.{allDifferent}
 use Rattle.field.specs.Edits.{withoutHead, withTail, withZone}
 use Rattle.order.specs.Model.{Side, opp, num, nextFix}
 use Rattle.rules.specs.Kinds.{headGone, tailPut, moved}
-use Rattle.field.proofs.Tests.{if-true, if-false, decided}
-use Rattle.field.proofs.Arrival.{into-arrived}
-use Rattle.line.proofs.Lists.{map-append}
+use Rattle.field.proofs.TestLaws.{if-true, if-false, decided}
+use Rattle.field.proofs.ArrivalLaws.{into-arrived}
+use Rattle.line.proofs.AheadInLists.{map-append}
 use Rattle.line.proofs.Line.{zoneFor, tail-for, head-for, sequenceFor, fieldBy, zone-by, with-by, by-zones, Placed, zonesIn, numbersOf, inside, zonesOf, fieldOf}
-use Rattle.line.proofs.Counted.{lower, not-13, zone-of-line}
+use Rattle.line.proofs.CountedOnLine.{lower, not-13, zone-of-line}
 use Rattle.questions.proofs.FindLaws.{numbers}
 use Rattle.line.proofs.Located.{inside-at, inside-other, head-there}
 use Rattle.line.proofs.Orderly.{inside-le}
@@ -133,7 +133,7 @@ module _ (f : Side) (a : List Placed) (e : Placed) (b : List Placed) (runway : L
       ∙ ap zoneFor (inside-other z a (into legs w e) b (m .other-zone) ∙ ap (λ (l : List Aircraft). l ++ inside z b) (m .heads)))
 
   flipped : eqb z w ≡ false
-  flipped = Rattle.field.proofs.Tests.flip-eqb w z (m .other-zone)
+  flipped = Rattle.field.proofs.TestLaws.flip-eqb w z (m .other-zone)
 
   before-zone : inside w (a ++ e ∷ b) ≡ inside w a
   before-zone = inside-other w a e b flipped ∙ ap (λ (l : List Aircraft). inside w a ++ l) (m .none-behind) ∙ append-nil (inside w a)
@@ -150,7 +150,7 @@ module _ (f : Side) (a : List Placed) (e : Placed) (b : List Placed) (runway : L
   kept-zone : (y : ℕ) → T (within 1 13 y) → eqb y z ≡ false → eqb y w ≡ false → G y ≡ H y
   kept-zone y t p q =
       ap (λ (l : List Aircraft). cond (eqb y 13) (zoneFor runway) (zoneFor l))
-      (inside-other y a e b (Rattle.field.proofs.Tests.flip-eqb y z p) ∙ sym (inside-other y a (into legs w e) b (Rattle.field.proofs.Tests.flip-eqb y w q)))
+      (inside-other y a e b (Rattle.field.proofs.TestLaws.flip-eqb y z p) ∙ sym (inside-other y a (into legs w e) b (Rattle.field.proofs.TestLaws.flip-eqb y w q)))
 
   head-is : aircraftAt F z 1 ≡ e .aircraft
   head-is = head-there f a e b runway legs d (m .from-zone) (m .heads)

@@ -9,22 +9,22 @@ use lib.Ieee.Fits.{and-i, and-l, and-r}
 use borrow.Author.Tests.{eqb-true}
 use Rattle.request.specs.Input.{within, firstRefused}
 use Rattle.request.specs.declared.Request.{Request}
-use Rattle.request.proofs.Tests as input
+use Rattle.request.proofs.InputTests as input
 use Rattle.field.specs.declared.Aircraft.{Aircraft}
 use Rattle.field.specs.declared.Legs.{Legs}
 use Rattle.field.specs.declared.Field.{Field}
 use Rattle.questions.specs.declared.Place.{Place}
-use Rattle.field.specs.Boxes.{opposite, sideOf, at3000, at2000, base}
+use Rattle.field.specs.Airspace.{opposite, sideOf, at3000, at2000, base}
 use Rattle.questions.specs.Counts.{howMany, isEmpty}
 use Rattle.questions.specs.Find.{placeOf, isFirst, leaderZone}
 use Rattle.order.specs.Model as model
 use Rattle.order.specs.Model.{Side, count, free, isNil, lastOr, descend, approaching, merge, final, hold}
 use Rattle.order.proofs.Facts.{okay-zones}
 use Rattle.rules.specs.Kinds.{startsFrom, zoneBefore, zoneAhead, mayApproach, mayMerge, baseFree, moved, approached, held}
-use Rattle.field.proofs.Tests.{passed, pass, if-true, zones-imply}
-use Rattle.line.proofs.Lists.{map-append, every-left}
+use Rattle.field.proofs.TestLaws.{passed, pass, if-true, zones-imply}
+use Rattle.line.proofs.AheadInLists.{map-append, every-left}
 use Rattle.line.proofs.Line.{Placed, zonesIn, numbersOf, fieldOf}
-use Rattle.line.proofs.Counted.{how-many, lower}
+use Rattle.line.proofs.CountedOnLine.{how-many, lower}
 use Rattle.questions.proofs.FindLaws.{numbers, at}
 use Rattle.line.proofs.Located.{first-there}
 use Rattle.line.proofs.Leaders.{nonzero, leader-zone}

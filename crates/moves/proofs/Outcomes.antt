@@ -15,10 +15,10 @@ use Rattle.field.specs.declared.Field.{Field}
 use Rattle.bounds.specs.Bounds.{withinBounds}
 use Rattle.order.specs.Model.{Side}
 use Rattle.rules.specs.Step.{checksOf, effectOf, numberOf}
-use Rattle.field.proofs.Tests.{passed, decided, if-true, if-false}
+use Rattle.field.proofs.TestLaws.{passed, decided, if-true, if-false}
 use Rattle.line.proofs.Line.{Placed, fieldOf}
 use Rattle.line.proofs.Orderly.{Orderly}
-use Rattle.line.proofs.Within.{within-bounds}
+use Rattle.line.proofs.LineWithin.{within-bounds}
 use Rattle.moves.proofs.After.{After}
 use Rattle.rules.proofs.Checks.{NeverOthers, needNumbers, need-never, input-never, refused-by, refused-append, checks-numbered, checks-refuse, input-numbered}
 use Rattle.rules.proofs.Refusals.{accepts}

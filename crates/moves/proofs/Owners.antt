@@ -8,15 +8,16 @@ use lib.Dec.{T, eqb}
 use lib.ListN.{length, length-map}
 use lib.Ieee.Fits.{and-l, and-r}
 use Rattle.request.specs.Input.{within}
-use Rattle.field.specs.Boxes.{operation}
+use Rattle.field.specs.Airspace.{operation}
 use Rattle.questions.specs.Counts.{total, ownedBy}
 use Rattle.field.specs.declared.Aircraft.{Aircraft}
-use Rattle.order.specs.Model.{one, all}
+use Rattle.field.specs.Lists.{every}
+use Rattle.order.specs.Model.{one}
 use Rattle.laws.proofs.TickLaws.{desk-kept}
-use Rattle.line.proofs.Lists.{map-append}
+use Rattle.line.proofs.AheadInLists.{map-append}
 use Rattle.line.proofs.Line.{Placed, zonesIn, inside}
-use Rattle.line.proofs.Counted.{total-same, total-add, total-none, one-each}
-use Rattle.moves.proofs.Ticking.{tickPlaced}
+use Rattle.line.proofs.CountedOnLine.{total-same, total-add, total-none, one-each}
+use Rattle.moves.proofs.TickOnLine.{tickPlaced}
 
 -- how many desks of a list pass the test
 abbrev pub passing : (ℕ → Bool) → List ℕ → ℕ
@@ -56,14 +57,14 @@ desks-ticked amount [] = refl
 desks-ticked amount (e ∷ line) = λ i. desk-kept amount (e .zone) (e .aircraft) i ∷ desks-ticked amount line i
 
 -- those of one desk: zone by zone, and along the line
-pub owned-in : (desk : ℕ) (line : List Placed) → T (all (within 1 12) (zonesIn line)) → total (λ z. ownedBy desk (inside z line)) operation ≡ passing (λ d. eqb d desk) (desksIn line)
+pub owned-in : (desk : ℕ) (line : List Placed) → T (every (within 1 12) (zonesIn line)) → total (λ z. ownedBy desk (inside z line)) operation ≡ passing (λ d. eqb d desk) (desksIn line)
 owned-in desk [] t = total-none operation
 owned-in desk (e ∷ line) t =
     let n = one (eqb (e .aircraft .desk) desk) in
     let a = total-same (λ z. ownedBy desk (inside z (e ∷ line))) (λ z. cond (eqb (e .zone) z) n 0 + ownedBy desk (inside z line)) operation tt (λ z u. here (eqb (e .zone) z) z) in
     let b = total-add (λ z. cond (eqb (e .zone) z) n 0) (λ z. ownedBy desk (inside z line)) operation in
-    let c = one-each n (e .zone) (and-l (within 1 12 (e .zone)) (all (within 1 12) (zonesIn line)) t) in
-    let d = owned-in desk line (and-r (within 1 12 (e .zone)) (all (within 1 12) (zonesIn line)) t) in
+    let c = one-each n (e .zone) (and-l (within 1 12 (e .zone)) (every (within 1 12) (zonesIn line)) t) in
+    let d = owned-in desk line (and-r (within 1 12 (e .zone)) (every (within 1 12) (zonesIn line)) t) in
     omega arith
   where
     here : (b : Bool) (z : ℕ) → ownedBy desk (cond b (e .aircraft ∷ inside z line) (inside z line)) ≡ cond b (one (eqb (e .aircraft .desk) desk)) 0 + ownedBy desk (inside z line)

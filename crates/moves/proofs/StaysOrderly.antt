@@ -10,22 +10,22 @@ use Rattle.limits.specs.Limits.{longestTick}
 use Rattle.leg.specs.Ticks.{Between}
 use Rattle.field.specs.declared.Aircraft.{Aircraft}
 use Rattle.field.specs.declared.Legs.{Legs}
-use Rattle.field.specs.Boxes.{isSide}
+use Rattle.field.specs.Airspace.{isSide}
 use Rattle.field.specs.Lists.{isIn, every, allDifferent}
 use Rattle.fits.specs.Fits.{fitsZone}
-use Rattle.order.specs.Model.{Side, right, left, opp, num, count, okay, firstFix}
-use Rattle.field.proofs.Lists.{absent-both}
-use Rattle.line.proofs.Lists.{map-append, every-append, every-left, every-right, different-with}
+use Rattle.order.specs.Model.{Side, rightSide, leftSide, opp, num, count, okay, firstFix}
+use Rattle.field.proofs.NumberLists.{absent-both}
+use Rattle.line.proofs.AheadInLists.{map-append, every-append, every-left, every-right, different-with}
 use Rattle.laws.proofs.TickLaws.{every-then, fix-kept, fits-ticked}
 use Rattle.line.proofs.Line.{Placed, zonesIn, numbersOf}
-use Rattle.line.proofs.Counted.{Alternates}
+use Rattle.line.proofs.CountedOnLine.{Alternates}
 use Rattle.questions.proofs.FindLaws.{numbers}
 use Rattle.line.proofs.Leaders.{nonzero}
 use Rattle.line.proofs.Members.{count-append, different-count, count-different, nonzero-count, count-nonzero}
 use Rattle.line.proofs.Orderly.{Orderly}
 use Rattle.moves.proofs.Moves.{same-numbers}
 use Rattle.moves.proofs.Enters.{entryFix, alternates-after}
-use Rattle.moves.proofs.Ticking.{tickPlaced, zones-same, numbers-same}
+use Rattle.moves.proofs.TickOnLine.{tickPlaced, zones-same, numbers-same}
 
 -- ---- numbers: a list in which no number stands more often
 module _ (xs ys : List ℕ) (h : (n : ℕ) → count xs n ≤ count ys n) where
@@ -38,8 +38,8 @@ module _ (xs ys : List ℕ) (h : (n : ℕ) → count xs n ≤ count ys n) where
 -- ---- a side is a fix that an aircraft may have
 pub side-fits : (s : Side) → T (isSide (num s))
 unfolding isSide
-side-fits right = tt
-side-fits left = tt
+side-fits rightSide = tt
+side-fits leftSide = tt
 
 -- ---- fixes along a line with one changed
 pub alternates-changed : (f : Side) (a : List Placed) (e g : Placed) (b : List Placed) → g .aircraft .fix ≡ e .aircraft .fix → Alternates f (a ++ e ∷ b) → Alternates f (a ++ g ∷ b)

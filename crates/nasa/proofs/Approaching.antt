@@ -10,11 +10,11 @@ use lib.Dec.{T, eqb, leb}
 use lib.ListN.{length}
 use Rattle.request.specs.Input.{within}
 use Rattle.request.specs.declared.Request.{Request}
-use Rattle.request.proofs.Tests as input
+use Rattle.request.proofs.InputTests as input
 use Rattle.field.specs.declared.Aircraft as field
 use Rattle.field.specs.declared.Field.{Field}
-use Rattle.field.specs.Boxes.{opposite, sideOf, at2000, inZone, orderOf}
-use Rattle.field.specs.Boxes as boxes
+use Rattle.field.specs.Airspace.{opposite, sideOf, at2000, inZone, orderOf}
+use Rattle.field.specs.Airspace as airspace
 use Rattle.field.specs.Lists.{isIn}
 use Rattle.field.specs.Edits.{before}
 use Rattle.questions.specs.Counts.{howMany}
@@ -26,25 +26,25 @@ use Rattle.rules.specs.Step.{effectOf, numberOf}
 use Rattle.rules.specs.Reason.{hasPlaces}
 use Rattle.order.specs.Model.{Side, opp, num}
 use Rattle.rules.proofs.Checks.{effect-at, first-passes}
-use Rattle.field.proofs.Tests.{decided, if-true, if-false, same}
+use Rattle.field.proofs.TestLaws.{decided, if-true, if-false, same}
 use Rattle.questions.proofs.FindLaws.{numbers}
-use Rattle.line.proofs.Counted.{not-13}
-use Rattle.nasa.specs.Definitions.{Aircraft, Zone, holding2, lez, base, intermediate, final, SCA, isFirst, leader, onZone, onApproach}
-use Rattle.nasa.specs.Rules.{zoneNumber, put, add, mayInitiate, verticalApproachInitiation, lateralApproachInitiation, merging}
+use Rattle.line.proofs.CountedOnLine.{not-13}
+use Rattle.nasa.specs.Definitions.{ScaAircraft, ScaZone, holding2, lez, base, intermediate, final, SCA, firstInSequence, leader, onZone, onApproach}
+use Rattle.nasa.specs.Rules.{zoneNumber, withQueue, add, mayInitiate, verticalApproachInitiation, lateralApproachInitiation, merging}
 use Rattle.nasa.specs.Stands.{sideNamed, seen, stateOf, sideBefore, approachInitiation, Is}
-use Rattle.nasa.proofs.Heads.{of-side, first-of, how-many-in, Heads, bounded, heading, heads}
-use Rattle.nasa.proofs.Asked.{in-sequence, first-seen, approach-seen, merge-seen}
-use Rattle.nasa.proofs.Moves.{leads, each-side, differing, here, there, goes}
+use Rattle.nasa.proofs.AcceptedHead.{of-side, first-of, how-many-in, Heads, bounded, heading, heads}
+use Rattle.nasa.proofs.AskedOfState.{in-sequence, first-seen, approach-seen, merge-seen}
+use Rattle.nasa.proofs.DescendFinalTaxi.{leads, each-side, differing, here, there, goes}
 
 -- ---- what is asked of a request's aircraft, at the head of zone z of the operation area
-module _ (f : Field) (t : T (withinBounds f)) (r : Request) (z : Zone) (at : zoneBefore f r ≡ zoneNumber z) (a : Heads f r (zoneBefore f r)) (u : T (within 1 12 (zoneNumber z))) where
+module _ (f : Field) (t : T (withinBounds f)) (r : Request) (z : ScaZone) (at : zoneBefore f r ≡ zoneNumber z) (a : Heads f r (zoneBefore f r)) (u : T (within 1 12 (zoneNumber z))) where
   abbrev n : ℕ
   n = a .x .number
 
   abbrev order : List ℕ
   order = orderOf (f .sequence)
 
-  abbrev pub one : Aircraft
+  abbrev pub one : ScaAircraft
   one = seen f (zoneNumber z) (a .x)
 
   pub listed : isIn n order ≡ true
@@ -55,21 +55,21 @@ module _ (f : Field) (t : T (withinBounds f)) (r : Request) (z : Zone) (at : zon
   pub seq-is : one .seq ≡ suc (before n order)
   seq-is = if-false 1 (suc (before n order)) (not-13 (zoneNumber z) u)
 
-  pub first-is : isFirst one ≡ find.isFirst (f .sequence) (r .number)
+  pub first-is : firstInSequence one ≡ find.isFirst (f .sequence) (r .number)
   first-is = ap (λ (s : ℕ). eqb s 1) seq-is ∙ first-seen f t n listed ∙ ap (find.isFirst (f .sequence)) (a .named)
 
   ahead-is : leaderZone f n ≡ zoneAhead f r
   ahead-is = ap (leaderZone f) (a .named)
 
-  pub merges : (isFirst one || onZone (stateOf f .queue intermediate) (leader one) || onZone (stateOf f .queue final) (leader one)) ≡ mayMerge (f .sequence) (r .number) (zoneAhead f r)
+  pub merges : (firstInSequence one || onZone (stateOf f .queue intermediate) (leader one) || onZone (stateOf f .queue final) (leader one)) ≡ mayMerge (f .sequence) (r .number) (zoneAhead f r)
   unfolding mayMerge
   merges =
-      or-assoc (isFirst one) (onZone (stateOf f .queue intermediate) (leader one)) (onZone (stateOf f .queue final) (leader one))
+      or-assoc (firstInSequence one) (onZone (stateOf f .queue intermediate) (leader one)) (onZone (stateOf f .queue final) (leader one))
       ∙ ap (λ (b : Bool). b || (onZone (stateOf f .queue intermediate) (leader one) || onZone (stateOf f .queue final) (leader one))) first-is
       ∙ ap (λ (s : ℕ). find.isFirst (f .sequence) (r .number) || (onZone (stateOf f .queue intermediate) (s - 1) || onZone (stateOf f .queue final) (s - 1))) seq-is
       ∙ ap (λ (b : Bool). find.isFirst (f .sequence) (r .number) || b) (merge-seen f t n listed ∙ ap (within 11 12) ahead-is)
 
-  approaches : (isFirst one || onApproach (stateOf f) (leader one)) ≡ mayApproach (f .sequence) (r .number) (zoneAhead f r)
+  approaches : (firstInSequence one || onApproach (stateOf f) (leader one)) ≡ mayApproach (f .sequence) (r .number) (zoneAhead f r)
   unfolding mayApproach
   approaches =
       ap (λ (b : Bool). b || onApproach (stateOf f) (leader one)) first-is
@@ -79,11 +79,11 @@ module _ (f : Field) (t : T (withinBounds f)) (r : Request) (z : Zone) (at : zon
   pub initiates : (s : Side) → sideOf (zoneBefore f r) ≡ num s → mayInitiate (stateOf f) s one ≡ (baseFree f (sideOf (zoneBefore f r)) && mayApproach (f .sequence) (r .number) (zoneAhead f r))
   unfolding baseFree opposite
   initiates s q =
-      let other = each-side (λ s. zoneNumber (base (opp s)) ≡ boxes.base (opposite (num s))) refl refl s in
-      let free : length (stateOf f .queue (base (opp s))) ≡ howMany f (boxes.base (opposite (sideOf (zoneBefore f r)))) =
-      how-many-in f (base (opp s)) ∙ ap (howMany f) (other ∙ ap (λ (y : ℕ). boxes.base (opposite y)) (sym q)) in
-      ap (λ (c : ℕ). leb c 1 && (isFirst one || onApproach (stateOf f) (leader one))) free
-      ∙ ap (λ (b : Bool). leb (howMany f (boxes.base (opposite (sideOf (zoneBefore f r))))) 1 && b) approaches
+      let other = each-side (λ s. zoneNumber (base (opp s)) ≡ airspace.base (opposite (num s))) refl refl s in
+      let free : length (stateOf f .queue (base (opp s))) ≡ howMany f (airspace.base (opposite (sideOf (zoneBefore f r)))) =
+      how-many-in f (base (opp s)) ∙ ap (howMany f) (other ∙ ap (λ (y : ℕ). airspace.base (opposite y)) (sym q)) in
+      ap (λ (c : ℕ). leb c 1 && (firstInSequence one || onApproach (stateOf f) (leader one))) free
+      ∙ ap (λ (b : Bool). leb (howMany f (airspace.base (opposite (sideOf (zoneBefore f r))))) 1 && b) approaches
 
 -- ---- kind 5
 module _ (f : Field) (h : T (hasPlaces f)) (r : Request) (k : r .kind ≡ 5) (e : numberOf f r ≡ 0) where
@@ -117,8 +117,8 @@ side-of-lateral : (s : Side) → sideOf (zoneNumber (lez s)) ≡ num s
 unfolding sideOf
 side-of-lateral = each-side (λ s. sideOf (zoneNumber (lez s)) ≡ num s) refl refl
 
-base-of : (s : Side) → boxes.base (num s) ≡ zoneNumber (base s)
-base-of = each-side (λ s. boxes.base (num s) ≡ zoneNumber (base s)) refl refl
+base-of : (s : Side) → airspace.base (num s) ≡ zoneNumber (base s)
+base-of = each-side (λ s. airspace.base (num s) ≡ zoneNumber (base s)) refl refl
 
 -- from 3 to 6 and not 5 or 6 is 3 or 4
 lower : (z : ℕ) → within 3 6 z ≡ true → within 5 6 z ≡ false → within 3 4 z ≡ true
@@ -149,12 +149,12 @@ module _ (f : Field) (h : T (hasPlaces f)) (r : Request) (k : r .kind ≡ 4) (e 
       let u = each-side (λ s. T (within 1 12 (zoneNumber (holding2 s)))) tt tt s in
       let low : within 5 6 z₀ ≡ false = ap (within 5 6) at ∙ each-side (λ s. within 5 6 (zoneNumber (holding2 s)) ≡ false) refl refl s in
       let own : sideOf z₀ ≡ num s = ap sideOf at ∙ side-of-2000 s in
-      let to : boxes.base (sideOf z₀) ≡ zoneNumber (base s) = ap boxes.base own ∙ base-of s in
+      let to : airspace.base (sideOf z₀) ≡ zoneNumber (base s) = ap airspace.base own ∙ base-of s in
       let met = first-passes 22 (within 5 6 z₀ || may) ((23, within 5 6 z₀ || free) ∷ []) (omega arith) (heading f h r e 4 k refl refl .others) in
       let p : may ≡ true = sym (ap (λ (b : Bool). b || may) low) ∙ met .0 in
       let q : free ≡ true = sym (ap (λ (b : Bool). b || free) low) ∙ first-passes 23 (within 5 6 z₀ || free) [] (omega arith) (met .1) .0 in
       leads f r (verticalApproachInitiation s) (there f h r e (holding2 s) (base s) at a d) (moved f (zoneNumber (holding2 s)) (zoneNumber (base s))) e
-      (effect-at f r k ∙ if-false _ (moved f z₀ (boxes.base (sideOf z₀))) low ∙ ap (moved f z₀) to ∙ ap (λ (y : ℕ). moved f y (zoneNumber (base s))) at)
+      (effect-at f r k ∙ if-false _ (moved f z₀ (airspace.base (sideOf z₀))) low ∙ ap (moved f z₀) to ∙ ap (λ (y : ℕ). moved f y (zoneNumber (base s))) at)
       (first-of f (holding2 s) (a .x) (a .rest) (here f h r e (holding2 s) (base s) at a d) _
       ∙ if-true _ [] (initiates f (bounded f h r e) r (holding2 s) at a u s own ∙ ap (λ (b : Bool). b && may) q ∙ p))
       (goes f h r e (holding2 s) (base s) at a d)
@@ -179,8 +179,8 @@ module _ (f : Field) (h : T (hasPlaces f)) (r : Request) (k : r .kind ≡ 4) (e 
       asked : mayInitiate (stateOf f) s (seen f (zoneNumber (lez s)) (a .x)) ≡ (may && free)
       asked = initiates f (bounded f h r e) r (lez s) at a u s own ∙ and-comm free may
 
-      to : (w : Zone) (g : ℕ → ℕ) → T (differing (lez s) w) → g (num s) ≡ zoneNumber w → effectOf f r ≡ moved f z₀ (g (sideOf z₀))
-          → lateralApproachInitiation s (stateOf f) ≡ add (put (stateOf f) (lez s) (map (seen f (zoneNumber (lez s))) (a .rest))) w (seen f (zoneNumber (lez s)) (a .x))
+      to : (w : ScaZone) (g : ℕ → ℕ) → T (differing (lez s) w) → g (num s) ≡ zoneNumber w → effectOf f r ≡ moved f z₀ (g (sideOf z₀))
+          → lateralApproachInitiation s (stateOf f) ≡ add (withQueue (stateOf f) (lez s) (map (seen f (zoneNumber (lez s))) (a .rest))) w (seen f (zoneNumber (lez s)) (a .x))
           ∷ [] → Is f r (lateralApproachInitiation s)
       to w g d q p i =
           leads f r (lateralApproachInitiation s) (there f h r e (lez s) w at a d) (moved f (zoneNumber (lez s)) (zoneNumber w)) e
@@ -188,7 +188,7 @@ module _ (f : Field) (h : T (hasPlaces f)) (r : Request) (k : r .kind ≡ 4) (e 
 
       go : ((may && free) ≡ true) ⊎ ((may && free) ≡ false) → Is f r (lateralApproachInitiation s)
       go (inl b) =
-          to (base s) boxes.base (each-side (λ s. T (differing (lez s) (base s))) tt tt s) (base-of s)
+          to (base s) airspace.base (each-side (λ s. T (differing (lez s) (base s))) tt tt s) (base-of s)
           (effect-at f r k ∙ if-true _ _ low ∙ if-true _ _ b)
           (first-of f (lez s) (a .x) (a .rest) (ap (inZone f) (sym at) ∙ a .here) _ ∙ ap (λ (x : SCA). x ∷ []) (if-true _ _ (asked ∙ b)))
       go (inr b) =

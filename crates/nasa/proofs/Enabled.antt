@@ -11,12 +11,12 @@ use lib.Ieee.Fits.{and-l}
 use lib.ListN.{length, getD}
 use Rattle.request.specs.Input.{within, isEntry, isTick, firstRefused, inputNumber}
 use Rattle.request.specs.declared.Request.{Request}
-use Rattle.request.proofs.Tests as input
+use Rattle.request.proofs.InputTests as input
 use Rattle.request.proofs.ByKind.{DeskKnown, move-allowed}
 use Rattle.field.specs.declared.Aircraft as field
 use Rattle.field.specs.declared.Field.{Field}
 use Rattle.questions.specs.declared.Place.{Place}
-use Rattle.field.specs.Boxes.{nobody, inZone, everywhere}
+use Rattle.field.specs.Airspace.{nobody, inZone, everywhere}
 use Rattle.field.specs.Lists.{isIn, every}
 use Rattle.questions.specs.Find.{placeOf, aircraftAt}
 use Rattle.bounds.specs.Bounds.{withinBounds}
@@ -27,22 +27,22 @@ use Rattle.rules.specs.Reason.{Sound}
 use Rattle.rules.proofs.Checks.{checks-at, owned, refused-append, checks-refuse}
 use Rattle.rules.proofs.StepLaws.{number-is}
 use Rattle.rules.proofs.Refusals.{accepts}
-use Rattle.field.proofs.Tests.{decided, passed, if-true, if-false, same}
-use Rattle.field.proofs.Lists.{zone-listed}
+use Rattle.field.proofs.TestLaws.{decided, passed, if-true, if-false, same}
+use Rattle.field.proofs.NumberLists.{zone-listed}
 use Rattle.questions.proofs.FindLaws.{numbers, at, in-zones}
 use Rattle.laws.proofs.Fits.{all-fit, fits-parts}
 use Rattle.laws.proofs.BoundLaws.{within-each}
 use Rattle.reason.proofs.Reason.{neither-10-nor-25}
-use Rattle.nasa.specs.Definitions.{Aircraft, Zone, SCA}
+use Rattle.nasa.specs.Definitions.{ScaAircraft, ScaZone, SCA}
 use Rattle.nasa.specs.Rules.{when, forFirst, zoneNumber}
 use Rattle.nasa.specs.Stands.{seen, stateOf}
 use Rattle.nasa.specs.Steps.{transitionFor}
 use Rattle.nasa.specs.Enabled.{headRequest, LeadsTo}
 use Rattle.nasa.proofs.States.{zone-number}
-use Rattle.nasa.proofs.Heads.{Heads}
-use Rattle.nasa.proofs.Asked.{not-zero}
+use Rattle.nasa.proofs.AcceptedHead.{Heads}
+use Rattle.nasa.proofs.AskedOfState.{not-zero}
 use Rattle.nasa.proofs.Leaving.{found-head}
-use Rattle.nasa.proofs.Steps.{steps-as}
+use Rattle.nasa.proofs.StepsAsTransitions.{steps-as}
 
 -- ---- a transition that leads on
 pub nowhere-on : {s : SCA} → [] ≡ s ∷ [] → ⊥
@@ -57,12 +57,12 @@ tested true t s q = refl
 tested false t s q = absurd (nowhere-on q)
 
 -- somebody is in its zone
-pub record First (f : Field) (z : Zone) : Type 0 where
+pub record First (f : Field) (z : ScaZone) : Type 0 where
   pub x : field.Aircraft
   pub rest : List field.Aircraft
   pub here : inZone f (zoneNumber z) ≡ x ∷ rest
 
-pub somebody : (f : Field) (z : Zone) (next : Aircraft → List Aircraft → List SCA) (s : SCA) → forFirst (stateOf f .queue z) next ≡ s ∷ [] → First f z
+pub somebody : (f : Field) (z : ScaZone) (next : ScaAircraft → List ScaAircraft → List SCA) (s : SCA) → forFirst (stateOf f .queue z) next ≡ s ∷ [] → First f z
 unfolding stateOf
 somebody f z next s q = go (inZone f (zoneNumber z)) refl
   where
@@ -94,7 +94,7 @@ module _ (f : Field) (S : Sound f) where
       record { accepted = number-is f r ∙ e; leads-to = head-same (sym own ∙ i) }
 
   -- ---- the first of zone z moves
-  module _ (z : Zone) (F : First f z) (k : ℕ) (kind : T (within 3 11 k)) where
+  module _ (z : ScaZone) (F : First f z) (k : ℕ) (kind : T (within 3 11 k)) where
     abbrev zn : ℕ
     zn = zoneNumber z
 

@@ -14,7 +14,7 @@ use Rattle.request.specs.declared.Request.{Request}
 use Rattle.field.specs.declared.Aircraft as field
 use Rattle.field.specs.declared.Sequence.{Sequence}
 use Rattle.field.specs.declared.Field.{Field}
-use Rattle.field.specs.Boxes.{isSide, operation, everywhere, zoneOf, inZone, orderOf, orderLength, entering}
+use Rattle.field.specs.Airspace.{isSide, operation, everywhere, zoneOf, inZone, orderOf, orderLength, entering}
 use Rattle.field.specs.Lists.{isIn, every, allDifferent}
 use Rattle.field.specs.Edits.{before, appended, withTail, withSequence}
 use Rattle.questions.specs.Counts.{howMany}
@@ -23,27 +23,27 @@ use Rattle.numbers.specs.Numbers.{sequenceExact}
 use Rattle.bounds.specs.Bounds.{withinBounds}
 use Rattle.rules.specs.Kinds.{tailPut, fixTaken, entered}
 use Rattle.order.specs.Model.{Side, opp, num}
-use Rattle.field.proofs.Tests.{decided, passed, if-true, if-false, same, either-way}
-use Rattle.field.proofs.Lists.{every-listed, absent-left, in-right}
-use Rattle.questions.proofs.Listed.{numbersAt, one-zone-more}
+use Rattle.field.proofs.TestLaws.{decided, passed, if-true, if-false, same, either-way}
+use Rattle.field.proofs.NumberLists.{every-listed, absent-left, in-right}
+use Rattle.questions.proofs.NumbersListed.{numbersAt, one-zone-more}
 use Rattle.questions.proofs.FindLaws.{numbers}
 use Rattle.laws.proofs.EditLaws.{Shaped, queue-put, queue-kept}
 use Rattle.laws.proofs.BoundLaws.{within-each, within-e}
-use Rattle.line.proofs.Counted.{not-13}
+use Rattle.line.proofs.CountedOnLine.{not-13}
 use Rattle.reason.proofs.Invariant.{parts}
-use Rattle.nasa.specs.Definitions.{Aircraft, Zone, aircraft}
-use Rattle.nasa.specs.Rules.{zoneNumber, put, add, withNext, enters}
+use Rattle.nasa.specs.Definitions.{ScaAircraft, ScaZone, aircraft}
+use Rattle.nasa.specs.Rules.{zoneNumber, withQueue, add, withNext, enters}
 use Rattle.nasa.specs.Stands.{sideNamed, seen, stateOf}
 use Rattle.nasa.proofs.States.{same-state, asSeen, zone-number}
-use Rattle.nasa.proofs.Moves.{each-side}
-use Rattle.nasa.proofs.Leaders.{one-less}
-use Rattle.nasa.proofs.Asked.{in-sequence}
+use Rattle.nasa.proofs.DescendFinalTaxi.{each-side}
+use Rattle.nasa.proofs.LeadersBySeq.{one-less}
+use Rattle.nasa.proofs.AskedOfState.{in-sequence}
 use Rattle.nasa.proofs.Sequences.{last-put, full-stays, before-kept, before-last, seen-kept}
 use Rattle.nasa.proofs.Missing.{opposite-named, either-named}
 use Rattle.nasa.proofs.Landed.{operating}
 
 -- ---- a new aircraft, whose number nobody has, at the end of zone z
-module _ (f : Field) (t : T (withinBounds f)) (k : Shaped f) (r : Request) (s : Side) (asks : r .side ≡ num s) (z : Zone) (inside : T (within 1 12 (zoneNumber z)))
+module _ (f : Field) (t : T (withinBounds f)) (k : Shaped f) (r : Request) (s : Side) (asks : r .side ≡ num s) (z : ScaZone) (inside : T (within 1 12 (zoneNumber z)))
     (absent : isIn (r .number) (numbersIn f everywhere) ≡ false) (room : howMany f (zoneNumber z) < 4) (after : T (withinBounds (entered f r (zoneNumber z)))) where
   abbrev zn : ℕ
   zn = zoneNumber z
@@ -135,29 +135,29 @@ module _ (f : Field) (t : T (withinBounds f)) (k : Shaped f) (r : Request) (s : 
   next-fix = opposite-named fix fix-is-side ∙ ap opp fix-named
 
   pub entered-state : stateOf g ≡ enters (stateOf f) z s
-  unfolding stateOf put add withNext enters orderLength
+  unfolding stateOf withQueue add withNext enters orderLength
   entered-state = same-state queues next-fix next-number
     where
       next-number : suc (length (orderOf (g .sequence))) ≡ suc (length order) + 1
       next-number = let i = ap length order-after in let l = length-append order (n ∷ []) in omega arith
 
-      own : (m : ℕ) → List Aircraft
+      own : (m : ℕ) → List ScaAircraft
       own m = map (seen f m) (inZone f m)
 
-      others : (y : Zone) → zoneNumber y ≢ zn → map (seen g (zoneNumber y)) (inZone f (zoneNumber y)) ≡ own (zoneNumber y)
+      others : (y : ScaZone) → zoneNumber y ≢ zn → map (seen g (zoneNumber y)) (inZone f (zoneNumber y)) ≡ own (zoneNumber y)
       others y h = elim (decided (eqb (zoneNumber y) 13)) [
         | inl p ↦ subst (λ (m : ℕ). map (seen g m) (inZone f m) ≡ map (seen f m) (inZone f m)) (sym (eqb-true (zoneNumber y) 13 p)) refl
         | inr p ↦ kept (zoneNumber y) (operating y p)
       ]
 
-      queues : (y : Zone) → stateOf g .queue y ≡ enters (stateOf f) z s .queue y
+      queues : (y : ScaZone) → stateOf g .queue y ≡ enters (stateOf f) z s .queue y
       queues y = elim (decided (eqb (zoneNumber y) zn)) [
         | inl p ↦
             ap (λ (m : ℕ). map (seen g m) (inZone g m)) (eqb-true (zoneNumber y) zn p)
             ∙ ap (map (seen g zn)) in-zone
             ∙ map-append (seen g zn) (inZone f zn) (a ∷ [])
-            ∙ ap (λ (l : List Aircraft). l ++ (seen g zn a ∷ [])) (kept zn inside)
-            ∙ ap (λ (c : Aircraft). own zn ++ (c ∷ [])) comes
+            ∙ ap (λ (l : List ScaAircraft). l ++ (seen g zn a ∷ [])) (kept zn inside)
+            ∙ ap (λ (c : ScaAircraft). own zn ++ (c ∷ [])) comes
             ∙ sym (if-true _ _ p)
         | inr p ↦ ap (map (seen g (zoneNumber y))) (in-others (zoneNumber y) (eqb-false (zoneNumber y) zn p)) ∙ others y (eqb-false (zoneNumber y) zn p) ∙ sym (if-false _ _ p)
       ]

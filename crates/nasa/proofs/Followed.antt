@@ -8,29 +8,29 @@ use native.Mathlib.Omega.{arith}
 use lib.Dec.{T, eqb, ltb}
 use Rattle.limits.specs.Limits.{fastest, desks}
 use Rattle.request.specs.Input.{within, firstRefused, inputNumber}
-use Rattle.request.proofs.Tests as input
+use Rattle.request.proofs.InputTests as input
 use Rattle.request.proofs.ByKind.{Keeps, none-broken}
 use Rattle.request.proofs.Rules.{rule-of-entry}
 use Rattle.field.specs.declared.Field.{Field}
-use Rattle.field.specs.Boxes.{sideOf, at2000, lateral, missed, legFlownOut}
+use Rattle.field.specs.Airspace.{sideOf, at2000, lateral, missed, legFlownOut}
 use Rattle.questions.specs.Counts.{isEmpty, approachHolds, potentialOf}
 use Rattle.questions.specs.Find.{placeOf, aircraftAt, isFirst}
 use Rattle.rules.specs.Kinds.{placeBefore, zoneBefore, zoneAhead, startsFrom, absentChecks, verticalNeeds, lateralNeeds, mayApproach, mayMerge, baseFree}
 use Rattle.rules.specs.Reason.{Sound}
 use Rattle.order.specs.Model.{Side, num}
 use Rattle.rules.proofs.Checks.{checks-at}
-use Rattle.field.proofs.Tests.{passed, if-true, if-false}
-use Rattle.nasa.specs.Definitions.{Zone, holding3, holding2, lez, maz, base, intermediate, final, runway, SCA, approachAssigned, virtual}
+use Rattle.field.proofs.TestLaws.{passed, if-true, if-false}
+use Rattle.nasa.specs.Definitions.{ScaZone, holding3, holding2, lez, maz, base, intermediate, final, runway, SCA, approachAssigned, virtual}
 use Rattle.nasa.specs.Definitions as model
 use Rattle.nasa.specs.Rules.{Transition, nobodyIn, zoneNumber, mayInitiate, verticalEntry, lateralEntry, holdingPatternDescend, verticalApproachInitiation}
 use Rattle.nasa.specs.Rules.{lateralApproachInitiation, merging, exit, finalSegment, landing, taxing, missedApproach, lowestAvailableAltitude}
 use Rattle.nasa.specs.Stands.{sideNamed, seen, stateOf, entryAbove}
 use Rattle.nasa.specs.Enabled.{vertically, laterally, descends, initiates, initiatesLateral, merges, holds, exits, goesFinal}
 use Rattle.nasa.specs.Enabled.{lands, taxies, misses, Entrant, entryRequest, headRequest, mayCome, LeadsTo, Enabled}
-use Rattle.nasa.proofs.Heads.{first-of, nobody-in}
-use Rattle.nasa.proofs.Moves.{each-side}
+use Rattle.nasa.proofs.AcceptedHead.{first-of, nobody-in}
+use Rattle.nasa.proofs.DescendFinalTaxi.{each-side}
 use Rattle.nasa.proofs.Approaching as asked
-use Rattle.nasa.proofs.Counts.{virtual-is, approach-is}
+use Rattle.nasa.proofs.StateCounts.{virtual-is, approach-is}
 use Rattle.nasa.proofs.Enabled.{tested, somebody, accepted-by, follows, zone-is, head, moves-on}
 
 module _ (f : Field) (S : Sound f) where
@@ -135,7 +135,7 @@ module _ (f : Field) (S : Sound f) where
       let zone = zone-is f S intermediate F 9 tt in
       let met : isFirst (f .sequence) (r .number) ≡ true =
       sym (asked.first-is f (S .bounds) r intermediate zone (head f S intermediate F 9 tt) tt)
-      ∙ tested (model.isFirst (seen f 11 (F .x))) _ t (sym (first-of f intermediate (F .x) (F .rest) (F .here) _) ∙ q) in
+      ∙ tested (model.firstInSequence (seen f 11 (F .x))) _ t (sym (first-of f intermediate (F .x) (F .rest) (F .here) _) ∙ q) in
       follows f S r 9 refl (moves-on f S intermediate F 9 tt refl (input.none-refused ((15, legFlownOut (aircraftAt f 11 1)) ∷ (22, isFirst (f .sequence) (r .number)) ∷ []) (flown, (met, tt)))) t q
 
   missing : (t : SCA) → missedApproach State ≡ t ∷ [] → LeadsTo f (headRequest f 10 final) t
@@ -212,7 +212,7 @@ module _ (f : Field) (S : Sound f) where
       let four = input.both-left (a && b && c && d) g five in
       let three = input.both-left (a && b && c) d four in
       let two = input.both-left (a && b) c three in
-      let empty : (z : Zone) (n : ℕ) → n ≡ zoneNumber z → nobodyIn State z ≡ true → isEmpty f n ≡ true = λ z n p i. ap (isEmpty f) p ∙ sym (nobody-in f z) ∙ i in
+      let empty : (z : ScaZone) (n : ℕ) → n ≡ zoneNumber z → nobodyIn State z ≡ true → isEmpty f n ≡ true = λ z n p i. ap (isEmpty f) p ∙ sym (nobody-in f z) ∙ i in
       let p16 : ltb (potentialOf f (num s)) 2 ≡ true = ap (λ (m : ℕ). ltb m 2) (sym (virtual-is f (S .bounds) s)) ∙ input.both-left a b two in
       let p17 : not (approachHolds f (num s)) ≡ true = ap not (sym (approach-is f (S .bounds) s)) ∙ input.both-right a b two in
       let p18 = empty (maz s) (missed (num s)) (each-side (λ s. missed (num s) ≡ zoneNumber (maz s)) refl refl s) (input.both-right (a && b) c three) in

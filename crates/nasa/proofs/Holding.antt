@@ -13,23 +13,23 @@ use Rattle.request.specs.Input.{within}
 use Rattle.request.specs.declared.Request.{Request}
 use Rattle.field.specs.declared.Aircraft as field
 use Rattle.field.specs.declared.Field.{Field}
-use Rattle.field.specs.Boxes.{sideOf, at3000, at2000, inZone, arrived}
+use Rattle.field.specs.Airspace.{sideOf, at3000, at2000, inZone, arrived}
 use Rattle.field.specs.Edits.{withZone}
 use Rattle.questions.specs.Counts.{howMany, isEmpty}
 use Rattle.questions.specs.Find.{aircraftAt}
 use Rattle.rules.specs.Kinds.{zoneBefore, startsFrom, headGone, tailPut, moved, descended, held}
 use Rattle.rules.specs.Step.{effectOf, numberOf}
 use Rattle.rules.specs.Reason.{hasPlaces}
-use Rattle.order.specs.Model.{Side, right, left, num}
+use Rattle.order.specs.Model.{Side, rightSide, leftSide, num}
 use Rattle.rules.proofs.Checks.{effect-at}
-use Rattle.field.proofs.Tests.{decided, failed, if-true, if-false}
+use Rattle.field.proofs.TestLaws.{decided, failed, if-true, if-false}
 use Rattle.laws.proofs.EditLaws.{Shaped}
-use Rattle.nasa.specs.Definitions.{Aircraft, Zone, holding3, holding2, maz, SCA}
-use Rattle.nasa.specs.Rules.{zoneNumber, put, add, lowestAvailableAltitude}
+use Rattle.nasa.specs.Definitions.{ScaAircraft, ScaZone, holding3, holding2, maz, SCA}
+use Rattle.nasa.specs.Rules.{zoneNumber, withQueue, add, lowestAvailableAltitude}
 use Rattle.nasa.specs.Stands.{sideNamed, seen, stateOf, sideBefore, Is}
 use Rattle.nasa.proofs.States.{zone-number, moved-shaped, put-here, put-elsewhere, moved-state}
-use Rattle.nasa.proofs.Heads.{has-room, of-side, first-of, nobody-in, Heads, bounded, shape, heading, heads}
-use Rattle.nasa.proofs.Moves.{leads, each-side, differing, there, goes}
+use Rattle.nasa.proofs.AcceptedHead.{has-room, of-side, first-of, nobody-in, Heads, bounded, shape, heading, heads}
+use Rattle.nasa.proofs.DescendFinalTaxi.{leads, each-side, differing, there, goes}
 
 -- a queue that is not empty has a head
 begins : (l : List field.Aircraft) → eqb (length l) 0 ≡ false → (x : field.Aircraft) × (xs : List field.Aircraft) × (l ≡ x ∷ xs)
@@ -69,8 +69,8 @@ module _ (f : Field) (h : T (hasPlaces f)) (r : Request) (k : r .kind ≡ 11) (e
   lower = ap at2000 own ∙ each-side (λ s. at2000 (num s) ≡ zoneNumber (holding2 s)) refl refl s
 
   -- to 2000 or to 3000, where nobody is at 3000
-  to : (w : Zone) → T (differing (maz s) w) → effectOf f r ≡ moved f z₀ (zoneNumber w)
-      → lowestAvailableAltitude s (stateOf f) ≡ add (put (stateOf f) (maz s) (map (seen f zn) (a .rest))) w (seen f zn (a .x)) ∷ [] → Is f r (lowestAvailableAltitude s)
+  to : (w : ScaZone) → T (differing (maz s) w) → effectOf f r ≡ moved f z₀ (zoneNumber w)
+      → lowestAvailableAltitude s (stateOf f) ≡ add (withQueue (stateOf f) (maz s) (map (seen f zn) (a .rest))) w (seen f zn (a .x)) ∷ [] → Is f r (lowestAvailableAltitude s)
   to w d p i = leads f r (lowestAvailableAltitude s) (there f h r e (maz s) w at a d) (moved f zn (zoneNumber w)) e (p ∙ ap (λ (y : ℕ). moved f y (zoneNumber w)) at) i (goes f h r e (maz s) w at a d)
 
   -- ---- both move, where x is at 3000
@@ -78,14 +78,14 @@ module _ (f : Field) (h : T (hasPlaces f)) (r : Request) (k : r .kind ≡ 11) (e
     abbrev g : Field
     g = moved f up down
 
-    apart : (z w : Side → Zone) → T (differing (z right) (w right)) → T (differing (z left) (w left)) → zoneNumber (z s) ≢ zoneNumber (w s)
-    apart z w p q = each-side (λ s. zoneNumber (z s) ≢ zoneNumber (w s)) (unlike (zoneNumber (z right)) (zoneNumber (w right)) p)
-        (unlike (zoneNumber (z left)) (zoneNumber (w left)) q) s
+    apart : (z w : Side → ScaZone) → T (differing (z rightSide) (w rightSide)) → T (differing (z leftSide) (w leftSide)) → zoneNumber (z s) ≢ zoneNumber (w s)
+    apart z w p q = each-side (λ s. zoneNumber (z s) ≢ zoneNumber (w s)) (unlike (zoneNumber (z rightSide)) (zoneNumber (w rightSide)) p)
+        (unlike (zoneNumber (z leftSide)) (zoneNumber (w leftSide)) q) s
       where
         unlike : (m n : ℕ) → T (within 1 12 m && within 1 12 n && not (eqb m n)) → m ≢ n
         unlike m n t = eqb-false m n (failed (and-r (within 1 12 m && within 1 12 n) (not (eqb m n)) t))
 
-    inside : (z : Side → Zone) → T (within 1 12 (zoneNumber (z right))) → T (within 1 12 (zoneNumber (z left))) → T (within 1 12 (zoneNumber (z s)))
+    inside : (z : Side → ScaZone) → T (within 1 12 (zoneNumber (z rightSide))) → T (within 1 12 (zoneNumber (z leftSide))) → T (within 1 12 (zoneNumber (z s)))
     inside z p q = each-side (λ s. T (within 1 12 (zoneNumber (z s)))) p q s
 
     someone : (z : ℕ) (y : field.Aircraft) (ys : List field.Aircraft) → inZone f z ≡ y ∷ ys → 1 ≤ howMany f z
@@ -119,14 +119,14 @@ module _ (f : Field) (h : T (hasPlaces f)) (r : Request) (k : r .kind ≡ 11) (e
         omega arith
 
     abbrev between : SCA
-    between = add (put (stateOf f) (holding3 s) (map (seen f up) others)) (holding2 s) (seen f up x)
+    between = add (withQueue (stateOf f) (holding3 s) (map (seen f up) others)) (holding2 s) (seen f up x)
 
-    both : stateOf (moved g zn up) ≡ add (put between (maz s) (map (seen f zn) (a .rest))) (holding3 s) (seen f zn (a .x))
+    both : stateOf (moved g zn up) ≡ add (withQueue between (maz s) (map (seen f zn) (a .rest))) (holding3 s) (seen f zn (a .x))
     unfolding moved tailPut headGone withZone
     both =
         moved-state g g-shaped (maz s) (holding3 s) (apart holding3 maz tt tt) (a .x) (a .rest) g-missed g-room
         (each-side (λ s. eqb (zoneNumber (maz s)) 13 ≡ eqb (zoneNumber (holding3 s)) 13) refl refl s)
-        ∙ ap (λ (t : SCA). add (put t (maz s) (map (seen f zn) (a .rest))) (holding3 s) (seen f zn (a .x)))
+        ∙ ap (λ (t : SCA). add (withQueue t (maz s) (map (seen f zn) (a .rest))) (holding3 s) (seen f zn (a .x)))
         (moved-state f (shape f h r e) (holding3 s) (holding2 s) (apart holding2 holding3 tt tt) x others above room-below
         (each-side (λ s. eqb (zoneNumber (holding3 s)) 13 ≡ eqb (zoneNumber (holding2 s)) 13) refl refl s))
 
@@ -149,7 +149,7 @@ module _ (f : Field) (h : T (hasPlaces f)) (r : Request) (k : r .kind ≡ 11) (e
       go (inr p) q =
           let top = begins (inZone f up) p in
           let below : at2000 up ≡ down = each-side (λ s. at2000 (zoneNumber (holding3 s)) ≡ zoneNumber (holding2 s)) refl refl s in
-          leads f r (lowestAvailableAltitude s) (add (put (between (top .0) (top .1) (top .2)) (maz s) (map (seen f zn) (a .rest))) (holding3 s) (seen f zn (a .x)))
+          leads f r (lowestAvailableAltitude s) (add (withQueue (between (top .0) (top .1) (top .2)) (maz s) (map (seen f zn) (a .rest))) (holding3 s) (seen f zn (a .x)))
           (moved (moved f up down) zn up) e
           (effect ∙ if-false _ _ (ap (isEmpty f) upper ∙ p) ∙ ap (λ (y : ℕ). moved (descended f y) z₀ y) upper
           ∙ ap (λ (y : ℕ). moved (moved f up y) z₀ up) below ∙ ap (λ (y : ℕ). moved (moved f up down) y up) at)

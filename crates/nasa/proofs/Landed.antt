@@ -10,10 +10,10 @@ use lib.Dec.{T, eqb}
 use lib.ListN.{length}
 use Rattle.request.specs.Input.{within}
 use Rattle.request.specs.declared.Request.{Request}
-use Rattle.request.proofs.Tests as input
+use Rattle.request.proofs.InputTests as input
 use Rattle.field.specs.declared.Aircraft as field
 use Rattle.field.specs.declared.Field.{Field}
-use Rattle.field.specs.Boxes.{zoneOf, inZone, orderOf, orderLength, arrived, onLeg}
+use Rattle.field.specs.Airspace.{zoneOf, inZone, orderOf, orderLength, arrived, onLeg}
 use Rattle.field.specs.Lists.{isIn}
 use Rattle.field.specs.Edits.{before, removed, withZone, withSequence}
 use Rattle.questions.specs.Counts.{howMany, isEmpty}
@@ -22,22 +22,22 @@ use Rattle.rules.specs.Kinds.{zoneBefore, startsFrom, flownOutCheck, headGone, 
 use Rattle.rules.specs.Step.{numberOf}
 use Rattle.rules.specs.Reason.{hasPlaces}
 use Rattle.rules.proofs.Checks.{effect-at, first-passes}
-use Rattle.field.proofs.Tests.{decided, pass, if-true, if-false, same}
-use Rattle.questions.proofs.Listed.{numbersAt}
+use Rattle.field.proofs.TestLaws.{decided, pass, if-true, if-false, same}
+use Rattle.questions.proofs.NumbersListed.{numbersAt}
 use Rattle.questions.proofs.FindLaws.{numbers}
-use Rattle.line.proofs.Counted.{none}
-use Rattle.nasa.specs.Definitions.{Aircraft, Zone, intermediate, final, runway, SCA, decrease}
-use Rattle.nasa.specs.Rules.{zoneNumber, sameZone, put, add, withNext, decreased, lowered, exit, landing}
+use Rattle.line.proofs.CountedOnLine.{none}
+use Rattle.nasa.specs.Definitions.{ScaAircraft, ScaZone, intermediate, final, runway, SCA, decrease}
+use Rattle.nasa.specs.Rules.{zoneNumber, sameZone, withQueue, add, withNext, decreased, lowered, exit, landing}
 use Rattle.nasa.specs.Stands.{sideNamed, seen, stateOf, Is}
 use Rattle.nasa.proofs.States.{same-state, asSeen, zone-number, gone-here, gone-there, head-first, put-there, put-here, put-elsewhere}
-use Rattle.nasa.proofs.Heads.{only-zone, first-of, nobody-in, bounded, shape, heading, heads}
-use Rattle.nasa.proofs.Moves.{leads}
+use Rattle.nasa.proofs.AcceptedHead.{only-zone, first-of, nobody-in, bounded, shape, heading, heads}
+use Rattle.nasa.proofs.DescendFinalTaxi.{leads}
 use Rattle.nasa.proofs.Approaching.{first-is}
 use Rattle.nasa.proofs.Sequences.{first-left}
 use Rattle.nasa.proofs.Leaving.{behind, elsewhere-apart, lowered-elsewhere, lowered-rest, final-first}
 
 -- a zone that is not the runway is one of the operation area
-pub operating : (y : Zone) → eqb (zoneNumber y) 13 ≡ false → T (within 1 12 (zoneNumber y))
+pub operating : (y : ScaZone) → eqb (zoneNumber y) 13 ≡ false → T (within 1 12 (zoneNumber y))
 operating y e = let b = zone-number y in let n = eqb-false (zoneNumber y) 13 e in pass (input.within-yes 1 12 (zoneNumber y) (b .least) (omega arith))
 
 -- the next sequence number, when one has left
@@ -89,7 +89,7 @@ module _ (f : Field) (h : T (hasPlaces f)) (r : Request) (k : r .kind ≡ 7) (e 
   unfolding landed outOfSequence withSequence moved inZone zoneOf
   in-others y p q = put-elsewhere f (shape f h r e) 12 13 (zone-number final) (zone-number runway) apart x rest here a room y p q
 
-  abbrev R : List Aircraft
+  abbrev R : List ScaAircraft
   R = map (seen f 12) rest
 
   -- on the runway it has the sequence number that it had, 1
@@ -101,16 +101,16 @@ module _ (f : Field) (h : T (hasPlaces f)) (r : Request) (k : r .kind ≡ 7) (e 
       ∙ ap (λ (m : ℕ). asSeen (suc m) (x .fix)) (sym one)
 
   abbrev after : SCA
-  after = withNext (add (decreased (λ z. sameZone z runway) (put (stateOf f) final R)) runway (seen f 12 x)) (stateOf f .nextmahf) (lowered (stateOf f .nextseq))
+  after = withNext (add (decreased (λ z. sameZone z runway) (withQueue (stateOf f) final R)) runway (seen f 12 x)) (stateOf f .nextmahf) (lowered (stateOf f .nextseq))
 
   landed-state : stateOf g ≡ after
-  unfolding stateOf put add withNext decreased orderLength
+  unfolding stateOf withQueue add withNext decreased orderLength
   landed-state = same-state queues (ap sideNamed next-kept) next-number
     where
       next-number : suc (length (orderOf (g .sequence))) ≡ lowered (suc (length (orderOf (f .sequence))))
       next-number = ap (λ (l : List ℕ). suc (length l)) order-after ∙ one-fewer (x .number) ns ∙ ap (λ (l : List ℕ). lowered (suc (length l))) (sym o)
 
-      off-runway : (y : Zone) → eqb (zoneNumber y) 13 ≡ false
+      off-runway : (y : ScaZone) → eqb (zoneNumber y) 13 ≡ false
           → map (seen g (zoneNumber y)) (inZone g (zoneNumber y)) ≡ decrease (cond (eqb (zoneNumber y) 12) R (map (seen f (zoneNumber y)) (inZone f (zoneNumber y))))
       off-runway y p = elim (decided (eqb (zoneNumber y) 12)) [
         | inl q ↦
@@ -125,12 +125,12 @@ module _ (f : Field) (h : T (hasPlaces f)) (r : Request) (k : r .kind ≡ 7) (e 
             ∙ ap decrease (sym (if-false R _ q))
       ]
 
-      queues : (y : Zone) → stateOf g .queue y ≡ after .queue y
+      queues : (y : ScaZone) → stateOf g .queue y ≡ after .queue y
       queues y = elim (decided (eqb (zoneNumber y) 13)) [
         | inl p ↦
             ap (λ (m : ℕ). map (seen g m) (inZone g m)) (eqb-true (zoneNumber y) 13 p)
             ∙ ap (map (seen g 13)) on-runway
-            ∙ ap (λ (c : Aircraft). c ∷ []) lands
+            ∙ ap (λ (c : ScaAircraft). c ∷ []) lands
             ∙ ap (λ (l : List field.Aircraft). map (seen f 13) l ++ (seen f 12 x ∷ [])) (sym nobody-there)
             ∙ sym (if-true _ _ p)
         | inr p ↦ off-runway y p ∙ sym (if-false _ _ p ∙ if-false _ _ p)
@@ -192,20 +192,20 @@ module _ (f : Field) (h : T (hasPlaces f)) (r : Request) (k : r .kind ≡ 9) (e 
           head-same : {m n : ℕ} {ms os : List ℕ} → m ∷ ms ≡ n ∷ os → m ≡ n
           head-same {m} {n} {ms} {os} w = cc
 
-  abbrev R₉ : List Aircraft
+  abbrev R₉ : List ScaAircraft
   R₉ = map (seen f 11) rest
 
   abbrev after-exit : SCA
-  after-exit = withNext (decreased (λ z. sameZone z final || sameZone z runway) (put (stateOf f) intermediate R₉)) (stateOf f .nextmahf) (lowered (stateOf f .nextseq))
+  after-exit = withNext (decreased (λ z. sameZone z final || sameZone z runway) (withQueue (stateOf f) intermediate R₉)) (stateOf f .nextmahf) (lowered (stateOf f .nextseq))
 
   exited-state : stateOf g₉ ≡ after-exit
-  unfolding stateOf put add withNext decreased orderLength
+  unfolding stateOf withQueue add withNext decreased orderLength
   exited-state = same-state queues (ap sideNamed next-out) next-number
     where
       next-number : suc (length (orderOf (g₉ .sequence))) ≡ lowered (suc (length (orderOf (f .sequence))))
       next-number = ap (λ (l : List ℕ). suc (length l)) order-out ∙ one-fewer (x .number) ns ∙ ap (λ (l : List ℕ). lowered (suc (length l))) (sym o)
 
-      own : (n : ℕ) → List Aircraft
+      own : (n : ℕ) → List ScaAircraft
       own n = cond (eqb n 11) R₉ (map (seen f n) (inZone f n))
 
       -- on final and on the runway
@@ -215,7 +215,7 @@ module _ (f : Field) (h : T (hasPlaces f)) (r : Request) (k : r .kind ≡ 9) (e 
       on-final-too : map (seen g₉ 12) (inZone f 12) ≡ map (seen f 12) (inZone f 12)
       on-final-too = ap (map (seen g₉ 12)) none-on-final ∙ sym (ap (map (seen f 12)) none-on-final)
 
-      others : (y : Zone) → eqb (zoneNumber y) 13 ≡ false → map (seen g₉ (zoneNumber y)) (inZone g₉ (zoneNumber y)) ≡ decrease (own (zoneNumber y))
+      others : (y : ScaZone) → eqb (zoneNumber y) 13 ≡ false → map (seen g₉ (zoneNumber y)) (inZone g₉ (zoneNumber y)) ≡ decrease (own (zoneNumber y))
       others y p = elim (decided (eqb (zoneNumber y) 11)) [
         | inl q ↦
             ap (λ (m : ℕ). map (seen g₉ m) (inZone g₉ m)) (eqb-true (zoneNumber y) 11 q)
@@ -228,7 +228,7 @@ module _ (f : Field) (h : T (hasPlaces f)) (r : Request) (k : r .kind ≡ 9) (e 
             ∙ ap decrease (sym (if-false R₉ _ q))
       ]
 
-      queues : (y : Zone) → stateOf g₉ .queue y ≡ after-exit .queue y
+      queues : (y : ScaZone) → stateOf g₉ .queue y ≡ after-exit .queue y
       queues y = go (decided (eqb (zoneNumber y) 12)) (decided (eqb (zoneNumber y) 13))
         where
           n : ℕ

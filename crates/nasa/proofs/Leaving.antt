@@ -11,26 +11,26 @@ use lib.Ieee.Fits.{and-l}
 use lib.ListN.{length, getD}
 use Rattle.leg.specs.Ticks.{Between}
 use Rattle.request.specs.Input.{within}
-use Rattle.request.proofs.Tests as input
+use Rattle.request.proofs.InputTests as input
 use Rattle.field.specs.declared.Aircraft as field
 use Rattle.field.specs.declared.Sequence.{Sequence}
 use Rattle.field.specs.declared.Field.{Field}
 use Rattle.questions.specs.declared.Place.{Place}
-use Rattle.field.specs.Boxes.{nobody, inZone, orderOf, everywhere}
+use Rattle.field.specs.Airspace.{nobody, inZone, orderOf, everywhere}
 use Rattle.field.specs.Lists.{isIn, allDifferent}
 use Rattle.field.specs.Edits.{before}
 use Rattle.questions.specs.Counts.{howMany}
 use Rattle.questions.specs.Find.{placeOf, aircraftAt, numbersIn, isHead, isFirst}
 use Rattle.bounds.specs.Bounds.{finalFirst, withinBounds}
-use Rattle.field.proofs.Tests.{decided, passed, failed}
-use Rattle.field.proofs.Lists.{absent-left, different-right, zone-listed}
-use Rattle.questions.proofs.Listed.{numbersAt}
+use Rattle.field.proofs.TestLaws.{decided, passed, failed}
+use Rattle.field.proofs.NumberLists.{absent-left, different-right, zone-listed}
+use Rattle.questions.proofs.NumbersListed.{numbersAt}
 use Rattle.questions.proofs.FindLaws.{numbers, at, own-place}
 use Rattle.laws.proofs.BoundLaws.{within-e, numbers-different}
-use Rattle.line.proofs.Counted.{lower, not-13}
-use Rattle.nasa.specs.Definitions.{Aircraft, decrease}
+use Rattle.line.proofs.CountedOnLine.{lower, not-13}
+use Rattle.nasa.specs.Definitions.{ScaAircraft, decrease}
 use Rattle.nasa.specs.Stands.{seen}
-use Rattle.nasa.proofs.Asked.{in-sequence, in-its-zone}
+use Rattle.nasa.proofs.AskedOfState.{in-sequence, in-its-zone}
 use Rattle.nasa.proofs.Sequences.{seen-lowered}
 
 -- the first of a sequence, and those behind it

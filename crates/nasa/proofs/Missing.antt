@@ -12,10 +12,10 @@ use lib.ListN.{length, length-append}
 use Rattle.leg.specs.Ticks.{Between}
 use Rattle.request.specs.Input.{within}
 use Rattle.request.specs.declared.Request.{Request}
-use Rattle.request.proofs.Tests as input
+use Rattle.request.proofs.InputTests as input
 use Rattle.field.specs.declared.Aircraft as field
 use Rattle.field.specs.declared.Field.{Field}
-use Rattle.field.specs.Boxes.{isSide, opposite, missed, everywhere, zoneOf, inZone, orderOf, orderLength, turnedAway, onLeg, withFix}
+use Rattle.field.specs.Airspace.{isSide, opposite, missed, everywhere, zoneOf, inZone, orderOf, orderLength, arrivedByMiss, onLeg, withFix}
 use Rattle.field.specs.Lists.{isIn, every, allDifferent}
 use Rattle.field.specs.Edits.{before, appended, removed, withSequence}
 use Rattle.questions.specs.Counts.{howMany}
@@ -25,21 +25,21 @@ use Rattle.rules.specs.Kinds.{zoneBefore, startsFrom, headGone, tailPut, fixAft
 use Rattle.rules.specs.Kinds as rules
 use Rattle.rules.specs.Step.{numberOf}
 use Rattle.rules.specs.Reason.{hasPlaces}
-use Rattle.order.specs.Model.{Side, left, opp}
+use Rattle.order.specs.Model.{Side, leftSide, opp}
 use Rattle.rules.proofs.Checks.{effect-at}
-use Rattle.field.proofs.Tests.{decided, passed, failed, if-true, if-false, either-way}
-use Rattle.field.proofs.Lists.{every-listed, zone-listed}
+use Rattle.field.proofs.TestLaws.{decided, passed, failed, if-true, if-false, either-way}
+use Rattle.field.proofs.NumberLists.{every-listed, zone-listed}
 use Rattle.laws.proofs.BoundLaws.{within-each}
 use Rattle.laws.proofs.Fits.{fits-parts}
-use Rattle.line.proofs.Counted.{not-13}
+use Rattle.line.proofs.CountedOnLine.{not-13}
 use Rattle.reason.proofs.Invariant.{parts}
-use Rattle.nasa.specs.Definitions.{Aircraft, Zone, maz, final, runway, SCA, decrease, reassign}
-use Rattle.nasa.specs.Rules.{zoneNumber, sameZone, put, add, withNext, decreased, missedApproach}
+use Rattle.nasa.specs.Definitions.{ScaAircraft, ScaZone, maz, final, runway, SCA, decrease, reassign}
+use Rattle.nasa.specs.Rules.{zoneNumber, sameZone, withQueue, add, withNext, decreased, missedApproach}
 use Rattle.nasa.specs.Stands.{sideNamed, seen, stateOf, Is}
 use Rattle.nasa.proofs.States.{same-state, asSeen, zone-number, head-first, put-there, put-here, put-elsewhere}
-use Rattle.nasa.proofs.Heads.{has-room, only-zone, first-of, bounded, shape, heading, heads}
-use Rattle.nasa.proofs.Moves.{leads}
-use Rattle.nasa.proofs.Asked.{sequence-different}
+use Rattle.nasa.proofs.AcceptedHead.{has-room, only-zone, first-of, bounded, shape, heading, heads}
+use Rattle.nasa.proofs.DescendFinalTaxi.{leads}
+use Rattle.nasa.proofs.AskedOfState.{sequence-different}
 use Rattle.nasa.proofs.Sequences.{order-length, first-left, shaped-left, last-put, before-kept, before-last}
 use Rattle.nasa.proofs.Leaving.{behind, lowered-elsewhere, lowered-rest, final-first}
 use Rattle.nasa.proofs.Landed.{operating}
@@ -70,9 +70,9 @@ fix-side f t z b x rest here =
     let all = every-listed (λ z. every (fitsZone (f .legs) z) (inZone f z)) everywhere z (parts f (within-each f t) .fit) (zone-listed z b) in
     fits-parts (f .legs) z x (and-l (fitsZone (f .legs) z x) (every (fitsZone (f .legs) z) rest) (subst (λ (l : List field.Aircraft). T (every (fitsZone (f .legs) z) l)) here all)) .side
 
-decrease-append : (p q : List Aircraft) → decrease (p ++ q) ≡ decrease p ++ decrease q
+decrease-append : (p q : List ScaAircraft) → decrease (p ++ q) ≡ decrease p ++ decrease q
 decrease-append [] q = refl
-decrease-append (a ∷ p) q = ap (λ (l : List Aircraft). record { seq = a .seq - 1; mahf = a .mahf } ∷ l) (decrease-append p q)
+decrease-append (a ∷ p) q = ap (λ (l : List ScaAircraft). record { seq = a .seq - 1; mahf = a .mahf } ∷ l) (decrease-append p q)
 
 -- ---- kind 10
 module _ (f : Field) (h : T (hasPlaces f)) (r : Request) (k : r .kind ≡ 10) (e : numberOf f r ≡ 0) (x : field.Aircraft)
@@ -90,7 +90,7 @@ module _ (f : Field) (h : T (hasPlaces f)) (r : Request) (k : r .kind ≡ 10) (e
   own-side : T (isSide (x .fix))
   own-side = fix-side f t 12 (zone-number final) x rest here
 
-  abbrev w : Zone
+  abbrev w : ScaZone
   w = maz (sideNamed (x .fix))
 
   abbrev wn : ℕ
@@ -105,14 +105,14 @@ module _ (f : Field) (h : T (hasPlaces f)) (r : Request) (k : r .kind ≡ 10) (e
 
   -- as it is in the missed zone
   abbrev a : field.Aircraft
-  a = withFix (turnedAway (f .legs) wn x) fix
+  a = withFix (arrivedByMiss (f .legs) wn x) fix
 
   apart : wn ≢ 12
   apart = side-cases (λ m. zoneNumber (maz (sideNamed m)) ≢ 12) (λ q. omega arith) (λ q. omega arith) (x .fix) own-side
 
   -- the field after it, with its aircraft named
   abbrev made : field.Aircraft → ℕ → ℕ → Field
-  made c v m = withSequence (tailPut (headGone f 12) v (withFix (turnedAway (f .legs) v c) (fixAfterMiss f c))) (appended (removed (f .sequence) m) m) (opposite (fixAfterMiss f c))
+  made c v m = withSequence (tailPut (headGone f 12) v (withFix (arrivedByMiss (f .legs) v c) (fixAfterMiss f c))) (appended (removed (f .sequence) m) m) (opposite (fixAfterMiss f c))
 
   effect : g ≡ withSequence (tailPut (headGone f 12) wn a) (appended (removed (f .sequence) n) n) (opposite fix)
   unfolding rules.missedApproach
@@ -140,10 +140,10 @@ module _ (f : Field) (h : T (hasPlaces f)) (r : Request) (k : r .kind ≡ 10) (e
   order-after =
       let s = f .sequence in
       let q = shape f h r e .sequence in
-      let left = first-left s q n ns o in
+      let rest = first-left s q n ns o in
       let shaped = shaped-left s q n ns o in
-      let few : removed s n .length < 4 = let i = order-length (removed s n) shaped in let j = order-length s q in let m = ap length left in let l = ap length o in omega arith in
-      ap (λ (c : Field). orderOf (c .sequence)) effect ∙ last-put (removed s n) shaped n few ∙ ap (λ (l : List ℕ). l ++ (n ∷ [])) left
+      let few : removed s n .length < 4 = let i = order-length (removed s n) shaped in let j = order-length s q in let m = ap length rest in let l = ap length o in omega arith in
+      ap (λ (c : Field). orderOf (c .sequence)) effect ∙ last-put (removed s n) shaped n few ∙ ap (λ (l : List ℕ). l ++ (n ∷ [])) rest
 
   further : (m : ℕ) → isIn m ns ≡ true → before m (orderOf (g .sequence)) ≡ before m ns
   further m i = ap (before m) order-after ∙ before-kept m n ns i
@@ -162,15 +162,15 @@ module _ (f : Field) (h : T (hasPlaces f)) (r : Request) (k : r .kind ≡ 10) (e
   in-others y p q = ap (λ (c : Field). inZone c y) effect ∙ put-elsewhere f (shape f h r e) 12 wn (zone-number final) (zone-number w) apart x rest here a room y p q
 
   -- ---- the state
-  abbrev R : List Aircraft
+  abbrev R : List ScaAircraft
   R = map (seen f 12) rest
 
-  abbrev again : Aircraft
+  abbrev again : ScaAircraft
   again = reassign (stateOf f) (seen f 12 x)
 
   -- its new sequence number is the last, and its new fix
   reassigned : seen g wn a ≡ asSeen (suc (length ns)) fix
-  unfolding withFix turnedAway onLeg
+  unfolding withFix arrivedByMiss onLeg
   reassigned =
       ap (λ (c : Bool). asSeen (cond c 1 (suc (before n (orderOf (g .sequence))))) fix) (not-13 wn w-inside)
       ∙ ap (λ (l : List ℕ). asSeen (suc (before n l)) fix) order-after
@@ -190,7 +190,7 @@ module _ (f : Field) (h : T (hasPlaces f)) (r : Request) (k : r .kind ≡ 10) (e
       ap (λ (c : Side). record { seq = suc (length (orderOf (f .sequence))) - 1; mahf = c } ∷ []) (sym again-fix) ∙ ap (λ (j : ℕ). asSeen j fix ∷ []) m
 
   abbrev after : SCA
-  after = withNext (decreased (λ z. sameZone z runway) (add (put (stateOf f) final R) w again)) (opp (again .mahf)) (stateOf f .nextseq)
+  after = withNext (decreased (λ z. sameZone z runway) (add (withQueue (stateOf f) final R) w again)) (opp (again .mahf)) (stateOf f .nextseq)
 
   next-number : suc (length (orderOf (g .sequence))) ≡ suc (length (orderOf (f .sequence)))
   next-number = let i = ap length order-after in let j = ap length o in let l = length-append ns (n ∷ []) in omega arith
@@ -200,23 +200,23 @@ module _ (f : Field) (h : T (hasPlaces f)) (r : Request) (k : r .kind ≡ 10) (e
   next-fix = ap (λ (c : Field). sideNamed (c .next)) effect ∙ opposite-named fix fix-is-side ∙ ap opp again-fix
 
   missed-state : stateOf g ≡ after
-  unfolding stateOf put add withNext decreased orderLength
+  unfolding stateOf withQueue add withNext decreased orderLength
   missed-state = same-state queues next-fix next-number
     where
-      before-it : (m : ℕ) → List Aircraft
+      before-it : (m : ℕ) → List ScaAircraft
       before-it m = cond (eqb m 12) R (map (seen f m) (inZone f m))
 
       to-missed : map (seen g wn) (inZone g wn) ≡ decrease (before-it wn ++ (again ∷ []))
       to-missed =
           ap (map (seen g wn)) in-missed
           ∙ map-append (seen g wn) (inZone f wn) (a ∷ [])
-          ∙ ap (λ (l : List Aircraft). l ++ (seen g wn a ∷ [])) (lowered-elsewhere f t 12 (zone-number final) x rest here g ns o further wn w-inside apart)
-          ∙ ap (λ (c : Aircraft). decrease (map (seen f wn) (inZone f wn)) ++ (c ∷ [])) reassigned
-          ∙ ap (λ (l : List Aircraft). decrease (map (seen f wn) (inZone f wn)) ++ l) (sym again-last)
+          ∙ ap (λ (l : List ScaAircraft). l ++ (seen g wn a ∷ [])) (lowered-elsewhere f t 12 (zone-number final) x rest here g ns o further wn w-inside apart)
+          ∙ ap (λ (c : ScaAircraft). decrease (map (seen f wn) (inZone f wn)) ++ (c ∷ [])) reassigned
+          ∙ ap (λ (l : List ScaAircraft). decrease (map (seen f wn) (inZone f wn)) ++ l) (sym again-last)
           ∙ sym (decrease-append (map (seen f wn) (inZone f wn)) (again ∷ []))
-          ∙ ap (λ (l : List Aircraft). decrease (l ++ (again ∷ []))) (sym (if-false R _ (ne-eqb wn 12 apart)))
+          ∙ ap (λ (l : List ScaAircraft). decrease (l ++ (again ∷ []))) (sym (if-false R _ (ne-eqb wn 12 apart)))
 
-      off-runway : (y : Zone) → eqb (zoneNumber y) 13 ≡ false
+      off-runway : (y : ScaZone) → eqb (zoneNumber y) 13 ≡ false
           → map (seen g (zoneNumber y)) (inZone g (zoneNumber y)) ≡ decrease (cond (eqb (zoneNumber y) wn) (before-it wn ++ (again ∷ [])) (before-it (zoneNumber y)))
       off-runway y p = go (decided (eqb (zoneNumber y) wn)) (decided (eqb (zoneNumber y) 12))
         where
@@ -239,7 +239,7 @@ module _ (f : Field) (h : T (hasPlaces f)) (r : Request) (k : r .kind ≡ 10) (e
           subst (λ (m : ℕ). map (seen g m) (inZone g m) ≡ cond (eqb m wn) (before-it wn ++ (again ∷ [])) (before-it m)) (sym q)
           (ap (map (seen g 13)) (in-others 13 (λ j. omega arith) far) ∙ sym (if-false _ _ (ne-eqb 13 wn far)))
 
-      queues : (y : Zone) → stateOf g .queue y ≡ after .queue y
+      queues : (y : ScaZone) → stateOf g .queue y ≡ after .queue y
       queues y = elim (decided (eqb (zoneNumber y) 13)) [
         | inl p ↦ on-runway (zoneNumber y) (eqb-true (zoneNumber y) 13 p) ∙ sym (if-true _ _ p)
         | inr p ↦ off-runway y p ∙ sym (if-false _ _ p)

@@ -13,14 +13,14 @@ use lib.Seq.{length-take-le, take-append-le, take-suc-set}
 use Rattle.field.specs.declared.Aircraft as field
 use Rattle.field.specs.declared.Sequence.{Sequence}
 use Rattle.field.specs.declared.Field.{Field}
-use Rattle.field.specs.Boxes.{orderOf}
+use Rattle.field.specs.Airspace.{orderOf}
 use Rattle.field.specs.Edits.{before, appended, removed}
 use Rattle.field.specs.Lists.{isIn}
-use Rattle.field.proofs.Tests.{decided, if-true, if-false, same, flip-eqb}
-use Rattle.field.proofs.Lists.{or-false-left, or-false-right}
+use Rattle.field.proofs.TestLaws.{decided, if-true, if-false, same, flip-eqb}
+use Rattle.field.proofs.NumberLists.{or-false-left, or-false-right}
 use Rattle.questions.proofs.FindLaws.{numbers}
 use Rattle.laws.proofs.EditLaws.{ShapedSequence}
-use Rattle.nasa.specs.Definitions.{Aircraft, decrease}
+use Rattle.nasa.specs.Definitions.{ScaAircraft, decrease}
 use Rattle.nasa.specs.Stands.{seen}
 use Rattle.nasa.proofs.States.{asSeen}
 
@@ -95,7 +95,7 @@ module _ (f g : Field) (w : ℕ) where
   seen-kept (x ∷ xs) h =
       let n = x .number in
       ap (λ (b : ℕ). asSeen (cond (eqb w 13) 1 (suc b)) (x .fix) ∷ map (seen g w) xs) (h n (ap (λ (b : Bool). b || isIn n (numbers xs)) (same n)))
-      ∙ ap (λ (l : List Aircraft). seen f w x ∷ l) (seen-kept xs (λ m i. h m (ap (λ (b : Bool). eqb n m || b) i ∙ or-true (eqb n m))))
+      ∙ ap (λ (l : List ScaAircraft). seen f w x ∷ l) (seen-kept xs (λ m i. h m (ap (λ (b : Bool). eqb n m || b) i ∙ or-true (eqb n m))))
 
   -- the first of the sequence is gone: each is lowered by one
   module _ (n : ℕ) (ns : List ℕ) (o : orderOf (f .sequence) ≡ n ∷ ns) (not-runway : eqb w 13 ≡ false) where
@@ -114,6 +114,6 @@ module _ (f g : Field) (w : ℕ) where
     seen-lowered [] a h = refl
     seen-lowered (x ∷ xs) a h =
         let m = x .number in
-        ap (λ (c : Aircraft). c ∷ map (seen g w) xs) (one-lowered x (or-false-left (eqb m n) (isIn n (numbers xs)) a) (h m (ap (λ (b : Bool). b || isIn m (numbers xs)) (same m))))
-        ∙ ap (λ (l : List Aircraft). asSeen (seen f w x .seq - 1) (x .fix) ∷ l)
+        ap (λ (c : ScaAircraft). c ∷ map (seen g w) xs) (one-lowered x (or-false-left (eqb m n) (isIn n (numbers xs)) a) (h m (ap (λ (b : Bool). b || isIn m (numbers xs)) (same m))))
+        ∙ ap (λ (l : List ScaAircraft). asSeen (seen f w x .seq - 1) (x .fix) ∷ l)
         (seen-lowered xs (or-false-right (eqb m n) (isIn n (numbers xs)) a) (λ j i. h j (ap (λ (b : Bool). eqb m j || b) i ∙ or-true (eqb m j))))

@@ -12,38 +12,38 @@ use lib.ListN.{length, drop, getD}
 use Rattle.leg.specs.Ticks.{Between}
 use Rattle.field.specs.declared.Aircraft as field
 use Rattle.field.specs.declared.Field.{Field}
-use Rattle.field.specs.Boxes.{nobody, zoneOf, inZone, orderOf, arrived, onLeg}
+use Rattle.field.specs.Airspace.{nobody, zoneOf, inZone, orderOf, arrived, onLeg}
 use Rattle.field.specs.Edits.{before, withoutHead, withTail, withZone}
 use Rattle.questions.specs.Counts.{howMany}
 use Rattle.questions.specs.Find.{aircraftAt}
 use Rattle.rules.specs.Kinds.{headGone, tailPut, moved}
-use Rattle.order.specs.Model.{right, left}
-use Rattle.field.proofs.Tests.{decided, if-true, if-false}
+use Rattle.order.specs.Model.{rightSide, leftSide}
+use Rattle.field.proofs.TestLaws.{decided, if-true, if-false}
 use Rattle.laws.proofs.EditLaws.{Shaped, shaped-without-head, shaped-with-tail, shaped-with-zone, queue-kept, queue-taken, queue-put}
-use Rattle.nasa.specs.Definitions.{Aircraft, Zone, holding3, holding2, lez, maz, base, intermediate, final, runway, SCA}
-use Rattle.nasa.specs.Rules.{zoneNumber, put, add}
+use Rattle.nasa.specs.Definitions.{ScaAircraft, ScaZone, holding3, holding2, lez, maz, base, intermediate, final, runway, SCA}
+use Rattle.nasa.specs.Rules.{zoneNumber, withQueue, add}
 use Rattle.nasa.specs.Stands.{sideNamed, seen, stateOf}
 
 -- ---- equal states
-pub same-state : {s t : SCA} → ((z : Zone) → s .queue z ≡ t .queue z) → s .nextmahf ≡ t .nextmahf → s .nextseq ≡ t .nextseq → s ≡ t
+pub same-state : {s t : SCA} → ((z : ScaZone) → s .queue z ≡ t .queue z) → s .nextmahf ≡ t .nextmahf → s .nextseq ≡ t .nextseq → s ≡ t
 same-state {s} {t} q m n i = record { queue = fun-ext q i; nextmahf = m i; nextseq = n i }
 
 -- an aircraft of the model with this sequence number, and the side of this fix
-abbrev pub asSeen : ℕ → ℕ → Aircraft
+abbrev pub asSeen : ℕ → ℕ → ScaAircraft
 asSeen seq fix = record { seq = seq; mahf = sideNamed fix }
 
 -- ---- zones
-pub zone-number : (z : Zone) → Between 1 13 (zoneNumber z)
-zone-number (holding3 right) = record { least = omega arith; most = omega arith }
-zone-number (holding3 left) = record { least = omega arith; most = omega arith }
-zone-number (holding2 right) = record { least = omega arith; most = omega arith }
-zone-number (holding2 left) = record { least = omega arith; most = omega arith }
-zone-number (lez right) = record { least = omega arith; most = omega arith }
-zone-number (lez left) = record { least = omega arith; most = omega arith }
-zone-number (maz right) = record { least = omega arith; most = omega arith }
-zone-number (maz left) = record { least = omega arith; most = omega arith }
-zone-number (base right) = record { least = omega arith; most = omega arith }
-zone-number (base left) = record { least = omega arith; most = omega arith }
+pub zone-number : (z : ScaZone) → Between 1 13 (zoneNumber z)
+zone-number (holding3 rightSide) = record { least = omega arith; most = omega arith }
+zone-number (holding3 leftSide) = record { least = omega arith; most = omega arith }
+zone-number (holding2 rightSide) = record { least = omega arith; most = omega arith }
+zone-number (holding2 leftSide) = record { least = omega arith; most = omega arith }
+zone-number (lez rightSide) = record { least = omega arith; most = omega arith }
+zone-number (lez leftSide) = record { least = omega arith; most = omega arith }
+zone-number (maz rightSide) = record { least = omega arith; most = omega arith }
+zone-number (maz leftSide) = record { least = omega arith; most = omega arith }
+zone-number (base rightSide) = record { least = omega arith; most = omega arith }
+zone-number (base leftSide) = record { least = omega arith; most = omega arith }
 zone-number intermediate = record { least = omega arith; most = omega arith }
 zone-number final = record { least = omega arith; most = omega arith }
 zone-number runway = record { least = omega arith; most = omega arith }
@@ -98,15 +98,15 @@ module _ (f : Field) (k : Shaped f) (z w : ℕ) (zb : Between 1 13 z) (wb : Betw
     put-elsewhere y h j = queue-kept gone w (withTail (zoneOf gone w) a) y j ∙ gone-there y h
 
 -- ---- the head of a zone taken off the field
-pub gone-state : (f : Field) → Shaped f → (z : Zone) (x : field.Aircraft) (rest : List field.Aircraft) → inZone f (zoneNumber z) ≡ x ∷ rest
-    → stateOf (headGone f (zoneNumber z)) ≡ put (stateOf f) z (map (seen f (zoneNumber z)) rest)
-unfolding stateOf put headGone withZone
+pub gone-state : (f : Field) → Shaped f → (z : ScaZone) (x : field.Aircraft) (rest : List field.Aircraft) → inZone f (zoneNumber z) ≡ x ∷ rest
+    → stateOf (headGone f (zoneNumber z)) ≡ withQueue (stateOf f) z (map (seen f (zoneNumber z)) rest)
+unfolding stateOf withQueue headGone withZone
 gone-state f k z x rest here = same-state queues refl refl
   where
-    queues : (y : Zone) → stateOf (headGone f (zoneNumber z)) .queue y ≡ put (stateOf f) z (map (seen f (zoneNumber z)) rest) .queue y
+    queues : (y : ScaZone) → stateOf (headGone f (zoneNumber z)) .queue y ≡ withQueue (stateOf f) z (map (seen f (zoneNumber z)) rest) .queue y
     queues y = go (decided (eqb (zoneNumber y) (zoneNumber z)))
       where
-        own : (n : ℕ) → List Aircraft
+        own : (n : ℕ) → List ScaAircraft
         own n = map (seen f n) (inZone f n)
 
         go : (eqb (zoneNumber y) (zoneNumber z) ≡ true) ⊎ (eqb (zoneNumber y) (zoneNumber z) ≡ false)
@@ -129,7 +129,7 @@ by-zone y z w p q g l a b c = go (decided (eqb y w)) (decided (eqb y z))
     go (inr h) (inr j) = c (eqb-false y z j) (eqb-false y w h) ∙ sym (if-false p (cond (eqb y z) q (g y)) h ∙ if-false q (g y) j)
 
 -- ---- the head of a zone, not on the runway before or after, moved to the end of another
-module _ (f : Field) (k : Shaped f) (z w : Zone) (apart : zoneNumber w ≢ zoneNumber z) (x : field.Aircraft) (rest : List field.Aircraft) (here : inZone f (zoneNumber z) ≡ x ∷ rest)
+module _ (f : Field) (k : Shaped f) (z w : ScaZone) (apart : zoneNumber w ≢ zoneNumber z) (x : field.Aircraft) (rest : List field.Aircraft) (here : inZone f (zoneNumber z) ≡ x ∷ rest)
     (room : howMany f (zoneNumber w) < 4) (alike : eqb (zoneNumber z) 13 ≡ eqb (zoneNumber w) 13) where
   abbrev zn : ℕ
   zn = zoneNumber z
@@ -145,8 +145,8 @@ module _ (f : Field) (k : Shaped f) (z w : Zone) (apart : zoneNumber w ≢ zoneN
   unfolding arrived onLeg
   seen-there = ap (λ (b : Bool). asSeen (cond b 1 (suc (before (x .number) (orderOf (f .sequence))))) (x .fix)) (sym alike)
 
-  pub moved-state : stateOf (moved f zn wn) ≡ add (put S z (map (seen f zn) rest)) w (seen f zn x)
-  unfolding moved stateOf add put tailPut headGone withZone
+  pub moved-state : stateOf (moved f zn wn) ≡ add (withQueue S z (map (seen f zn) rest)) w (seen f zn x)
+  unfolding moved stateOf add withQueue tailPut headGone withZone
   moved-state = same-state queues refl refl
     where
       a : field.Aircraft
@@ -165,10 +165,10 @@ module _ (f : Field) (k : Shaped f) (z w : Zone) (apart : zoneNumber w ≢ zoneN
       there =
           ap (map (seen f wn)) (put-there f k zn wn zb wb apart x rest here a room)
           ∙ map-append (seen f wn) (inZone f wn) (a ∷ [])
-          ∙ ap (λ (c : Aircraft). map (seen f wn) (inZone f wn) ++ (c ∷ [])) arrives
-          ∙ ap (λ (l : List Aircraft). l ++ (seen f zn x ∷ [])) (sym (if-false (map (seen f zn) rest) (map (seen f wn) (inZone f wn)) (ne-eqb wn zn apart)))
+          ∙ ap (λ (c : ScaAircraft). map (seen f wn) (inZone f wn) ++ (c ∷ [])) arrives
+          ∙ ap (λ (l : List ScaAircraft). l ++ (seen f zn x ∷ [])) (sym (if-false (map (seen f zn) rest) (map (seen f wn) (inZone f wn)) (ne-eqb wn zn apart)))
 
-      queues : (y : Zone) → stateOf (moved f zn wn) .queue y ≡ add (put S z (map (seen f zn) rest)) w (seen f zn x) .queue y
+      queues : (y : ScaZone) → stateOf (moved f zn wn) .queue y ≡ add (withQueue S z (map (seen f zn) rest)) w (seen f zn x) .queue y
       queues y =
           by-zone (zoneNumber y) zn wn (cond (eqb wn zn) (map (seen f zn) rest) (map (seen f wn) (inZone f wn)) ++ (seen f zn x ∷ []))
           (map (seen f zn) rest) (λ n. map (seen f n) (inZone f n)) (map (seen f (zoneNumber y)) (inZone (moved f zn wn) (zoneNumber y)))

@@ -6,25 +6,25 @@ use mathlib.Core.List.{List, [], _∷_}
 use Prim.Native.Nat.{ℕ, _+_, _-_}
 use lib.Dec.{eqb}
 use lib.ListN.{length}
-use Rattle.order.specs.Model.{Side, right, left, opp}
+use Rattle.order.specs.Model.{Side, rightSide, leftSide, opp}
 
 -- ---- aircraft
 
 -- an aircraft: its sequence number, which tells its leader, and the side of its missed approach holding fix. `Side` is right or left, and `opp` the opposite.
-pub record Aircraft : Type 0 where
+pub record ScaAircraft : Type 0 where
   pub seq : ℕ
   pub mahf : Side
 
 -- ---- the state
 
 -- the zones (3.1, table 1), departures left out: holding at 3000 and at 2000 feet, lateral entry, missed approach and base, each of a side; and the others
-pub data Zone : Type 0 where
-  holding3 holding2 lez maz base : Side → Zone
-  intermediate final runway : Zone
+pub data ScaZone : Type 0 where
+  holding3 holding2 lez maz base : Side → ScaZone
+  intermediate final runway : ScaZone
 
 -- the state: a queue of aircraft for each zone, who entered the zone first at the head; the missed approach holding fix and the sequence number that come next
 pub record SCA : Type 0 where
-  pub queue : Zone → List Aircraft
+  pub queue : ScaZone → List ScaAircraft
   pub nextmahf : Side
   pub nextseq : ℕ
 
@@ -32,45 +32,45 @@ pub record SCA : Type 0 where
 
 -- whether two sides are the same
 abbrev pub sameSide : Side → Side → Bool
-sameSide right right = true
-sameSide right left = false
-sameSide left right = false
-sameSide left left = true
+sameSide rightSide rightSide = true
+sameSide rightSide leftSide = false
+sameSide leftSide rightSide = false
+sameSide leftSide leftSide = true
 
 -- the first landing sequence
 abbrev pub first : ℕ
 first = 1
 
 -- whether it is the first in the landing sequence
-abbrev pub isFirst : Aircraft → Bool
-isFirst a = eqb (a .seq) first
+abbrev pub firstInSequence : ScaAircraft → Bool
+firstInSequence a = eqb (a .seq) first
 
 -- the landing sequence of its leader; 0 is none
-abbrev pub leader : Aircraft → ℕ
+abbrev pub leader : ScaAircraft → ℕ
 leader a = a .seq - 1
 
 -- the landing sequence after its own
-abbrev pub next : Aircraft → ℕ
+abbrev pub next : ScaAircraft → ℕ
 next a = a .seq + 1
 
 -- ---- questions of a queue
 
 -- how many of a queue are assigned to a side
-abbrev pub assigned : List Aircraft → Side → ℕ
+abbrev pub assigned : List ScaAircraft → Side → ℕ
 assigned [] side = 0
 assigned (a ∷ rest) side = cond (sameSide (a .mahf) side) 1 0 + assigned rest side
 
 -- whether any of them is
-abbrev pub anyAssigned : List Aircraft → Side → Bool
+abbrev pub anyAssigned : List ScaAircraft → Side → Bool
 anyAssigned q side = not (eqb (assigned q side) 0)
 
 -- whether an aircraft with this sequence number is in a queue
-abbrev pub onZone : List Aircraft → ℕ → Bool
+abbrev pub onZone : List ScaAircraft → ℕ → Bool
 onZone [] n = false
 onZone (a ∷ rest) n = eqb (a .seq) n || onZone rest n
 
 -- every sequence number of a queue lowered by one
-abbrev pub decrease : List Aircraft → List Aircraft
+abbrev pub decrease : List ScaAircraft → List ScaAircraft
 decrease [] = []
 decrease (a ∷ rest) = record { seq = leader a; mahf = a .mahf } ∷ decrease rest
 
@@ -79,12 +79,12 @@ decrease (a ∷ rest) = record { seq = leader a; mahf = a .mahf } ∷ decrease r
 -- whether an aircraft with this sequence number is on the approach
 abbrev pub onApproach : SCA → ℕ → Bool
 onApproach s n =
-    onZone (s .queue (base right)) n || onZone (s .queue (base left)) n || onZone (s .queue intermediate) n || onZone (s .queue final) n
+    onZone (s .queue (base rightSide)) n || onZone (s .queue (base leftSide)) n || onZone (s .queue intermediate) n || onZone (s .queue final) n
 
 -- whether an aircraft on the approach is assigned to a side
 abbrev pub approachAssigned : SCA → Side → Bool
 approachAssigned s side =
-    anyAssigned (s .queue (base right)) side || anyAssigned (s .queue (base left)) side || anyAssigned (s .queue intermediate) side || anyAssigned (s .queue final) side
+    anyAssigned (s .queue (base rightSide)) side || anyAssigned (s .queue (base leftSide)) side || anyAssigned (s .queue intermediate) side || anyAssigned (s .queue final) side
 
 -- how many are at one side, the approach left out
 abbrev pub actual : SCA → Side → ℕ
@@ -98,17 +98,17 @@ virtual s side =
     + assigned (s .queue (holding2 (opp side))) side
     + assigned (s .queue (lez (opp side))) side
     + assigned (s .queue (maz (opp side))) side
-    + assigned (s .queue (base right)) side
-    + assigned (s .queue (base left)) side
+    + assigned (s .queue (base rightSide)) side
+    + assigned (s .queue (base leftSide)) side
     + assigned (s .queue intermediate) side
     + assigned (s .queue final) side
 
 -- ---- aircraft that come in or come anew
 
 -- a new aircraft at a side: the next sequence number, and the side's own fix where it is the first, else the next fix
-abbrev pub aircraft : SCA → Side → Aircraft
+abbrev pub aircraft : SCA → Side → ScaAircraft
 aircraft s side = record { seq = s .nextseq; mahf = elim (eqb (s .nextseq) first) [ true ↦ side | false ↦ s .nextmahf ] }
 
 -- an aircraft reassigned on a missed approach: the next sequence number, and its own fix where it is the only one, else the next fix
-abbrev pub reassign : SCA → Aircraft → Aircraft
+abbrev pub reassign : SCA → ScaAircraft → ScaAircraft
 reassign s a = record { seq = s .nextseq; mahf = elim (eqb (s .nextseq - 1) first) [ true ↦ a .mahf | false ↦ s .nextmahf ] }

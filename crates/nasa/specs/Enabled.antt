@@ -8,11 +8,11 @@ use Rattle.limits.specs.Limits.{fastest, desks}
 use Rattle.request.specs.Input.{within}
 use Rattle.request.specs.declared.Request.{Request}
 use Rattle.field.specs.declared.Field.{Field}
-use Rattle.field.specs.Boxes.{legFlownOut}
+use Rattle.field.specs.Airspace.{legFlownOut}
 use Rattle.questions.specs.Find.{placeOf, aircraftAt}
 use Rattle.rules.specs.Step.{stepOf}
 use Rattle.order.specs.Model.{Side, num}
-use Rattle.nasa.specs.Definitions.{Zone, holding3, holding2, lez, maz, base, intermediate, final, runway, SCA}
+use Rattle.nasa.specs.Definitions.{ScaZone, holding3, holding2, lez, maz, base, intermediate, final, runway, SCA}
 use Rattle.nasa.specs.Rules.{Transition, zoneNumber, verticalEntry, lateralEntry, holdingPatternDescend, verticalApproachInitiation, lateralApproachInitiation}
 use Rattle.nasa.specs.Rules.{merging, exit, finalSegment, landing, taxing, missedApproach, lowestAvailableAltitude}
 use Rattle.nasa.specs.Stands.{stateOf}
@@ -53,7 +53,7 @@ abbrev pub entryRequest : Entrant → ℕ → Side → Request
 entryRequest new kind s = record { kind = kind; side = num s; number = new .number; amount = new .speed; desk = new .desk }
 
 -- a move of the first aircraft of a zone, as its own desk asks it (02, 2.10)
-abbrev pub headRequest : Field → ℕ → Zone → Request
+abbrev pub headRequest : Field → ℕ → ScaZone → Request
 headRequest f kind z =
     let a = aircraftAt f (zoneNumber z) 1 in
     record { kind = kind; side = 0; number = a .number; amount = 0; desk = a .desk }
@@ -80,7 +80,7 @@ abbrev pub mayCome : Field → Entrant → Bool
 mayCome f new = not (eqb (new .number) 0) && eqb (placeOf f (new .number) .zone) 0 && within 1 fastest (new .speed) && within 1 desks (new .desk)
 
 -- of a move: the leg of the first aircraft of a zone flown out
-abbrev pub flownOutIn : Field → Zone → Bool
+abbrev pub flownOutIn : Field → ScaZone → Bool
 flownOutIn f z = legFlownOut (aircraftAt f (zoneNumber z) 1)
 
 -- what each transition has to wait for: who enters may come, and who merges, exits (02, 2.3), goes to final, lands or holds has flown its leg out

@@ -3,16 +3,16 @@ use mathlib.Core.Path.{_≡_}
 use mathlib.Core.List.{List, [], _∷_}
 use Rattle.request.specs.declared.Request.{Request}
 use Rattle.field.specs.declared.Legs.{Legs}
-use Rattle.field.specs.Boxes.{emptyField}
+use Rattle.field.specs.Airspace.{emptyField}
 use Rattle.rules.specs.Play.{fieldAfter}
-use Rattle.order.specs.Model.{right}
+use Rattle.order.specs.Model.{rightSide}
 use Rattle.nasa.specs.Definitions.{SCA, first}
 use Rattle.nasa.specs.Stands.{stateOf}
 use Rattle.nasa.specs.Enabled.{Name, transition}
 
 -- the state with nobody in it; the next fix is right, as document 01 has it, and is not asked for as long as nobody is there
 abbrev pub emptyState : SCA
-emptyState = record { queue = λ z. []; nextmahf = right; nextseq = first }
+emptyState = record { queue = λ z. []; nextmahf = rightSide; nextseq = first }
 
 -- the states that NASA's transitions lead to, one after the other, from the empty one
 pub data Reached : SCA → Type 0 where

@@ -12,11 +12,11 @@ use lib.ListN.{getD}
 use Rattle.limits.specs.Limits.{longestTick, mostTicks}
 use Rattle.request.specs.Input.{within}
 use Rattle.request.specs.declared.Request.{Request}
-use Rattle.request.proofs.Tests as input
+use Rattle.request.proofs.InputTests as input
 use Rattle.field.specs.declared.Aircraft as field
 use Rattle.field.specs.declared.Legs.{Legs}
 use Rattle.field.specs.declared.Field.{Field}
-use Rattle.field.specs.Boxes.{nobody, emptyField, inZone, legFlownOut}
+use Rattle.field.specs.Airspace.{nobody, emptyField, inZone, legFlownOut}
 use Rattle.field.specs.Lists.{every}
 use Rattle.questions.specs.Find.{placeOf, aircraftAt}
 use Rattle.fits.specs.Fits.{legalLegs}
@@ -27,23 +27,23 @@ use Rattle.rules.specs.Reason.{Sound}
 use Rattle.demand.specs.Demand.{allFlownOut}
 use Rattle.rules.proofs.Checks.{effect-at}
 use Rattle.rules.proofs.StepLaws.{number-is, field-accepted}
-use Rattle.field.proofs.Tests.{pass, passed, every-from}
+use Rattle.field.proofs.TestLaws.{pass, passed, every-from}
 use Rattle.reason.proofs.StaysSound.{orderly-sound}
 use Rattle.reason.proofs.Reason.{after-list, reason-kept}
 use Rattle.press.specs.Press.{longTick}
 use Rattle.press.proofs.Proposals.{tick-accepted}
 use Rattle.emptied.proofs.Arriving.{FlownAfter, all-arrive, after-tick, all-flown}
-use Rattle.nasa.specs.Definitions.{Zone, maz, base, intermediate, final, SCA}
+use Rattle.nasa.specs.Definitions.{ScaZone, maz, base, intermediate, final, SCA}
 use Rattle.nasa.specs.Rules.{zoneNumber, merging, exit, finalSegment, landing, lowestAvailableAltitude}
 use Rattle.nasa.specs.Stands.{stateOf}
 use Rattle.nasa.specs.Enabled.{Name, vertically, laterally, descends, initiates, initiatesLateral, merges, holds, exits, goesFinal}
 use Rattle.nasa.specs.Enabled.{lands, taxies, misses, transition, Entrant, requestFor, mayCome, flownOutIn, ready}
 use Rattle.nasa.specs.Runs.{start, onward}
-use Rattle.nasa.proofs.Moves.{each-side}
-use Rattle.nasa.proofs.Steps.{ticked-state}
+use Rattle.nasa.proofs.DescendFinalTaxi.{each-side}
+use Rattle.nasa.proofs.StepsAsTransitions.{ticked-state}
 use Rattle.nasa.proofs.Enabled.{First, somebody}
 use Rattle.nasa.proofs.Followed.{enabled}
-use Rattle.nasa.proofs.Runs.{empty-state}
+use Rattle.nasa.proofs.ListsAsRuns.{empty-state}
 use Rattle.nasa_runs.specs.AllRuns.{Comes, AllRuns}
 use Rattle.nasa_runs.proofs.Fresh.{new-number, not-found}
 
@@ -90,7 +90,7 @@ fly (suc k) f S h =
 
 -- ---- then every transition that leads on has its request ready
 module _ (f : Field) (h : T (allFlownOut f)) where
-  out : (z : Zone) → T (within 7 12 (zoneNumber z)) → First f z → T (flownOutIn f z)
+  out : (z : ScaZone) → T (within 7 12 (zoneNumber z)) → First f z → T (flownOutIn f z)
   unfolding allFlownOut aircraftAt
   out z u F =
       let zn = zoneNumber z in

@@ -9,14 +9,14 @@ use borrow.Author.Tests.{ne-eqb, leb-true, leb-false}
 use lib.Dec.{T, eqb, leb}
 use lib.ListN.{length, length-append, length-map}
 use Rattle.field.specs.declared.Field.{Field}
-use Rattle.field.specs.Boxes.{inZone, everywhere}
+use Rattle.field.specs.Airspace.{inZone, everywhere}
 use Rattle.field.specs.Lists.{isIn}
 use Rattle.questions.specs.Counts.{total, howMany, presentOn}
 use Rattle.questions.specs.Find.{placeOf, numbersIn}
 use Rattle.bounds.specs.Bounds.{withinBounds}
 use Rattle.order.specs.Model.{count}
-use Rattle.field.proofs.Tests.{decided, if-false, each-from}
-use Rattle.questions.proofs.Listed.{numberOf}
+use Rattle.field.proofs.TestLaws.{decided, if-false, each-from}
+use Rattle.questions.proofs.NumbersListed.{numberOf}
 use Rattle.questions.proofs.FindLaws.{found-exactly}
 use Rattle.laws.proofs.BoundLaws.{five-present}
 use Rattle.line.proofs.Members.{absent-count}

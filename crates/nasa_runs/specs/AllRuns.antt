@@ -4,7 +4,7 @@ use mathlib.Core.List.{List}
 use lib.Dec.{T}
 use Rattle.request.specs.declared.Request.{Request}
 use Rattle.field.specs.declared.Legs.{Legs}
-use Rattle.field.specs.Boxes.{emptyField}
+use Rattle.field.specs.Airspace.{emptyField}
 use Rattle.rules.specs.Play.{fieldAfter, played, allAccepted}
 use Rattle.nasa.specs.Definitions.{SCA}
 use Rattle.nasa.specs.Stands.{stateOf}

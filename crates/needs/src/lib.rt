@@ -1,9 +1,9 @@
 // Document 01, "Turned away by the field": what each kind of request needs, in order (rules' specs/Kinds.antt).
 use field::Field;
 use field::Sequence;
-use field::boxes::leg_flown_out;
-use field::boxes::opposite;
-use field::boxes::side_of;
+use field::airspace::leg_flown_out;
+use field::airspace::opposite;
+use field::airspace::side_of;
 use field::zones::AT_2000;
 use field::zones::BASE;
 use field::zones::LATERAL;
@@ -25,7 +25,7 @@ ghost use mathlib.Core.Bool.{cond, _||_};
 ghost use mathlib.Core.List.{[], _∷_};
 ghost use lib.Dec.{eqb};
 ghost use Rattle.request.specs.Input.{within, firstRefused};
-ghost use Rattle.field.specs.Boxes.{at3000, at2000, lateral, missed};
+ghost use Rattle.field.specs.Airspace.{at3000, at2000, lateral, missed};
 ghost use Rattle.questions.specs.Counts.{isEmpty};
 ghost use Rattle.rules.specs.Kinds.{startsFrom, belongsTo, headChecks, presenceChecks, flownOutCheck, mayApproach, mayMerge, baseFree};
 ghost use Rattle.rules.specs.Kinds.{verticalNeeds, lateralNeeds, descendNeeds, approachNeeds, mergeNeeds, flownOutNeeds, landNeeds, exitNeeds};

@@ -3,7 +3,7 @@ use mathlib.Core.Bool.{Bool, not, _&&_}
 use lib.Dec.{eqb}
 use Rattle.field.specs.declared.Field.{Field}
 use Rattle.field.specs.Lists.{every, isIn, allDifferent}
-use Rattle.field.specs.Boxes.{operation, everywhere, orderOf}
+use Rattle.field.specs.Airspace.{operation, everywhere, orderOf}
 use Rattle.questions.specs.Find.{numbersIn}
 
 -- nobody has the number 0, and no two have the same

@@ -1,8 +1,8 @@
 // The numbers of those on the field in a row, and what bound e asks of them (specs/Numbers.antt).
 use field::Field;
 use field::Zone;
-use field::boxes::order_length;
-use field::boxes::queue_length;
+use field::airspace::order_length;
+use field::airspace::queue_length;
 use field::zones::FINAL;
 use field::zones::RUNWAY;
 ghost use mathlib.Core.Path.{_≡_};
@@ -11,7 +11,7 @@ ghost use mathlib.Core.List.{_++_, map};
 ghost use Prim.Native.Nat.{_+_, _≤_};
 ghost use lib.Dec.{eqb};
 ghost use lib.ListN.{take};
-ghost use Rattle.field.specs.Boxes.{zonesFrom, queueOf};
+ghost use Rattle.field.specs.Airspace.{zonesFrom, queueOf};
 ghost use Rattle.field.specs.Lists.{isIn, every, allDifferent};
 ghost use Rattle.questions.specs.Find.{numbersIn};
 ghost use Rattle.numbers.specs.Numbers.{numbersDiffer, sequenceExact};

@@ -10,12 +10,12 @@ use lib.Dec.{T, leb, ltb, eqb, leb→le, ltb→lt, eqb-refl}
 use lib.ListN.{length}
 use lib.Ieee.Fits.{and-i}
 use Rattle.request.specs.Input.{within}
-use Rattle.field.specs.Boxes.{opposite, sideOf, at3000, at2000, lateral, missed, area, operation, zonesFrom}
+use Rattle.field.specs.Airspace.{opposite, sideOf, at3000, at2000, lateral, missed, area, operation, zonesFrom}
 use Rattle.questions.specs.Counts.{total}
 use Rattle.field.specs.Lists.{every}
-use Rattle.order.specs.Model.{Side, right, left, opp, num, count, countFix, free, isNil, Kind, descend, approaching, merge}
-use Rattle.order.specs.Model.{final, hold, needs, target, mayComeIn, mayEnter, mayEnterLateral, firstFix, all, okay, weight, heaviest}
-use Rattle.field.proofs.Tests.{implies, implied}
+use Rattle.order.specs.Model.{Side, rightSide, leftSide, opp, num, count, countFix, free, isNil, Kind, descend, approaching, merge}
+use Rattle.order.specs.Model.{final, hold, needs, target, mayComeIn, mayEnter, mayEnterLateral, firstFix, okay, weight, heaviest}
+use Rattle.field.proofs.TestLaws.{implies, implied}
 use Rattle.order.proofs.Claims.{EachHolds, Claim, Test, Passed, ofAll, of-all, One, Two, ofSequences, of-sequence, ofOnes, of-one, ofTwos, of-two}
 
 -- ---- the sequence as a whole
@@ -30,7 +30,7 @@ abbrev fitting : Claim (List ℕ)
 fitting =
     record {
       given = λ f zs. true;
-      shown = λ f zs. leb (length zs) 4 ∷ all (within 1 12) zs ∷ leb (weight zs) heaviest ∷ every (λ z. leb (count zs z) 1) (zonesFrom 1 6) ∷ [];
+      shown = λ f zs. leb (length zs) 4 ∷ every (within 1 12) zs ∷ leb (weight zs) heaviest ∷ every (λ z. leb (count zs z) 1) (zonesFrom 1 6) ∷ [];
     }
 
 -- the bounds of side s
@@ -48,7 +48,7 @@ fittingSide s =
 
 -- what is tested of the whole sequence: a declaration builds the sequences once, and its memory grows with all that it tests
 abbrev boundTests : List Test
-boundTests = ofSequences fitting ∷ ofSequences (fittingSide right) ∷ ofSequences (fittingSide left) ∷ []
+boundTests = ofSequences fitting ∷ ofSequences (fittingSide rightSide) ∷ ofSequences (fittingSide leftSide) ∷ []
 
 bounds-computed : T (ofAll boundTests)
 unfolding weight
@@ -58,15 +58,15 @@ fitting-holds : Passed (ofSequences fitting)
 fitting-holds = of-all boundTests bounds-computed 0
 
 fitting-side-holds : (s : Side) → Passed (ofSequences (fittingSide s))
-fitting-side-holds right = of-all boundTests bounds-computed 1
-fitting-side-holds left = of-all boundTests bounds-computed 2
+fitting-side-holds rightSide = of-all boundTests bounds-computed 1
+fitting-side-holds leftSide = of-all boundTests bounds-computed 2
 
 -- at most four in the sequence
 pub okay-length : (f : Side) (zs : List ℕ) → T (okay f zs) → length zs ≤ 4
 okay-length f zs o = leb→le (length zs) 4 (of-sequence fitting fitting-holds f zs o tt 0)
 
 -- all of them in zones 1 to 12
-pub okay-zones : (f : Side) (zs : List ℕ) → T (okay f zs) → T (all (within 1 12) zs)
+pub okay-zones : (f : Side) (zs : List ℕ) → T (okay f zs) → T (every (within 1 12) zs)
 okay-zones f zs o = of-sequence fitting fitting-holds f zs o tt 1
 
 -- the weight is at most the heaviest
@@ -108,19 +108,19 @@ enteredLateral s =
 
 -- what is tested of entries
 abbrev entryTests : List Test
-entryTests = ofSequences (entered right) ∷ ofSequences (entered left) ∷ ofSequences (enteredLateral right) ∷ ofSequences (enteredLateral left) ∷ []
+entryTests = ofSequences (entered rightSide) ∷ ofSequences (entered leftSide) ∷ ofSequences (enteredLateral rightSide) ∷ ofSequences (enteredLateral leftSide) ∷ []
 
 entries-computed : T (ofAll entryTests)
 unfolding okay
 entries-computed = tt
 
 entered-holds : (s : Side) → Passed (ofSequences (entered s))
-entered-holds right = of-all entryTests entries-computed 0
-entered-holds left = of-all entryTests entries-computed 1
+entered-holds rightSide = of-all entryTests entries-computed 0
+entered-holds leftSide = of-all entryTests entries-computed 1
 
 entered-lateral-holds : (s : Side) → Passed (ofSequences (enteredLateral s))
-entered-lateral-holds right = of-all entryTests entries-computed 2
-entered-lateral-holds left = of-all entryTests entries-computed 3
+entered-lateral-holds rightSide = of-all entryTests entries-computed 2
+entered-lateral-holds leftSide = of-all entryTests entries-computed 3
 
 -- an entry to 3000 leads to an okay sequence
 pub enter : (f s : Side) (zs : List ℕ) → T (okay f zs) → T (mayEnter f zs (num s)) → T (okay (firstFix s f zs) (zs ++ (at3000 (num s) ∷ [])))

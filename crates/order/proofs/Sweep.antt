@@ -11,7 +11,8 @@ use lib.Dec.{T, leb, leb→le}
 use lib.ListN.{length}
 use lib.Ieee.Fits.{and-l, and-r}
 use Rattle.request.specs.Input.{within}
-use Rattle.order.specs.Model.{Side, right, left, opp, all, number, sameArea, mayLead, mayHead, chain, roomInOrder, okay}
+use Rattle.field.specs.Lists.{every}
+use Rattle.order.specs.Model.{Side, rightSide, leftSide, opp, number, sameArea, mayLead, mayHead, chain, roomInOrder, okay}
 
 -- the test of every number below n
 abbrev below : ℕ → (ℕ → Bool) → Bool
@@ -40,7 +41,7 @@ inFront next f zs z = elim (mayHead (opp f) z zs) [ true ↦ next (opp f) (z ∷
 head-below : (f : Side) (z : ℕ) (zs : List ℕ) → T (mayHead f z zs) → z < 13
 head-below f z zs t =
     let a = within 1 12 z in
-    let b = all (mayLead f z) zs in
+    let b = every (mayLead f z) zs in
     let at-most-12 = leb→le z 12 (and-r (leb 1 z) (leb z 12) (and-l a b (and-l (a && b) (leb (number (sameArea z) zs) 1) t))) in
     omega arith
 
@@ -63,8 +64,8 @@ module _ (test : Side → List ℕ → Bool) where
 
   -- the same, said of the fix of the new first
   sweep-first : (n : ℕ) (f : Side) (z : ℕ) (zs : List ℕ) → T (sweep (suc n) (opp f) zs) → T (mayHead f z zs) → T (sweep n f (z ∷ zs))
-  sweep-first n right z zs t h = sweep-front n left z zs t h
-  sweep-first n left z zs t h = sweep-front n right z zs t h
+  sweep-first n rightSide z zs t h = sweep-front n leftSide z zs t h
+  sweep-first n leftSide z zs t h = sweep-front n rightSide z zs t h
 
   module _ (n : ℕ) (passed : (f : Side) → T (sweep n f [])) where
     -- the sweeps from the empty sequence come to every chain of at most n
@@ -85,7 +86,7 @@ ifRoom test f zs = elim (roomInOrder 0 f zs) [ true ↦ test f zs | false ↦ tr
 
 -- the test of every okay sequence
 abbrev pub everyOkay : (Side → List ℕ → Bool) → Bool
-everyOkay test = sweep (ifRoom test) 4 right [] && sweep (ifRoom test) 4 left []
+everyOkay test = sweep (ifRoom test) 4 rightSide [] && sweep (ifRoom test) 4 leftSide []
 
 -- a passed test of every okay sequence holds of each
 pub every-okay-at : (test : Side → List ℕ → Bool) → T (everyOkay test) → (f : Side) (zs : List ℕ) → T (okay f zs) → T (test f zs)
@@ -94,7 +95,7 @@ every-okay-at test t f zs o =
     let short = leb (length zs) 4 in
     let short-chain = and-l (short && chain f zs) (roomInOrder 0 f zs) o in
     let from : Side → Bool = λ g. sweep (ifRoom test) 4 g [] in
-    let passed : (g : Side) → T (from g) = elim [ right ↦ and-l (from right) (from left) t | left ↦ and-r (from right) (from left) t ] in
+    let passed : (g : Side) → T (from g) = elim [ rightSide ↦ and-l (from rightSide) (from leftSide) t | leftSide ↦ and-r (from rightSide) (from leftSide) t ] in
     if-at (roomInOrder 0 f zs) (test f zs)
     (swept (ifRoom test) 4 passed f zs (leb→le (length zs) 4 (and-l short (chain f zs) short-chain)) (and-r short (chain f zs) short-chain))
     (and-r (short && chain f zs) (roomInOrder 0 f zs) o)

@@ -7,23 +7,23 @@ use Prim.Native.Nat.{ℕ, suc, _+_, _-_, _*_, _/_, _%_}
 use lib.Dec.{leb, ltb, eqb}
 use lib.ListN.{length, getD}
 use Rattle.request.specs.Input.{within}
-use Rattle.field.specs.Boxes.{opposite, sideOf, at3000, at2000, lateral, missed, base, area, approach, operation}
-use Rattle.field.specs.Lists.{isIn}
+use Rattle.field.specs.Airspace.{opposite, sideOf, at3000, at2000, lateral, missed, base, area, approach, operation}
+use Rattle.field.specs.Lists.{isIn, every}
 use Rattle.questions.specs.Counts.{total}
 
 -- ---- sides, right and left as a type of their own
 pub data Side : Type 0 where
-  right left : Side
+  rightSide leftSide : Side
 
 -- the opposite side
 abbrev pub opp : Side → Side
-opp right = left
-opp left = right
+opp rightSide = leftSide
+opp leftSide = rightSide
 
 -- the number of a side (01, "The boxes")
 abbrev pub num : Side → ℕ
-num right = 1
-num left = 2
+num rightSide = 1
+num leftSide = 2
 
 -- the next fix, where the first of the list has fix f: the opposite of the last one's; f where the list is empty
 abbrev pub nextFix : Side → List ℕ → Side
@@ -137,11 +137,6 @@ abbrev pub number : (ℕ → Bool) → List ℕ → ℕ
 number p [] = 0
 number p (z ∷ zs) = one (p z) + number p zs
 
--- whether everyone passes the test
-abbrev pub all : (ℕ → Bool) → List ℕ → Bool
-all p [] = true
-all p (z ∷ zs) = p z && all p zs
-
 -- one in zone z with fix f may be ahead of one in zone w: the approach does not run ahead of itself; nobody else is in a zone of 1 to 6;
 -- heights in an area do not fall, and a lateral zone has its area alone; and nobody ahead of a lateral zone has that side as fix
 abbrev pub mayLead : Side → ℕ → ℕ → Bool
@@ -153,7 +148,7 @@ mayLead f z w =
 
 -- one in zone z with fix f at the head of zs: those behind may follow it, and at most one of them is in its area
 abbrev pub mayHead : Side → ℕ → List ℕ → Bool
-mayHead f z zs = within 1 12 z && all (mayLead f z) zs && leb (number (sameArea z) zs) 1
+mayHead f z zs = within 1 12 z && every (mayLead f z) zs && leb (number (sameArea z) zs) 1
 
 -- mayHead holds of each one and those behind it
 abbrev pub chain : Side → List ℕ → Bool

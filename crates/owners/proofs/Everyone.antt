@@ -14,11 +14,11 @@ use Rattle.field.specs.declared.Aircraft.{Aircraft}
 use Rattle.field.specs.declared.Zone.{Zone}
 use Rattle.field.specs.declared.Sequence.{Sequence}
 use Rattle.field.specs.declared.Field.{Field}
-use Rattle.field.specs.Boxes.{opposite, sideOf, at3000, at2000, lateral, missed, base, intermediate, finalApproach, runway, isFlyingZone}
-use Rattle.field.specs.Boxes.{nobody, emptyZone, zoneOf, queueOf, inZone, entering, onLeg, arrived, turnedAway, withFix}
+use Rattle.field.specs.Airspace.{opposite, sideOf, at3000, at2000, lateral, missed, base, intermediate, finalApproach, runway, isFlyingZone}
+use Rattle.field.specs.Airspace.{nobody, emptyZone, zoneOf, queueOf, inZone, entering, onLeg, arrived, arrivedByMiss, withFix}
 use Rattle.field.specs.Edits.{withoutHead, withTail, appended, removed, withZone, withSequence}
 use Rattle.field.specs.Lists.{Each}
-use Rattle.field.proofs.Tests.{decided, either-way}
+use Rattle.field.proofs.TestLaws.{decided, either-way}
 use Rattle.questions.specs.Counts.{isEmpty}
 use Rattle.questions.specs.Find.{aircraftAt}
 use Rattle.tick.specs.Tick.{tickedAircraft, tickedZone, tickedFrom, ticked}
@@ -27,7 +27,7 @@ use Rattle.rules.specs.Kinds.{enteredAbove, mayApproach, baseFree, approached, 
 use Rattle.rules.specs.Step.{effectFor, effectOf, numberOf, stepOf}
 use Rattle.rules.proofs.Checks.{by-kind}
 use Rattle.rules.proofs.StepLaws.{field-accepted, field-refused}
-use Rattle.owners.proofs.Lists.{each-drop, each-take, each-append, each-set, each-set-one, each-at, each-map}
+use Rattle.owners.proofs.EachOfList.{each-drop, each-take, each-append, each-set, each-set-one, each-at, each-map}
 
 module _ (P : ℕ → ℕ → Type 0) where
   -- of an aircraft, by its number and its desk; in every place of a zone, and of a field
@@ -143,13 +143,13 @@ module _ (P : ℕ → ℕ → Type 0) (none : P 0 0) where
   exited-stays f r h = out-stays (headGone f intermediate) (r .number) (gone-stays f intermediate h)
 
   missed-stays : (f : Field) (r : Request) → On f → On (missedApproach f r)
-  unfolding missedApproach turnedAway onLeg withFix
+  unfolding missedApproach arrivedByMiss onLeg withFix
   missed-stays f r h =
       let a = aircraftAt f finalApproach 1 in
       let w = missed (a .fix) in
       let fix = fixAfterMiss f a in
       with-sequence-stays _ (appended (removed (f .sequence) (r .number)) (r .number)) (opposite fix)
-      (put-stays (headGone f finalApproach) w (withFix (turnedAway (f .legs) w a) fix) (gone-stays f finalApproach h) (at-stays f finalApproach 1 h))
+      (put-stays (headGone f finalApproach) w (withFix (arrivedByMiss (f .legs) w a) fix) (gone-stays f finalApproach h) (at-stays f finalApproach 1 h))
 
   held-stays : (f : Field) (z : ℕ) → On f → On (held f z)
   unfolding held

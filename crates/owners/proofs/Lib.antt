@@ -1,3 +1,3 @@
-pub mod Lists
+pub mod EachOfList
 pub mod Everyone
 pub mod OneDesk

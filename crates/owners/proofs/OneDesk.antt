@@ -12,18 +12,18 @@ use borrow.Author.Tests.{eqb-true, eq-eqb, ne-eqb}
 use Rattle.limits.specs.Limits.{desks}
 use Rattle.request.specs.Input.{within, isEntry, isTick, firstRefused, deskAllowed, kindAllowed, sideAllowed, numberAllowed, amountAllowed, inputNumber}
 use Rattle.request.specs.declared.Request.{Request}
-use Rattle.request.proofs.Tests.{Numbered}
+use Rattle.request.proofs.InputTests.{Numbered}
 use Rattle.field.specs.declared.Aircraft.{Aircraft}
 use Rattle.field.specs.declared.Legs.{Legs}
 use Rattle.field.specs.declared.Field.{Field}
-use Rattle.field.specs.Boxes.{nobody, emptyZone, emptyField, everywhere, inZone}
+use Rattle.field.specs.Airspace.{nobody, emptyZone, emptyField, everywhere, inZone}
 use Rattle.field.specs.Lists.{isIn, every, Each}
 use Rattle.questions.specs.declared.Place.{Place}
 use Rattle.questions.specs.Counts.{howMany}
 use Rattle.questions.specs.Find.{placeOf, aircraftAt, numbersIn}
 use Rattle.bounds.specs.Bounds.{withinBounds}
 use Rattle.fits.specs.Fits.{fitsZone}
-use Rattle.field.proofs.Tests.{pass, passed, failed, decided, if-true, if-false, either-way}
+use Rattle.field.proofs.TestLaws.{pass, passed, failed, decided, if-true, if-false, either-way}
 use Rattle.questions.proofs.FindLaws.{found-exactly, found-there, place-within}
 use Rattle.laws.proofs.BoundLaws.{within-each}
 use Rattle.laws.proofs.Fits.{fits-parts, all-fit}

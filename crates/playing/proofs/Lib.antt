@@ -1,4 +1,4 @@
-pub mod Answers
+pub mod AnswerSizes
 pub mod Logs
 pub mod Playing
-pub mod Files
+pub mod PlayedFiles

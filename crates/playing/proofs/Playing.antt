@@ -11,7 +11,7 @@ use Rattle.practice.specs.declared.Reading.the-variants.{One, End}
 use Rattle.practice.specs.Requests.{readingAt}
 use Rattle.field.specs.declared.Field.{Field}
 use Rattle.field.specs.declared.Legs.{Legs}
-use Rattle.field.specs.Boxes.{emptyField}
+use Rattle.field.specs.Airspace.{emptyField}
 use Rattle.rules.specs.declared.Answer.{Answer}
 use Rattle.finder.specs.declared.Indexed.{Indexed}
 use Rattle.indexed.specs.declared.SteppedIndexed.{SteppedIndexed}

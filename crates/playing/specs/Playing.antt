@@ -9,7 +9,7 @@ use Rattle.practice.specs.File.{fileNumber}
 use Rattle.practice.specs.Practice.{Practice, refused, holds, practiceOf}
 use Rattle.field.specs.declared.Legs.{Legs}
 use Rattle.field.specs.declared.Field.{Field}
-use Rattle.field.specs.Boxes.{legsIn64ths, emptyField}
+use Rattle.field.specs.Airspace.{legsIn64ths, emptyField}
 use Rattle.questions.specs.Counts.{presentOn}
 use Rattle.rules.specs.declared.Answer.{Answer}
 use Rattle.rules.specs.Play.{fieldAfter, played}

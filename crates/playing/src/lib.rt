@@ -1,7 +1,7 @@
 // A practice file played from the empty field: the answers to its requests, written into a lent log of numbers.
 use field::Field;
 use field::Legs;
-use field::boxes::empty_field;
+use field::airspace::empty_field;
 use finder::Indexed;
 use indexed::SteppedIndexed;
 use indexed::step_indexed;
@@ -25,7 +25,7 @@ ghost use lib.Seq.{sets};
 ghost use Rattle.limits.specs.Limits.{mostRequests};
 ghost use Rattle.practice.specs.Requests.{requestsOf};
 ghost use Rattle.practice.specs.Practice.{practiceOf};
-ghost use Rattle.field.specs.Boxes.{emptyField};
+ghost use Rattle.field.specs.Airspace.{emptyField};
 ghost use Rattle.fits.specs.Fits.{legalLegs};
 ghost use Rattle.indexed.specs.Indexed.{numberIndexed, stepIndexed};
 ghost use Rattle.playing.specs.Playing.{legsInMiles, noLegs, answersFrom, presentFrom, fieldFrom, answersOf, playedOf};

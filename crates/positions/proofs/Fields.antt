@@ -12,7 +12,7 @@ use Rattle.request.specs.declared.Request.{Request}
 use Rattle.practice.specs.declared.Reading.the-variants.{One, End}
 use Rattle.practice.specs.Requests.{readingAt}
 use Rattle.field.specs.declared.Field.{Field}
-use Rattle.field.proofs.Tests.{either-way}
+use Rattle.field.proofs.TestLaws.{either-way}
 use Rattle.rules.specs.declared.Stepped.{Stepped}
 use Rattle.rules.specs.Step.{stepOf}
 use Rattle.text.specs.Buffer.{put, Put}

@@ -7,7 +7,7 @@ use Rattle.practice.specs.Practice.{Practice, refused, holds, practiceOf}
 use Rattle.field.specs.declared.Aircraft.{Aircraft}
 use Rattle.field.specs.declared.Field.{Field}
 use Rattle.field.specs.declared.Sequence.{Sequence}
-use Rattle.field.specs.Boxes.{everywhere, inZone, orderOf, orderLength, emptyField}
+use Rattle.field.specs.Airspace.{everywhere, inZone, orderOf, orderLength, emptyField}
 use Rattle.rules.specs.Step.{stepOf}
 use Rattle.text.specs.Text.{decimal, space, newline}
 use Rattle.miles.specs.Miles.{milesText}

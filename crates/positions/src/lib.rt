@@ -3,7 +3,7 @@ pub mod lines;
 
 use crate::lines::put_field;
 use field::Legs;
-use field::boxes::empty_field;
+use field::airspace::empty_field;
 use playing::legs_in_miles;
 use practice::Reading;
 use practice::file_legs;
@@ -15,7 +15,7 @@ ghost use Prim.Native.Nat.{_≤_};
 ghost use lib.ListN.{length};
 ghost use Rattle.limits.specs.Limits.{mostRequests};
 ghost use Rattle.practice.specs.Requests.{requestsOf};
-ghost use Rattle.field.specs.Boxes.{emptyField};
+ghost use Rattle.field.specs.Airspace.{emptyField};
 ghost use Rattle.text.specs.Buffer.{Put};
 ghost use Rattle.positions.specs.Positions.{linesFrom, positionsOf};
 

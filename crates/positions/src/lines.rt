@@ -3,13 +3,13 @@ use field::Aircraft;
 use field::Field;
 use field::Sequence;
 use field::Zone;
-use field::boxes::order_length;
-use field::boxes::queue_length;
+use field::airspace::order_length;
+use field::airspace::queue_length;
 use field::zones::RUNWAY;
 use miles::put_miles;
 use text::put_byte;
 use text::put_number;
-ghost use Rattle.field.specs.Boxes.{everywhere, queueOf};
+ghost use Rattle.field.specs.Airspace.{everywhere, queueOf};
 ghost use Rattle.text.specs.Buffer.{Put};
 ghost use Rattle.positions.specs.Positions.{another, positionText, queueText, zonesText, sequenceText, fieldLine};
 

@@ -1,7 +1,7 @@
-pub mod Tests
-pub mod Bytes
-pub mod Accepted
+pub mod BranchTests
+pub mod SameBytes
+pub mod AcceptedFile
 pub mod Sections
 pub mod Requests
-pub mod ReadBack
+pub mod FileReadBack
 pub mod Meaning

@@ -16,7 +16,7 @@ use Rattle.practice.specs.File.{legsOf, legsBody, requestsBody, legsAllo
 use Rattle.practice.specs.Sections.{stretch, sectionBytes, fileLegs}
 use Rattle.practice.specs.Requests.{requestsOf, readingAt, requestAt}
 use Rattle.practice.specs.Practice.{refused, holds, practiceOf}
-use Rattle.practice.proofs.Accepted.{accepted, whole-of, long-enough}
+use Rattle.practice.proofs.AcceptedFile.{accepted, whole-of, long-enough}
 use Rattle.practice.proofs.Requests.{count}
 
 -- ---- a file that holds legs and requests

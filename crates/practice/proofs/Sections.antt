@@ -9,7 +9,7 @@ use lib.ListN.{length, take, drop, length-drop}
 use lib.Seq.{length-take-le}
 use denote.Ref.{RefT, ptr, now}
 use Rattle.practice.specs.File.{fileNumber}
-use Rattle.practice.specs.Sections.{placeAt, stretch, byKind, sectionOffset, sectionLength}
+use Rattle.practice.specs.Sections.{placeAt, stretch, ofBody, sectionOffset, sectionLength}
 
 -- a place in memory and the bytes there are the section of a kind
 abbrev pub IsSection : RefT (List ℕ) → ℕ → ℕ × ℕ → List ℕ → Type 0
@@ -18,13 +18,13 @@ IsSection file kind place bytes =
     × ((length bytes ≡ sectionLength (now file) kind)
     × (bytes ≡ stretch (now file) (sectionOffset (now file) kind) (sectionLength (now file) kind)))
 
--- `byKind`, by what its tests gave
+-- `ofBody`, by what its tests gave
 abbrev pick : Bool → Bool → Bool → ℕ → ℕ → ℕ
 pick accepted is-one is-two one two = cond accepted (cond is-one one (cond is-two two 0)) 0
 
 module _ (xs : List ℕ) (kind : ℕ) {a b c : Bool} (pa : eqb (fileNumber xs) 0 ≡ a) (pb : eqb kind 1 ≡ b) (pc : eqb kind 2 ≡ c) where
-  by-kind : (one two : ℕ) → byKind xs kind one two ≡ pick a b c one two
-  by-kind one two =
+  of-body : (one two : ℕ) → ofBody xs kind one two ≡ pick a b c one two
+  of-body one two =
       ap (λ (t : Bool). pick t (eqb kind 1) (eqb kind 2) one two) pa
       ∙ ap (λ (t : Bool). pick a t (eqb kind 2) one two) pb
       ∙ ap (λ (t : Bool). pick a b t one two) pc
@@ -41,8 +41,8 @@ module _ (file : RefT (List ℕ)) (kind : ℕ) {a b c : Bool} (pa : eqb (fileNum
 
   pub is-section : offset + size ≤ length (now file) → IsSection file kind (placeAt file offset) (stretch (now file) offset size)
   is-section h =
-      let po = by-kind (now file) kind pa pb pc 26 34 in
-      let pz = by-kind (now file) kind pa pb pc 8 (length (now file) - 34) in (
+      let po = of-body (now file) kind pa pb pc 26 34 in
+      let pz = of-body (now file) kind pa pb pc 8 (length (now file) - 34) in (
         ap (placeAt file) (sym po),
         (
           within-drop (now file) offset size h ∙ sym pz,

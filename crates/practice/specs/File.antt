@@ -18,11 +18,11 @@ abbrev pub number32 : List ℕ → ℕ → ℕ
 number32 file at = number16 file at + 65536 * number16 file (at + 2)
 
 -- whether two lists of bytes are the same
-abbrev pub same : List ℕ → List ℕ → Bool
-same [] [] = true
-same [] (y ∷ ys) = false
-same (x ∷ xs) [] = false
-same (x ∷ xs) (y ∷ ys) = eqb x y && same xs ys
+abbrev pub sameBytes : List ℕ → List ℕ → Bool
+sameBytes [] [] = true
+sameBytes [] (y ∷ ys) = false
+sameBytes (x ∷ xs) [] = false
+sameBytes (x ∷ xs) (y ∷ ys) = eqb x y && sameBytes xs ys
 
 -- SCAP, in ASCII
 abbrev pub letters : List ℕ
@@ -30,7 +30,7 @@ letters = 83 ∷ 67 ∷ 65 ∷ 80 ∷ []
 
 -- what 5 asks of a file: 26 to 24,610 bytes, and those letters at its beginning
 unfoldable pub opens : List ℕ → Bool
-opens file = within 26 24610 (length file) && same (take 4 file) letters
+opens file = within 26 24610 (length file) && sameBytes (take 4 file) letters
 
 -- whether the entry at a place of the contents is this: two bytes for the kind, four for the offset and four for the length
 abbrev pub entryIs : List ℕ → ℕ → ℕ → ℕ → ℕ → Bool

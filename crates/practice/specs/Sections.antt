@@ -17,16 +17,16 @@ abbrev pub stretch : List ℕ → ℕ → ℕ → List ℕ
 stretch file offset size = take size (drop offset file)
 
 -- a number of body 1 or of body 2, by the kind that is asked for; 0 for any other kind, and for a refused file
-abbrev pub byKind : List ℕ → ℕ → ℕ → ℕ → ℕ
-byKind file kind one two = cond (eqb (fileNumber file) 0) (cond (eqb kind 1) one (cond (eqb kind 2) two 0)) 0
+abbrev pub ofBody : List ℕ → ℕ → ℕ → ℕ → ℕ
+ofBody file kind one two = cond (eqb (fileNumber file) 0) (cond (eqb kind 1) one (cond (eqb kind 2) two 0)) 0
 
 -- where the section starts in the file; an empty one is at its first byte
 abbrev pub sectionOffset : List ℕ → ℕ → ℕ
-sectionOffset file kind = byKind file kind 26 34
+sectionOffset file kind = ofBody file kind 26 34
 
 -- how many bytes it has
 abbrev pub sectionLength : List ℕ → ℕ → ℕ
-sectionLength file kind = byKind file kind 8 (length file - 34)
+sectionLength file kind = ofBody file kind 8 (length file - 34)
 
 -- the bytes of the section
 abbrev pub sectionBytes : List ℕ → ℕ → List ℕ

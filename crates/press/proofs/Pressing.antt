@@ -12,7 +12,7 @@ use Rattle.limits.specs.Limits.{mostPresses}
 use Rattle.request.specs.Input.{within}
 use Rattle.request.specs.declared.Request.{Request}
 use Rattle.field.specs.declared.Field.{Field}
-use Rattle.field.proofs.Tests.{passed, if-true, if-false}
+use Rattle.field.proofs.TestLaws.{passed, if-true, if-false}
 use Rattle.bounds.specs.Bounds.{withinBounds}
 use Rattle.rules.specs.declared.Answer.{Answer}
 use Rattle.rules.specs.declared.Stepped.{Stepped}
@@ -20,7 +20,7 @@ use Rattle.rules.specs.Step.{numberOf, stepOf}
 use Rattle.rules.specs.Play.{fieldAfter, played, isAccepted, countedOnce, moves}
 use Rattle.rules.proofs.StepLaws.{number-is}
 use Rattle.rules.proofs.Refusals.{accepted-within}
-use Rattle.text.specs.Text.{line}
+use Rattle.text.specs.Text.{lineOf}
 use Rattle.text.specs.Buffer.{Put}
 use Rattle.text.proofs.Texts.{Left, left-all, left-more, left-none}
 use Rattle.press.specs.declared.Proposal.{Proposal}
@@ -135,9 +135,9 @@ module _ (N : ℕ) (f₀ : Field) (out₀ : List ℕ) where
         let answer : s .answer ≡ a = ap (λ (x : Stepped). x .answer) q in
         let field : s .field ≡ g = ap (λ (x : Stepped). x .field) q in
         let n : i + 1 ≡ suc i = omega arith in
-        let line : pressLine (i + 1) (r, s .answer) ≡ pressLine (suc i) (r, a) = ap (λ (b : Answer). pressLine (i + 1) (r, b)) answer ∙ ap (λ (j : ℕ). pressLine j (r, a)) n in
-        let w' : Put out at (pressLine (suc i) (r, a)) out' at' = subst (λ (l : List ℕ). Put out at l out' at') line w in
-        let h' : length (pressLine (suc i) (r, a)) ≤ 147 = subst (λ (l : List ℕ). length l ≤ 147) line h in
+        let printed : pressLine (i + 1) (r, s .answer) ≡ pressLine (suc i) (r, a) = ap (λ (b : Answer). pressLine (i + 1) (r, b)) answer ∙ ap (λ (j : ℕ). pressLine j (r, a)) n in
+        let w' : Put out at (pressLine (suc i) (r, a)) out' at' = subst (λ (l : List ℕ). Put out at l out' at') printed w in
+        let h' : length (pressLine (suc i) (r, a)) ≤ 147 = subst (λ (l : List ℕ). length l ≤ 147) printed h in
         let counts = line-counts a h' in
         subst⁻¹ (λ (j : ℕ). Pressing out' (s .field) at' j) n
         (subst⁻¹ (λ (k : Field). Pressing out' k at' (suc i)) field

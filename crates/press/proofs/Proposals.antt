@@ -13,10 +13,10 @@ use Rattle.limits.specs.Limits.{longestTick}
 use Rattle.request.specs.Input.{within, isTick, firstRefused, inputNumber, deskAllowed, kindAllowed, sideAllowed, numberAllowed, amountAllowed}
 use Rattle.request.specs.declared.Request.{Request}
 use Rattle.request.proofs.ByKind.{keeps}
-use Rattle.request.proofs.Tests.{nonzero-known, within-yes, within-low, within-high}
+use Rattle.request.proofs.InputTests.{nonzero-known, within-yes, within-low, within-high}
 use Rattle.field.specs.declared.Field.{Field}
 use Rattle.field.specs.Lists.{every}
-use Rattle.field.proofs.Tests.{passed, decided, if-true, if-false, either-way}
+use Rattle.field.proofs.TestLaws.{passed, decided, if-true, if-false, either-way}
 use Rattle.questions.specs.Counts.{presentOn}
 use Rattle.questions.specs.Find.{aircraftAt}
 use Rattle.bounds.specs.Bounds.{withinBounds}

@@ -13,7 +13,7 @@ use Rattle.bounds.specs.Bounds.{withinBounds}
 use Rattle.rules.specs.declared.Answer.{Answer}
 use Rattle.rules.specs.Step.{stepOf}
 use Rattle.rules.specs.Play.{fieldAfter, played}
-use Rattle.text.specs.Text.{line}
+use Rattle.text.specs.Text.{lineOf}
 use Rattle.press.specs.declared.Proposal.{Proposal}
 use Rattle.press.specs.declared.Proposal.the-variants.{Refused, None, Play}
 use Rattle.press.specs.declared.Ending.{Ending}
@@ -59,7 +59,7 @@ heldOf f =
 abbrev pub pressLine : ℕ → Request × Answer → List ℕ
 pressLine press p =
     cond (isTick (p .0 .kind)) []
-    (line (press ∷ p .0 .kind ∷ p .1 .aircraft ∷ p .1 .zone ∷ p .1 .fix ∷ p .1 .leader ∷ p .1 .along ∷ []))
+    (lineOf (press ∷ p .0 .kind ∷ p .1 .aircraft ∷ p .1 .zone ∷ p .1 .fix ∷ p .1 .leader ∷ p .1 .along ∷ []))
 
 -- the lines of presses one after the other, ticks counted too
 abbrev pub pressLines : ℕ → List (Request × Answer) → List ℕ

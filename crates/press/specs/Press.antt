@@ -7,7 +7,7 @@ use Rattle.limits.specs.Limits.{longestTick}
 use Rattle.request.specs.Input.{startingZones}
 use Rattle.request.specs.declared.Request.{Request}
 use Rattle.field.specs.declared.Field.{Field}
-use Rattle.field.specs.Boxes.{zonesFrom}
+use Rattle.field.specs.Airspace.{zonesFrom}
 use Rattle.questions.specs.Counts.{presentOn}
 use Rattle.questions.specs.Find.{aircraftAt}
 use Rattle.bounds.specs.Bounds.{withinBounds}

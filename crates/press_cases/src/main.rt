@@ -3,11 +3,11 @@
 use field::Aircraft;
 use field::Field;
 use field::Legs;
-use field::boxes::empty_field;
-use field::boxes::entering;
-use field::boxes::on_leg;
-use field::boxes::opposite;
-use field::boxes::zone_of;
+use field::airspace::empty_field;
+use field::airspace::entering;
+use field::airspace::on_leg;
+use field::airspace::opposite;
+use field::airspace::zone_of;
 use field::edits::appended;
 use field::edits::with_sequence;
 use field::edits::with_tail;

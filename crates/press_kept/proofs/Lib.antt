@@ -1,1 +1,1 @@
-pub mod Pressing
+pub mod PressingKept

@@ -6,7 +6,7 @@ use lib.ListN.{length, getD}
 use Rattle.field.specs.declared.Zone.{Zone}
 use Rattle.field.specs.declared.Field.{Field}
 use Rattle.field.specs.Lists.{isIn}
-use Rattle.field.specs.Boxes.{area, queueOf, queueLength, inZone}
+use Rattle.field.specs.Airspace.{area, queueOf, queueLength, inZone}
 use Rattle.field.proofs.Shapes.{zone-read}
 use Rattle.questions.specs.Counts.{haveFix, howMany, howManyWithFix, countedFor}
 

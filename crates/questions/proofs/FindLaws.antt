@@ -13,13 +13,13 @@ use Rattle.leg.specs.Ticks.{Between}
 use Rattle.field.specs.declared.Aircraft.{Aircraft}
 use Rattle.field.specs.declared.Field.{Field}
 use Rattle.questions.specs.declared.Place.{Place}
-use Rattle.field.specs.Boxes.{everywhere, nobody, zoneOf, queueOf, inZone}
+use Rattle.field.specs.Airspace.{everywhere, nobody, zoneOf, queueOf, inZone}
 use Rattle.field.specs.Lists.{isIn, allDifferent}
 use Rattle.questions.specs.Counts.{howMany}
 use Rattle.questions.specs.Find.{placeFrom, nowhere, findIn, placeOf, aircraftAt, numbersIn}
-use Rattle.questions.proofs.Listed.{numberOf, numbersAt}
-use Rattle.field.proofs.Tests.{decided, if-true, if-false, either-way, same}
-use Rattle.field.proofs.Lists.{or-false-left, or-false-right, absent-left, absent-right, in-append, in-left, in-right, alone, different-right, different-apart, every-listed, zone-listed}
+use Rattle.questions.proofs.NumbersListed.{numberOf, numbersAt}
+use Rattle.field.proofs.TestLaws.{decided, if-true, if-false, either-way, same}
+use Rattle.field.proofs.NumberLists.{or-false-left, or-false-right, absent-left, absent-right, in-append, in-left, in-right, alone, different-right, different-apart, every-listed, zone-listed}
 
 abbrev pub numbers : List Aircraft → List ℕ
 numbers xs = map numberOf xs

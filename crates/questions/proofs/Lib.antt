@@ -1,4 +1,4 @@
 pub mod CountReads
 pub mod Totals
-pub mod Listed
+pub mod NumbersListed
 pub mod FindLaws

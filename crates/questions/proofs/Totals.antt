@@ -10,10 +10,10 @@ use lib.Dec.{eqb}
 use lib.ListN.{length}
 use Rattle.field.specs.declared.Aircraft.{Aircraft}
 use Rattle.field.specs.declared.Field.{Field}
-use Rattle.field.specs.Boxes.{zonesFrom, inZone, area}
+use Rattle.field.specs.Airspace.{zonesFrom, inZone, area}
 use Rattle.questions.specs.Counts.{total, haveFix, howMany, howManyWithFix, countedFor}
 use Rattle.field.specs.Lists.{isIn}
-use Rattle.field.proofs.Known.{FieldKnown}
+use Rattle.field.proofs.FieldKnown.{FieldKnown}
 use Rattle.field.proofs.Shapes.{at-most-four}
 
 -- a loop that has added up n before zone z, no more than four for each zone

@@ -7,7 +7,7 @@ use lib.ListN.{length}
 use Rattle.field.specs.declared.Aircraft.{Aircraft}
 use Rattle.field.specs.declared.Field.{Field}
 use Rattle.field.specs.Lists.{isIn}
-use Rattle.field.specs.Boxes.{inZone, area, approach, operation, everywhere}
+use Rattle.field.specs.Airspace.{inZone, area, approach, operation, everywhere}
 
 -- a number for each listed zone, added up
 abbrev pub total : (ℕ → ℕ) → List ℕ → ℕ

@@ -8,7 +8,7 @@ use Rattle.field.specs.declared.Aircraft.{Aircraft}
 use Rattle.field.specs.declared.Sequence.{Sequence}
 use Rattle.field.specs.declared.Field.{Field}
 use Rattle.questions.specs.declared.Place.{Place}
-use Rattle.field.specs.Boxes.{inZone, everywhere, nobody, orderOf}
+use Rattle.field.specs.Airspace.{inZone, everywhere, nobody, orderOf}
 
 -- the numbers of all in the listed zones, zone by zone
 abbrev pub numbersIn : Field → List ℕ → List ℕ

@@ -1,8 +1,8 @@
 // Document 01, "The boxes" and "Any list of requests": how many are where, and for whom a side must keep room.
 use field::Field;
 use field::Zone;
-use field::boxes::queue_length;
-use field::boxes::zone_of;
+use field::airspace::queue_length;
+use field::airspace::zone_of;
 use field::zones::AT_2000;
 use field::zones::FINAL;
 use field::zones::FIRST_BASE;
@@ -12,7 +12,7 @@ use field::zones::RUNWAY;
 ghost use mathlib.Core.Path.{_≡_};
 ghost use mathlib.Core.Bool.{cond};
 ghost use Prim.Native.Nat.{_-_, _≤_};
-ghost use Rattle.field.specs.Boxes.{zonesFrom, queueOf, queueLength, area};
+ghost use Rattle.field.specs.Airspace.{zonesFrom, queueOf, queueLength, area};
 ghost use Rattle.field.specs.Lists.{isIn};
 ghost use Rattle.questions.specs.Counts.{total, haveFix, howMany, isEmpty, howManyWithFix, presentOn, inOperation, inArea, perFix, approachHolds, potentialOf};
 

@@ -4,15 +4,15 @@ use field::Aircraft;
 use field::Field;
 use field::Sequence;
 use field::Zone;
-use field::boxes::nobody;
-use field::boxes::order_length;
-use field::boxes::queue_length;
-use field::boxes::zone_of;
+use field::airspace::nobody;
+use field::airspace::order_length;
+use field::airspace::queue_length;
+use field::airspace::zone_of;
 use field::zones::RUNWAY;
 ghost use mathlib.Core.Path.{_≡_};
 ghost use mathlib.Core.List.{_∷_};
 ghost use lib.ListN.{getD};
-ghost use Rattle.field.specs.Boxes as boxes;
+ghost use Rattle.field.specs.Airspace as airspace;
 ghost use Rattle.questions.specs.Find.{placeOf, aircraftAt, fixOf, isFirst, leaderOf, leaderZone};
 
 // Where a number is on the field: the first zone that has it, and its first place there from 1; 0 and 0 where it is absent.
@@ -39,7 +39,7 @@ pub fn place_of(f: Field, number: u16) -> Place
 
 // Who stands at a place, from 1, of a zone's queue; nobody where there is none.
 pub fn aircraft_in(q: Zone, place: usize) -> Aircraft
-    ensures { λ r. ⌜ r ≡ getD (boxes.nobody ∷ boxes.queueOf q) place boxes.nobody ⌝ }
+    ensures { λ r. ⌜ r ≡ getD (airspace.nobody ∷ airspace.queueOf q) place airspace.nobody ⌝ }
 {
     if place == 0 {
         return nobody();

@@ -14,18 +14,18 @@ use Rattle.field.specs.declared.Aircraft.{Aircraft}
 use Rattle.field.specs.declared.Legs.{Legs}
 use Rattle.field.specs.declared.Field.{Field}
 use Rattle.questions.specs.declared.Place.{Place}
-use Rattle.field.specs.Boxes.{sideOf, area, inZone}
+use Rattle.field.specs.Airspace.{sideOf, area, inZone}
 use Rattle.field.specs.Lists.{isIn, every, allDifferent}
 use Rattle.questions.specs.Find.{placeOf, fixOf}
 use Rattle.request.specs.Input.{within}
-use Rattle.order.specs.Model.{Side, right, left, opp, num, sameArea, ofArea, isLateral, one, rank, height, number, all, mayLead, mayHead, chain, okay}
+use Rattle.order.specs.Model.{Side, rightSide, leftSide, opp, num, sameArea, ofArea, isLateral, one, rank, height, number, mayLead, mayHead, chain, okay}
 use Rattle.order.specs.Model as model
 use Rattle.order.proofs.Facts.{okay-zones}
 use Rattle.rules.specs.Reason.{Listed, listed, along, those, isInZone, isInArea, hasFix, neverFalls, eachAmong}
 use Rattle.rules.specs.Reason.{fromLanding, approachOrder, heightIn, areaOrder, hasRoom, roomToMiss, lateralFree, lateralOrder, Reason}
-use Rattle.field.proofs.Tests.{each-operation, pass, failed, fail, decided, or-left, or-right}
+use Rattle.field.proofs.TestLaws.{each-operation, pass, failed, fail, decided, or-left, or-right}
 use Rattle.line.proofs.Line.{Placed, zonesIn, numbersOf, inside, fieldOf, order-for}
-use Rattle.line.proofs.Counted.{Alternates, in-line}
+use Rattle.line.proofs.CountedOnLine.{Alternates, in-line}
 use Rattle.questions.proofs.FindLaws.{numbers}
 use Rattle.line.proofs.Located.{located, fix-there}
 use Rattle.line.proofs.Leaders.{all-at}
@@ -45,7 +45,7 @@ module _ (f : Side) (line : List Placed) (runway : List Aircraft) (legs : Legs) 
   seen-from a (x ∷ b) e =
       let n = x .aircraft .number in
       let d = subst (λ (l : List Placed). T (allDifferent (numbersOf l ++ numbers runway))) e (o .different) in
-      let t = all-at (within 1 12) (λ (p : Placed). p .zone) a x b (subst (λ (l : List Placed). T (all (within 1 12) (zonesIn l))) e (okay-zones f (zonesIn line) (o .okay-line))) in
+      let t = all-at (within 1 12) (λ (p : Placed). p .zone) a x b (subst (λ (l : List Placed). T (every (within 1 12) (zonesIn l))) e (okay-zones f (zonesIn line) (o .okay-line))) in
       let z : placeOf F n .zone ≡ x .zone = ap (λ (l : List Placed). placeOf (fieldOf f l runway legs) n .zone) e ∙ ap (λ (p : Place). p .zone) (located f a x b runway legs d t) in
       let s : fixOf F n ≡ x .aircraft .fix = ap (λ (l : List Placed). fixOf (fieldOf f l runway legs) n) e ∙ fix-there f a x b runway legs d t in
       let h : listed F n ≡ asListed x = λ i. record { number = n; zone = z i; fix = s i } in
@@ -78,21 +78,21 @@ pub landing-rank : (z : ℕ) → T (within 1 12 z) → fromLanding z + rank z �
 landing-rank = each-operation (λ z. fromLanding z + rank z ≡ 3) (refl, refl, refl, refl, refl, refl, refl, refl, refl, refl, refl, refl)
 
 pub area-is : (s : Side) (z : ℕ) → T (within 1 12 z) → isIn z (area (num s)) ≡ ofArea s z
-area-is right = each-operation (λ z. isIn z (area 1) ≡ ofArea right z) (refl, refl, refl, refl, refl, refl, refl, refl, refl, refl, refl, refl)
-area-is left = each-operation (λ z. isIn z (area 2) ≡ ofArea left z) (refl, refl, refl, refl, refl, refl, refl, refl, refl, refl, refl, refl)
+area-is rightSide = each-operation (λ z. isIn z (area 1) ≡ ofArea rightSide z) (refl, refl, refl, refl, refl, refl, refl, refl, refl, refl, refl, refl)
+area-is leftSide = each-operation (λ z. isIn z (area 2) ≡ ofArea leftSide z) (refl, refl, refl, refl, refl, refl, refl, refl, refl, refl, refl, refl)
 
 pub height-is : (s : Side) (z : ℕ) → T (within 1 12 z) → T (ofArea s z) → heightIn (num s) z ≡ height z
-height-is right =
-    each-operation (λ z. T (ofArea right z) → heightIn 1 z ≡ height z)
+height-is rightSide =
+    each-operation (λ z. T (ofArea rightSide z) → heightIn 1 z ≡ height z)
     ((λ t. refl), (λ t. absurd t), (λ t. refl), (λ t. absurd t), (λ t. refl), (λ t. absurd t), (λ t. refl), (λ t. absurd t), (λ t. absurd t), (λ t. absurd t), (λ t. absurd t), (λ t. absurd t))
-height-is left =
-    each-operation (λ z. T (ofArea left z) → heightIn 2 z ≡ height z)
+height-is leftSide =
+    each-operation (λ z. T (ofArea leftSide z) → heightIn 2 z ≡ height z)
     ((λ t. absurd t), (λ t. refl), (λ t. absurd t), (λ t. refl), (λ t. absurd t), (λ t. refl), (λ t. absurd t), (λ t. refl), (λ t. absurd t), (λ t. absurd t), (λ t. absurd t), (λ t. absurd t))
 
 lateral-side : (s : Side) (z : ℕ) → T (within 1 12 z) → T (isLateral z) → ofArea s z ≡ false → eqb (num s) (sideOf z) ≡ false
 unfolding sideOf
-lateral-side right =
-    each-operation (λ z. T (isLateral z) → ofArea right z ≡ false → eqb 1 (sideOf z) ≡ false) (
+lateral-side rightSide =
+    each-operation (λ z. T (isLateral z) → ofArea rightSide z ≡ false → eqb 1 (sideOf z) ≡ false) (
       (λ t e. absurd t),
       (λ t e. absurd t),
       (λ t e. absurd t),
@@ -106,8 +106,8 @@ lateral-side right =
       (λ t e. absurd t),
       (λ t e. absurd t),
     )
-lateral-side left =
-    each-operation (λ z. T (isLateral z) → ofArea left z ≡ false → eqb 2 (sideOf z) ≡ false) (
+lateral-side leftSide =
+    each-operation (λ z. T (isLateral z) → ofArea leftSide z ≡ false → eqb 2 (sideOf z) ≡ false) (
       (λ t e. absurd t),
       (λ t e. absurd t),
       (λ t e. absurd t),
@@ -159,12 +159,12 @@ leads f z w t =
     beside false b t u = absurd u
 
 -- what holds of each one that z may lead holds of all behind it
-follow : (f : Side) (z : ℕ) (p : Listed → Bool) (l : List Placed) → T (all (mayLead f z) (zonesIn l)) → T (all (within 1 12) (zonesIn l))
+follow : (f : Side) (z : ℕ) (p : Listed → Bool) (l : List Placed) → T (every (mayLead f z) (zonesIn l)) → T (every (within 1 12) (zonesIn l))
     → ((e : Placed) → T (within 1 12 (e .zone)) → Leads f z (e .zone) → T (p (asListed e))) → T (every p (map asListed l))
 follow f z p [] m t h = tt
 follow f z p (e ∷ l) m t h =
-    let mays = all (mayLead f z) (zonesIn l) in
-    let ins = all (within 1 12) (zonesIn l) in
+    let mays = every (mayLead f z) (zonesIn l) in
+    let ins = every (within 1 12) (zonesIn l) in
     and-i (p (asListed e)) (every p (map asListed l))
     (h e (and-l (within 1 12 (e .zone)) ins t) (leads f z (e .zone) (and-l (mayLead f z (e .zone)) mays m)))
     (follow f z p l (and-r (mayLead f z (e .zone)) mays m) (and-r (within 1 12 (e .zone)) ins t) h)
@@ -185,20 +185,20 @@ every-those p q (x ∷ xs) t =
 -- the chain at its first
 record Link (f : Side) (z : ℕ) (zs : List ℕ) : Type 0 where
   here : T (within 1 12 z)
-  leading : T (all (mayLead f z) zs)
+  leading : T (every (mayLead f z) zs)
   rest : T (chain (opp f) zs)
 
 link : (f : Side) (z : ℕ) (zs : List ℕ) → T (chain f (z ∷ zs)) → Link f z zs
 link f z zs t =
     let b = within 1 12 z in
-    let m = all (mayLead f z) zs in
+    let m = every (mayLead f z) zs in
     let n = leb (number (sameArea z) zs) 1 in
     let h = and-l (b && m) n (and-l (mayHead f z zs) (chain (opp f) zs) t) in
     record { here = and-l b m h; leading = and-r b m h; rest = and-r (mayHead f z zs) (chain (opp f) zs) t }
 
-chained : (f : Side) (zs : List ℕ) → T (chain f zs) → T (all (within 1 12) zs)
+chained : (f : Side) (zs : List ℕ) → T (chain f zs) → T (every (within 1 12) zs)
 chained f [] t = tt
-chained f (z ∷ zs) t = let k = link f z zs t in and-i (within 1 12 z) (all (within 1 12) zs) (k .here) (chained (opp f) zs (k .rest))
+chained f (z ∷ zs) t = let k = link f z zs t in and-i (within 1 12 z) (every (within 1 12) zs) (k .here) (chained (opp f) zs (k .rest))
 
 -- ---- 1
 pub approach-line : (f : Side) (l : List Placed) → T (chain f (zonesIn l)) → T (neverFalls (map (λ (a : Listed). fromLanding (a .zone)) (map asListed l)))
@@ -250,12 +250,12 @@ area-line s f (e ∷ l) t = go (decided (isIn (e .zone) (area (num s)))) (area-l
     go (inr b) h = subst (λ (c : Bool). T (neverFalls (map g (cond c (asListed e ∷ those p (map asListed l)) (those p (map asListed l)))))) (sym b) h
 
 -- ---- 3
-area-number : (s : Side) (l : List Placed) → T (all (within 1 12) (zonesIn l)) → length (those (isInArea (num s)) (map asListed l)) ≡ number (ofArea s) (zonesIn l)
+area-number : (s : Side) (l : List Placed) → T (every (within 1 12) (zonesIn l)) → length (those (isInArea (num s)) (map asListed l)) ≡ number (ofArea s) (zonesIn l)
 area-number s [] t = refl
 area-number s (e ∷ l) t =
     ap (λ (b : Bool). length (cond b (asListed e ∷ those (isInArea (num s)) (map asListed l)) (those (isInArea (num s)) (map asListed l))))
-    (area-is s (e .zone) (and-l (within 1 12 (e .zone)) (all (within 1 12) (zonesIn l)) t))
-    ∙ go (ofArea s (e .zone)) (area-number s l (and-r (within 1 12 (e .zone)) (all (within 1 12) (zonesIn l)) t))
+    (area-is s (e .zone) (and-l (within 1 12 (e .zone)) (every (within 1 12) (zonesIn l)) t))
+    ∙ go (ofArea s (e .zone)) (area-number s l (and-r (within 1 12 (e .zone)) (every (within 1 12) (zonesIn l)) t))
   where
     go : (b : Bool) → length (those (isInArea (num s)) (map asListed l)) ≡ number (ofArea s) (zonesIn l)
         → length (cond b (asListed e ∷ those (isInArea (num s)) (map asListed l)) (those (isInArea (num s)) (map asListed l))) ≡ one b + number (ofArea s) (zonesIn l)
@@ -273,23 +273,23 @@ ahead-more s g e ahead h =
     go false = omega arith
 
 same-fix : (f : Side) → one (eqb (num f) (num f)) ≡ 1
-same-fix right = refl
-same-fix left = refl
+same-fix rightSide = refl
+same-fix leftSide = refl
 
 other-fix : (f : Side) → one (eqb (num f) (num (opp f))) ≡ 0
-other-fix right = refl
-other-fix left = refl
+other-fix rightSide = refl
+other-fix leftSide = refl
 
 opp-opp : (f : Side) → opp (opp f) ≡ f
-opp-opp right = refl
-opp-opp left = refl
+opp-opp rightSide = refl
+opp-opp leftSide = refl
 
 -- with k ahead in turn, k / 2 have the fix of the next one: room to miss is that of the model
 pub room-same : (k : ℕ) (f : Side) (ahead : List Listed) (l : List Placed) → length (those (hasFix (num f)) ahead) ≡ k / 2 → length (those (hasFix (num (opp f))) ahead) ≡ suc k / 2
-    → Alternates f l → T (all (within 1 12) (zonesIn l)) → eachAmong hasRoom ahead (map asListed l) ≡ model.roomInOrder k f (zonesIn l)
+    → Alternates f l → T (every (within 1 12) (zonesIn l)) → eachAmong hasRoom ahead (map asListed l) ≡ model.roomInOrder k f (zonesIn l)
 room-same k f ahead [] p q a t = refl
 room-same k f ahead (e ∷ l) p q a t =
-    let ins = and-r (within 1 12 (e .zone)) (all (within 1 12) (zonesIn l)) t in
+    let ins = and-r (within 1 12 (e .zone)) (every (within 1 12) (zonesIn l)) t in
     let n = number (ofArea f) (zonesIn l) in
     let c = area-number f l ins in
     let both : length (those (isInArea (num f)) (map asListed l)) + length (those (hasFix (num f)) ahead) ≡ n + k / 2 = omega arith in
@@ -320,30 +320,30 @@ clear-more f e ahead w h u m t = go (decided (within 5 6 w))
         subst (λ (c : Bool). T (not (within 5 6 w) || eqb (length (cond c (asListed e ∷ those (hasFix (sideOf w)) ahead) (those (hasFix (sideOf w)) ahead))) 0)) (sym other) t
     go (inr b) = or-left (not (within 5 6 w)) (eqb (length (those (hasFix (sideOf w)) (asListed e ∷ ahead))) 0) (fail b)
 
-clear-behind : (f : Side) (e : Placed) (ahead : List Listed) (zs : List ℕ) → e .aircraft .fix ≡ num f → T (all (within 1 12) zs) → T (all (mayLead f (e .zone)) zs)
-    → T (all (clear ahead) zs) → T (all (clear (asListed e ∷ ahead)) zs)
+clear-behind : (f : Side) (e : Placed) (ahead : List Listed) (zs : List ℕ) → e .aircraft .fix ≡ num f → T (every (within 1 12) zs) → T (every (mayLead f (e .zone)) zs)
+    → T (every (clear ahead) zs) → T (every (clear (asListed e ∷ ahead)) zs)
 clear-behind f e ahead [] h u m t = tt
 clear-behind f e ahead (w ∷ zs) h u m t =
-    and-i (clear (asListed e ∷ ahead) w) (all (clear (asListed e ∷ ahead)) zs)
-    (clear-more f e ahead w h (and-l (within 1 12 w) (all (within 1 12) zs) u)
-    (leads f (e .zone) w (and-l (mayLead f (e .zone) w) (all (mayLead f (e .zone)) zs) m)) (and-l (clear ahead w) (all (clear ahead) zs) t))
-    (clear-behind f e ahead zs h (and-r (within 1 12 w) (all (within 1 12) zs) u)
-    (and-r (mayLead f (e .zone) w) (all (mayLead f (e .zone)) zs) m) (and-r (clear ahead w) (all (clear ahead) zs) t))
+    and-i (clear (asListed e ∷ ahead) w) (every (clear (asListed e ∷ ahead)) zs)
+    (clear-more f e ahead w h (and-l (within 1 12 w) (every (within 1 12) zs) u)
+    (leads f (e .zone) w (and-l (mayLead f (e .zone) w) (every (mayLead f (e .zone)) zs) m)) (and-l (clear ahead w) (every (clear ahead) zs) t))
+    (clear-behind f e ahead zs h (and-r (within 1 12 w) (every (within 1 12) zs) u)
+    (and-r (mayLead f (e .zone) w) (every (mayLead f (e .zone)) zs) m) (and-r (clear ahead w) (every (clear ahead) zs) t))
 
 pub lateral-line : (f : Side) (ahead : List Listed) (l : List Placed) → Alternates f l → T (chain f (zonesIn l))
-    → T (all (clear ahead) (zonesIn l)) → T (eachAmong lateralFree ahead (map asListed l))
+    → T (every (clear ahead) (zonesIn l)) → T (eachAmong lateralFree ahead (map asListed l))
 lateral-line f ahead [] a t c = tt
 lateral-line f ahead (e ∷ l) a t c =
     let k = link f (e .zone) (zonesIn l) t in
     and-i (lateralFree ahead (asListed e) (map asListed l)) (eachAmong lateralFree (asListed e ∷ ahead) (map asListed l))
-    (and-l (clear ahead (e .zone)) (all (clear ahead) (zonesIn l)) c)
+    (and-l (clear ahead (e .zone)) (every (clear ahead) (zonesIn l)) c)
     (lateral-line (opp f) (asListed e ∷ ahead) l (a .1) (k .rest)
-    (clear-behind f e ahead (zonesIn l) (a .0) (chained (opp f) (zonesIn l) (k .rest)) (k .leading) (and-r (clear ahead (e .zone)) (all (clear ahead) (zonesIn l)) c)))
+    (clear-behind f e ahead (zonesIn l) (a .0) (chained (opp f) (zonesIn l) (k .rest)) (k .leading) (and-r (clear ahead (e .zone)) (every (clear ahead) (zonesIn l)) c)))
 
 -- nobody is ahead of the first
-none-ahead : (zs : List ℕ) → T (all (clear []) zs)
+none-ahead : (zs : List ℕ) → T (every (clear []) zs)
 none-ahead [] = tt
-none-ahead (z ∷ zs) = and-i (clear [] z) (all (clear []) zs) (or-right (not (within 5 6 z)) true tt) (none-ahead zs)
+none-ahead (z ∷ zs) = and-i (clear [] z) (every (clear []) zs) (or-right (not (within 5 6 z)) true tt) (none-ahead zs)
 
 -- ---- the five together
 pub orderly-reason : (f : Side) (line : List Placed) (runway : List Aircraft) (legs : Legs) → Orderly f line runway legs → Reason (fieldOf f line runway legs)
@@ -358,7 +358,7 @@ orderly-reason f line runway legs o =
     λ s. subst (λ (l : List Listed). T (neverFalls (map (λ (a : Listed). heightIn (num s) (a .zone)) (those (isInArea (num s)) l)))) (sym is) (area-line s f line chains) in
     record {
       approach-order = subst (λ (l : List Listed). T (neverFalls (map (λ (a : Listed). fromLanding (a .zone)) l))) (sym is) (approach-line f line chains);
-      area-order = and-i (areaOrder (fieldOf f line runway legs) 1) (areaOrder (fieldOf f line runway legs) 2) (side right) (side left);
+      area-order = and-i (areaOrder (fieldOf f line runway legs) 1) (areaOrder (fieldOf f line runway legs) 2) (side rightSide) (side leftSide);
       room-to-miss =
           subst (λ (l : List Listed). T (eachAmong hasRoom [] l)) (sym is)
           (subst T (sym (room-same 0 f [] line refl refl (o .alternates) ins)) (and-r (leb (length zs) 4 && chain f zs) (model.roomInOrder 0 f zs) (o .okay-line)));

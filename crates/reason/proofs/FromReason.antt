@@ -10,31 +10,31 @@ use lib.ListN.{length}
 use lib.Ieee.Fits.{and-i, and-l, and-r}
 use borrow.Author.Tests.{eqb-true, leb-false, eq-eqb, le-ltb}
 use Rattle.request.specs.Input.{within}
-use Rattle.field.specs.Boxes.{sideOf, area, lateral}
+use Rattle.field.specs.Airspace.{sideOf, area, lateral}
 use Rattle.field.specs.Lists.{isIn, every}
-use Rattle.order.specs.Model.{Side, right, left, opp, num, count, sameArea, ofArea, isLateral, one, rank, height, number, all, mayLead, mayHead, chain}
+use Rattle.order.specs.Model.{Side, rightSide, leftSide, opp, num, count, sameArea, ofArea, isLateral, one, rank, height, number, mayLead, mayHead, chain}
 use Rattle.rules.specs.Reason.{Listed, those, isInArea, hasFix, neverFalls, eachAmong, fromLanding, heightIn, lateralFree}
-use Rattle.field.proofs.Tests.{each-operation, passed, pass, fail, decided, if-true, same}
+use Rattle.field.proofs.TestLaws.{each-operation, passed, pass, fail, decided, if-true, same}
 use Rattle.line.proofs.Line.{Placed, zonesIn}
-use Rattle.line.proofs.Counted.{Alternates}
+use Rattle.line.proofs.CountedOnLine.{Alternates}
 use Rattle.line.proofs.Members.{absent-count}
 use Rattle.reason.proofs.AlongLine.{asListed, landing-rank, area-is, height-is}
 
 -- ---- those of a list of zones
-all-in : (p : ℕ → Bool) (zs : List ℕ) → ((w : ℕ) → isIn w zs ≡ true → T (p w)) → T (all p zs)
+all-in : (p : ℕ → Bool) (zs : List ℕ) → ((w : ℕ) → isIn w zs ≡ true → T (p w)) → T (every p zs)
 all-in p [] h = tt
-all-in p (z ∷ zs) h = and-i (p z) (all p zs) (h z (ap (λ (b : Bool). b || isIn z zs) (same z))) (all-in p zs (λ w i. h w (ap (λ (b : Bool). eqb z w || b) i ∙ right-true (eqb z w))))
+all-in p (z ∷ zs) h = and-i (p z) (every p zs) (h z (ap (λ (b : Bool). b || isIn z zs) (same z))) (all-in p zs (λ w i. h w (ap (λ (b : Bool). eqb z w || b) i ∙ right-true (eqb z w))))
   where
     right-true : (b : Bool) → (b || true) ≡ true
     right-true true = refl
     right-true false = refl
 
-in-all : (p : ℕ → Bool) (zs : List ℕ) → T (all p zs) → (w : ℕ) → isIn w zs ≡ true → T (p w)
+in-all : (p : ℕ → Bool) (zs : List ℕ) → T (every p zs) → (w : ℕ) → isIn w zs ≡ true → T (p w)
 in-all p [] t w i = absurd (false≢true i)
-in-all p (z ∷ zs) t w i = go (decided (eqb z w)) (in-all p zs (and-r (p z) (all p zs) t) w)
+in-all p (z ∷ zs) t w i = go (decided (eqb z w)) (in-all p zs (and-r (p z) (every p zs) t) w)
   where
     go : (eqb z w ≡ true) ⊎ (eqb z w ≡ false) → (isIn w zs ≡ true → T (p w)) → T (p w)
-    go (inl b) later = subst (λ (y : ℕ). T (p y)) (eqb-true z w b) (and-l (p z) (all p zs) t)
+    go (inl b) later = subst (λ (y : ℕ). T (p y)) (eqb-true z w b) (and-l (p z) (every p zs) t)
     go (inr b) later = later (sym (ap (λ (c : Bool). c || isIn w zs) b) ∙ i)
 
 pub count-in : (zs : List ℕ) (w : ℕ) → isIn w zs ≡ true → 1 ≤ count zs w
@@ -64,11 +64,11 @@ number-none [] = refl
 number-none (z ∷ zs) = let e = number-none zs in omega arith
 
 -- a test of the zones of all that are listed
-every-in-zones : (q : ℕ → Bool) (l : List Placed) → T (every (λ (a : Listed). q (a .zone)) (map asListed l)) → T (all q (zonesIn l))
+every-in-zones : (q : ℕ → Bool) (l : List Placed) → T (every (λ (a : Listed). q (a .zone)) (map asListed l)) → T (every q (zonesIn l))
 every-in-zones q [] t = tt
 every-in-zones q (e ∷ l) t =
     let later = every (λ (a : Listed). q (a .zone)) (map asListed l) in
-    and-i (q (e .zone)) (all q (zonesIn l)) (and-l (q (e .zone)) later t) (every-in-zones q l (and-r (q (e .zone)) later t))
+    and-i (q (e .zone)) (every q (zonesIn l)) (and-l (q (e .zone)) later t) (every-in-zones q l (and-r (q (e .zone)) later t))
 
 unmapped : (q : ℕ → Bool) (g : Listed → ℕ) (xs : List Listed) → T (every q (map g xs)) → T (every (λ a. q (g a)) xs)
 unmapped q g [] t = tt
@@ -86,14 +86,14 @@ unfiltered p q (x ∷ xs) t = go (p x) t (unfiltered p q xs)
 area-side : (z : ℕ) → T (within 1 12 z) → T (leb z 8) → (s : Side) × T (ofArea s z)
 area-side =
     each-operation (λ z. T (leb z 8) → (s : Side) × T (ofArea s z)) (
-      (λ t. (right, tt)),
-      (λ t. (left, tt)),
-      (λ t. (right, tt)),
-      (λ t. (left, tt)),
-      (λ t. (right, tt)),
-      (λ t. (left, tt)),
-      (λ t. (right, tt)),
-      (λ t. (left, tt)),
+      (λ t. (rightSide, tt)),
+      (λ t. (leftSide, tt)),
+      (λ t. (rightSide, tt)),
+      (λ t. (leftSide, tt)),
+      (λ t. (rightSide, tt)),
+      (λ t. (leftSide, tt)),
+      (λ t. (rightSide, tt)),
+      (λ t. (leftSide, tt)),
       (λ t. absurd t),
       (λ t. absurd t),
       (λ t. absurd t),
@@ -101,8 +101,8 @@ area-side =
     )
 
 lateral-is : (s : Side) (z : ℕ) → T (within 1 12 z) → T (isLateral z) → T (ofArea s z) → z ≡ lateral (num s)
-lateral-is right =
-    each-operation (λ z. T (isLateral z) → T (ofArea right z) → z ≡ 5) (
+lateral-is rightSide =
+    each-operation (λ z. T (isLateral z) → T (ofArea rightSide z) → z ≡ 5) (
       (λ t u. absurd t),
       (λ t u. absurd t),
       (λ t u. absurd t),
@@ -116,8 +116,8 @@ lateral-is right =
       (λ t u. absurd t),
       (λ t u. absurd t),
     )
-lateral-is left =
-    each-operation (λ z. T (isLateral z) → T (ofArea left z) → z ≡ 6) (
+lateral-is leftSide =
+    each-operation (λ z. T (isLateral z) → T (ofArea leftSide z) → z ≡ 6) (
       (λ t u. absurd t),
       (λ t u. absurd t),
       (λ t u. absurd t),
@@ -134,8 +134,8 @@ lateral-is left =
 
 lateral-other : (s : Side) (z : ℕ) → T (within 1 12 z) → T (isLateral z) → eqb (num s) (sideOf z) ≡ false → ofArea s z ≡ false
 unfolding sideOf
-lateral-other right =
-    each-operation (λ z. T (isLateral z) → eqb 1 (sideOf z) ≡ false → ofArea right z ≡ false) (
+lateral-other rightSide =
+    each-operation (λ z. T (isLateral z) → eqb 1 (sideOf z) ≡ false → ofArea rightSide z ≡ false) (
       (λ t e. absurd t),
       (λ t e. absurd t),
       (λ t e. absurd t),
@@ -149,8 +149,8 @@ lateral-other right =
       (λ t e. absurd t),
       (λ t e. absurd t),
     )
-lateral-other left =
-    each-operation (λ z. T (isLateral z) → eqb 2 (sideOf z) ≡ false → ofArea left z ≡ false) (
+lateral-other leftSide =
+    each-operation (λ z. T (isLateral z) → eqb 2 (sideOf z) ≡ false → ofArea leftSide z ≡ false) (
       (λ t e. absurd t),
       (λ t e. absurd t),
       (λ t e. absurd t),
@@ -178,7 +178,7 @@ pub record Facts (f : Side) (ahead : List Listed) (l : List Placed) : Type 0 whe
   pub areas : (s : Side) → T (neverFalls (map (λ (a : Listed). heightIn (num s) (a .zone)) (those (isInArea (num s)) (map asListed l))))
   pub laterals : T (eachAmong lateralFree ahead (map asListed l))
   pub alternates : Alternates f l
-  pub ins : T (all (within 1 12) (zonesIn l))
+  pub ins : T (every (within 1 12) (zonesIn l))
   pub singles : (z : ℕ) → T (within 1 6 z) → count (zonesIn l) z ≤ 1
   pub crowd : (s : Side) → number (ofArea s) (zonesIn l) ≤ 2
   pub lateral-alone : (s : Side) → 1 ≤ count (zonesIn l) (lateral (num s)) → number (ofArea s) (zonesIn l) ≤ 1
@@ -222,10 +222,10 @@ module _ (f : Side) (ahead : List Listed) (e : Placed) (l : List Placed) (k : Fa
   zs = zonesIn l
 
   z-in : T (within 1 12 z)
-  z-in = and-l (within 1 12 z) (all (within 1 12) zs) (k .ins)
+  z-in = and-l (within 1 12 z) (every (within 1 12) zs) (k .ins)
 
-  zs-in : T (all (within 1 12) zs)
-  zs-in = and-r (within 1 12 z) (all (within 1 12) zs) (k .ins)
+  zs-in : T (every (within 1 12) zs)
+  zs-in = and-r (within 1 12 z) (every (within 1 12) zs) (k .ins)
 
   -- the heights in a side's area: of z and those behind it, and of those behind it alone
   heights : (s : Side) → (b : Bool) → isIn z (area (num s)) ≡ b
@@ -373,7 +373,7 @@ chain-from f ahead (e ∷ l) k =
     let z = e .zone in
     let zs = zonesIn l in
     and-i (mayHead f z zs) (chain (opp f) zs)
-    (and-i (within 1 12 z && all (mayLead f z) zs) (leb (number (sameArea z) zs) 1)
-    (and-i (within 1 12 z) (all (mayLead f z) zs) (and-l (within 1 12 z) (all (within 1 12) zs) (k .ins)) (all-in (mayLead f z) zs (may-lead f ahead e l k)))
+    (and-i (within 1 12 z && every (mayLead f z) zs) (leb (number (sameArea z) zs) 1)
+    (and-i (within 1 12 z) (every (mayLead f z) zs) (and-l (within 1 12 z) (every (within 1 12) zs) (k .ins)) (all-in (mayLead f z) zs (may-lead f ahead e l k)))
     (le→leb (number (sameArea z) zs) 1 (few-behind f ahead e l k)))
     (chain-from (opp f) (asListed e ∷ ahead) l (facts-behind f ahead e l k))

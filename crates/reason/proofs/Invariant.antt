@@ -13,23 +13,23 @@ use Rattle.request.specs.Input.{within}
 use Rattle.field.specs.declared.Aircraft.{Aircraft}
 use Rattle.field.specs.declared.Legs.{Legs}
 use Rattle.field.specs.declared.Field.{Field}
-use Rattle.field.specs.Boxes.{isSide, opposite, at3000, at2000, lateral, missed, zonesFrom, area, operation, everywhere, zoneOf, inZone, orderOf}
+use Rattle.field.specs.Airspace.{isSide, opposite, at3000, at2000, lateral, missed, zonesFrom, area, operation, everywhere, zoneOf, inZone, orderOf}
 use Rattle.field.specs.Lists.{isIn, every, allDifferent}
 use Rattle.questions.specs.Counts.{total, howMany, inOperation, inArea, isEmpty}
 use Rattle.questions.specs.Find.{placeOf, fixOf, numbersIn}
 use Rattle.bounds.specs.Bounds.{boundA, boundB, lateralRule, boundC, finalFirst, zoneKept, sequenceKept, boundE, alternate, boundF}
 use Rattle.fits.specs.Fits.{fitsZone, legalLegs, boundG}
 use Rattle.numbers.specs.Numbers.{numbersDiffer, sequenceExact}
-use Rattle.order.specs.Model.{Side, right, left, opp, num, nextFix, count, one, ofArea, number, all, chain, okay}
+use Rattle.order.specs.Model.{Side, rightSide, leftSide, opp, num, nextFix, count, one, ofArea, number, chain, okay}
 use Rattle.order.specs.Model as model
 use Rattle.rules.specs.Reason.{Listed, along, those, isInArea, neverFalls, eachAmong, fromLanding, approachOrder, heightIn}
 use Rattle.rules.specs.Reason.{areaOrder, hasRoom, roomToMiss, lateralFree, lateralOrder, Reason, hasPlaces, Sound}
-use Rattle.field.proofs.Lists.{every-listed}
+use Rattle.field.proofs.NumberLists.{every-listed}
 use Rattle.laws.proofs.BoundLaws.{Within, within-each}
-use Rattle.field.proofs.Tests.{each-operation, passed, pass, decided}
+use Rattle.field.proofs.TestLaws.{each-operation, passed, pass, decided}
 use Rattle.laws.proofs.Fits.{fits-parts}
 use Rattle.line.proofs.Line.{sequenceFor, zoneFor, Placed, zonesIn, numbersOf, inside, fieldOf}
-use Rattle.line.proofs.Counted.{length-inside, Alternates, total-same, total-add, lower, side-area, in-everywhere}
+use Rattle.line.proofs.CountedOnLine.{length-inside, Alternates, total-same, total-add, lower, side-area, in-everywhere}
 use Rattle.questions.proofs.FindLaws.{numbers}
 use Rattle.line.proofs.Leaders.{nonzero}
 use Rattle.line.proofs.Members.{numbers-total, count-append, count-absent, different-count, count-different, nonzero-count, count-nonzero}
@@ -42,22 +42,22 @@ use Rattle.reason.proofs.FromReason.{count-in, Facts, chain-from}
 side-known : (n : ℕ) → T (isSide n) → (s : Side) × (n ≡ num s)
 unfolding isSide
 side-known n t = elim (decided (eqb n 1)) [
-  | inl e ↦ (right, eqb→eq n 1 (pass e))
-  | inr e ↦ (left, eqb→eq n 2 (subst (λ (b : Bool). T (b || eqb n 2)) e t))
+  | inl e ↦ (rightSide, eqb→eq n 1 (pass e))
+  | inr e ↦ (leftSide, eqb→eq n 2 (subst (λ (b : Bool). T (b || eqb n 2)) e t))
 ]
 
 -- the aircraft of an area, one by one, are those of its four zones
-area-total : (s : Side) (zs : List ℕ) → T (all (within 1 12) zs) → number (ofArea s) zs ≡ total (count zs) (area (num s))
+area-total : (s : Side) (zs : List ℕ) → T (every (within 1 12) zs) → number (ofArea s) zs ≡ total (count zs) (area (num s))
 area-total s [] t = refl
 area-total s (z ∷ zs) t =
-    let a = one-zone s z (and-l (within 1 12 z) (all (within 1 12) zs) t) in
-    let b = area-total s zs (and-r (within 1 12 z) (all (within 1 12) zs) t) in
+    let a = one-zone s z (and-l (within 1 12 z) (every (within 1 12) zs) t) in
+    let b = area-total s zs (and-r (within 1 12 z) (every (within 1 12) zs) t) in
     let c = total-add (λ w. cond (eqb z w) 1 0) (count zs) (area (num s)) in
     omega arith
   where
     one-zone : (s : Side) (z : ℕ) → T (within 1 12 z) → one (ofArea s z) ≡ total (λ w. cond (eqb z w) 1 0) (area (num s))
-    one-zone right = each-operation (λ z. one (ofArea right z) ≡ total (λ w. cond (eqb z w) 1 0) (area 1)) (refl, refl, refl, refl, refl, refl, refl, refl, refl, refl, refl, refl)
-    one-zone left = each-operation (λ z. one (ofArea left z) ≡ total (λ w. cond (eqb z w) 1 0) (area 2)) (refl, refl, refl, refl, refl, refl, refl, refl, refl, refl, refl, refl)
+    one-zone rightSide = each-operation (λ z. one (ofArea rightSide z) ≡ total (λ w. cond (eqb z w) 1 0) (area 1)) (refl, refl, refl, refl, refl, refl, refl, refl, refl, refl, refl, refl)
+    one-zone leftSide = each-operation (λ z. one (ofArea leftSide z) ≡ total (λ w. cond (eqb z w) 1 0) (area 2)) (refl, refl, refl, refl, refl, refl, refl, refl, refl, refl, refl, refl)
 
 -- ---- fixes that alternate, from the first on
 abbrev fixesThen : Field → List ℕ → List ℕ
@@ -188,12 +188,12 @@ module _ (f : Field) (h : Places f) (s : Within f) (p : Parts f) (c : Reason f) 
   unfolding fixOf
   fix-side n t = fits-parts (f .legs) (placeOf f n .zone) (lookedUp f n .aircraft) (fits-one n t) .side
 
-  zones-in : (ms : List ℕ) → T (every (λ n. isIn n (numbersIn f operation)) ms) → T (all (within 1 12) (zonesIn (map (lookedUp f) ms)))
+  zones-in : (ms : List ℕ) → T (every (λ n. isIn n (numbersIn f operation)) ms) → T (every (within 1 12) (zonesIn (map (lookedUp f) ms)))
   zones-in [] t = tt
   zones-in (n ∷ ms) t =
       let here = isIn n (numbersIn f operation) in
       let later = every (λ n. isIn n (numbersIn f operation)) ms in
-      and-i (within 1 12 (placeOf f n .zone)) (all (within 1 12) (zonesIn (map (lookedUp f) ms)))
+      and-i (within 1 12 (placeOf f n .zone)) (every (within 1 12) (zonesIn (map (lookedUp f) ms)))
       (every-listed (within 1 12) operation (placeOf f n .zone) tt (found-one f n (and-l here later t) .zone-in)) (zones-in ms (and-r here later t))
 
   -- ---- the first fix
@@ -248,7 +248,7 @@ module _ (f : Field) (h : Places f) (s : Within f) (p : Parts f) (c : Reason f) 
           each-operation (λ z. T (leb z 6) → isIn z (zonesFrom 1 6) ≡ true)
           ((λ t. refl), (λ t. refl), (λ t. refl), (λ t. refl), (λ t. refl), (λ t. refl), (λ t. absurd t), (λ t. absurd t), (λ t. absurd t), (λ t. absurd t), (λ t. absurd t), (λ t. absurd t))
 
-  ins : T (all (within 1 12) (zonesIn line))
+  ins : T (every (within 1 12) (zonesIn line))
   ins = zones-in ns (p .named)
 
   area-of : (d : Side) → number (ofArea d) (zonesIn line) ≡ inArea f (num d)
@@ -260,8 +260,8 @@ module _ (f : Field) (h : Places f) (s : Within f) (p : Parts f) (c : Reason f) 
   crowd d = let e = area-of d in let k = two d in omega arith
     where
       two : (d : Side) → inArea f (num d) ≤ 2
-      two right = leb→le (inArea f 1) 2 (and-l (leb (inArea f 1) 2) (leb (inArea f 2) 2) (s .bound-b))
-      two left = leb→le (inArea f 2) 2 (and-r (leb (inArea f 1) 2) (leb (inArea f 2) 2) (s .bound-b))
+      two rightSide = leb→le (inArea f 1) 2 (and-l (leb (inArea f 1) 2) (leb (inArea f 2) 2) (s .bound-b))
+      two leftSide = leb→le (inArea f 2) 2 (and-r (leb (inArea f 1) 2) (leb (inArea f 2) 2) (s .bound-b))
 
   -- with an occupied lateral zone the area has nobody else
   alone-of : (d : Side) → T (lateralRule f (num d)) → T (within 1 12 (lateral (num d))) → T (within 1 6 (lateral (num d))) → 1 ≤ count (zonesIn line) (lateral (num d))
@@ -284,8 +284,8 @@ module _ (f : Field) (h : Places f) (s : Within f) (p : Parts f) (c : Reason f) 
 
   alone : (d : Side) → 1 ≤ count (zonesIn line) (lateral (num d)) → number (ofArea d) (zonesIn line) ≤ 1
   unfolding boundC
-  alone right = alone-of right (let q = every (λ z. leb (howMany f z) 1) (zonesFrom 1 6) in and-r q (lateralRule f 1) (and-l (q && lateralRule f 1) (lateralRule f 2) (s .bound-c))) tt tt
-  alone left = alone-of left (let q = every (λ z. leb (howMany f z) 1) (zonesFrom 1 6) in and-r (q && lateralRule f 1) (lateralRule f 2) (s .bound-c)) tt tt
+  alone rightSide = alone-of rightSide (let q = every (λ z. leb (howMany f z) 1) (zonesFrom 1 6) in and-r q (lateralRule f 1) (and-l (q && lateralRule f 1) (lateralRule f 2) (s .bound-c))) tt tt
+  alone leftSide = alone-of leftSide (let q = every (λ z. leb (howMany f z) 1) (zonesFrom 1 6) in and-r (q && lateralRule f 1) (lateralRule f 2) (s .bound-c)) tt tt
 
   -- ---- the reason, of the line
   seen-line : along f ≡ map asListed line
@@ -307,8 +307,8 @@ module _ (f : Field) (h : Places f) (s : Within f) (p : Parts f) (c : Reason f) 
       }
     where
       of-side : (d : Side) → T (areaOrder f (num d))
-      of-side right = and-l (areaOrder f 1) (areaOrder f 2) (c .area-order)
-      of-side left = and-r (areaOrder f 1) (areaOrder f 2) (c .area-order)
+      of-side rightSide = and-l (areaOrder f 1) (areaOrder f 2) (c .area-order)
+      of-side leftSide = and-r (areaOrder f 1) (areaOrder f 2) (c .area-order)
 
   okay-is : T (okay firstSide (zonesIn line))
   unfolding okay roomToMiss

@@ -11,11 +11,11 @@ use native.Mathlib.Omega.{arith}
 use borrow.Author.Tests.{eq-eqb, eqb-false}
 use Rattle.request.specs.Input.{firstRefused, inputNumber}
 use Rattle.request.specs.declared.Request.{Request}
-use Rattle.request.proofs.Tests as input
+use Rattle.request.proofs.InputTests as input
 use Rattle.field.specs.declared.Aircraft.{Aircraft}
 use Rattle.field.specs.declared.Legs.{Legs}
 use Rattle.field.specs.declared.Field.{Field}
-use Rattle.field.specs.Boxes.{emptyField}
+use Rattle.field.specs.Airspace.{emptyField}
 use Rattle.questions.specs.Counts.{inArea}
 use Rattle.questions.specs.Find.{placeOf, fixOf}
 use Rattle.bounds.specs.Bounds.{withinBounds}
@@ -26,10 +26,10 @@ use Rattle.rules.specs.Step.{checksOf, effectOf, numberOf, stepOf}
 use Rattle.rules.specs.Play.{fieldAfter}
 use Rattle.rules.specs.Reason.{Reason, RoomAtSide, Sound, KeptBy}
 use Rattle.rules.specs.Examples.{crowded}
-use Rattle.field.proofs.Tests.{failed, passed, pass, decided, if-true, if-false}
+use Rattle.field.proofs.TestLaws.{failed, passed, pass, decided, if-true, if-false}
 use Rattle.line.proofs.Line.{Placed, fieldOf}
 use Rattle.line.proofs.Orderly.{Orderly}
-use Rattle.line.proofs.Within.{within-bounds}
+use Rattle.line.proofs.LineWithin.{within-bounds}
 use Rattle.rules.proofs.Checks.{owned, checks-at}
 use Rattle.rules.proofs.StepLaws.{number-is}
 use Rattle.demand.proofs.Demand.{from-empty}

@@ -14,7 +14,7 @@ use Rattle.request.specs.Input.{within}
 use Rattle.field.specs.declared.Aircraft.{Aircraft}
 use Rattle.field.specs.declared.Field.{Field}
 use Rattle.questions.specs.declared.Place.{Place}
-use Rattle.field.specs.Boxes.{isSide, area, everywhere, inZone, orderOf, nobody}
+use Rattle.field.specs.Airspace.{isSide, area, everywhere, inZone, orderOf, nobody}
 use Rattle.field.specs.Lists.{isIn, every, allDifferent}
 use Rattle.questions.specs.Counts.{total, howMany, inArea}
 use Rattle.questions.specs.Find.{placeFrom, nowhere, findIn, placeOf, aircraftAt, fixOf}
@@ -23,10 +23,10 @@ use Rattle.fits.specs.Fits.{fitsZone, legalLegs, boundG}
 use Rattle.order.specs.Model.{count, one}
 use Rattle.rules.specs.Reason.{Listed, listed, along, those, isInZone, isInArea, neverFalls, eachAmong, fromLanding, approachOrder, hasRoom, roomToMiss, Reason, RoomAtSide}
 use Rattle.laws.proofs.BoundLaws.{within-each}
-use Rattle.field.proofs.Lists.{every-listed}
-use Rattle.field.proofs.Tests.{decided, if-true, if-false, flip-eqb}
+use Rattle.field.proofs.NumberLists.{every-listed}
+use Rattle.field.proofs.TestLaws.{decided, if-true, if-false, flip-eqb}
 use Rattle.laws.proofs.Fits.{fits-parts}
-use Rattle.line.proofs.Counted.{total-add, total-none}
+use Rattle.line.proofs.CountedOnLine.{total-add, total-none}
 use Rattle.line.proofs.Members.{count-absent, count-different}
 
 -- ---- the aircraft at the head of final

@@ -15,8 +15,8 @@ use Rattle.field.specs.declared.Aircraft.{Aircraft}
 use Rattle.field.specs.declared.Legs.{Legs}
 use Rattle.field.specs.declared.Sequence.{Sequence}
 use Rattle.field.specs.declared.Field.{Field}
-use Rattle.field.specs.Boxes.{right, left, opposite, sideOf, at3000, at2000, lateral, missed, base, intermediate, finalApproach, runway, area}
-use Rattle.field.specs.Boxes.{approach, operation, everywhere, nobody, zoneOf, inZone, orderOf, entering, arrived, turnedAway, withFix, legFlownOut}
+use Rattle.field.specs.Airspace.{right, left, opposite, sideOf, at3000, at2000, lateral, missed, base, intermediate, finalApproach, runway, area}
+use Rattle.field.specs.Airspace.{approach, operation, everywhere, nobody, zoneOf, inZone, orderOf, entering, arrived, arrivedByMiss, withFix, legFlownOut}
 use Rattle.field.specs.Edits.{appended, removed}
 use Rattle.field.specs.Lists.{isIn, every}
 use Rattle.questions.specs.declared.Place.{Place}
@@ -29,7 +29,7 @@ use Rattle.rules.specs.Kinds.{entered, madeRoom, enteredAbove, approached, land
 use Rattle.rules.specs.Step.{byKind, needsFor, effectFor, checksFor, checksOf, effectOf, numberOf, stepOf}
 use Rattle.rules.specs.Reason.{Listed, listed, along, those, isInZone, isInArea, neverFalls, eachAmong, fromLanding, heightIn}
 use Rattle.rules.specs.Reason.{hasRoom, lateralFree, approachOrder, areaOrder, roomToMiss, lateralOrder, Reason, hasPlaces, Sound, KeptBy}
-use Rattle.field.proofs.Tests.{pass, passed, decided}
+use Rattle.field.proofs.TestLaws.{pass, passed, decided}
 use Rattle.line.proofs.Orderly.{every-zone}
 use Rattle.laws.proofs.SameQueues.{Same, same-head, same-tail, same-with, same-sequence, same-ticked, queues-same, alike, within-same}
 use Rattle.questions.proofs.FindLaws.{look-up-same}
@@ -228,11 +228,11 @@ module _ (f g : Field) (s : Same f g) (r : Request) where
       ap (λ (q : Sequence). cond (eqb (length (orderOf q)) 1) (x .fix) (f .next)) (s .sequence) ∙ ap (λ (n : ℕ). cond (eqb (length (orderOf (g .sequence))) 1) (x .fix) n) (s .next)
       ∙ ap (λ (b : Aircraft). cond (eqb (length (orderOf (g .sequence))) 1) (b .fix) (g .next)) a in
       let w : missed (x .fix) ≡ missed (y .fix) = ap (λ (b : Aircraft). missed (b .fix)) a in
-      let away : turnedAway (f .legs) (missed (x .fix)) x ≡ turnedAway (g .legs) (missed (y .fix)) y =
-      ap (λ (l : Legs). turnedAway l (missed (x .fix)) x) (s .legs) ∙ ap (λ (b : Aircraft). turnedAway (g .legs) (missed (b .fix)) b) a in
-      let before = withFix (turnedAway (f .legs) (missed (x .fix)) x) (fixAfterMiss f x) in
-      let after = withFix (turnedAway (g .legs) (missed (y .fix)) y) (fixAfterMiss g y) in
-      let went : before ≡ after = ap (λ (b : Aircraft). withFix b (fixAfterMiss f x)) away ∙ ap (withFix (turnedAway (g .legs) (missed (y .fix)) y)) fix in
+      let away : arrivedByMiss (f .legs) (missed (x .fix)) x ≡ arrivedByMiss (g .legs) (missed (y .fix)) y =
+      ap (λ (l : Legs). arrivedByMiss l (missed (x .fix)) x) (s .legs) ∙ ap (λ (b : Aircraft). arrivedByMiss (g .legs) (missed (b .fix)) b) a in
+      let before = withFix (arrivedByMiss (f .legs) (missed (x .fix)) x) (fixAfterMiss f x) in
+      let after = withFix (arrivedByMiss (g .legs) (missed (y .fix)) y) (fixAfterMiss g y) in
+      let went : before ≡ after = ap (λ (b : Aircraft). withFix b (fixAfterMiss f x)) away ∙ ap (withFix (arrivedByMiss (g .legs) (missed (y .fix)) y)) fix in
       let put : Same (tailPut (headGone f finalApproach) (missed (x .fix)) before) (tailPut (headGone g finalApproach) (missed (x .fix)) after) =
       put-same (headGone f finalApproach) (headGone g finalApproach) (gone-same f g s finalApproach) (missed (x .fix)) went in
       same-sequence _ _ (subst (λ (v : ℕ). Same (tailPut (headGone f finalApproach) (missed (x .fix)) before) (tailPut (headGone g finalApproach) v after)) w put)

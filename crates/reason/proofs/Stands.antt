@@ -17,18 +17,18 @@ use Rattle.field.specs.declared.Zone.{Zone}
 use Rattle.field.specs.declared.Sequence.{Sequence}
 use Rattle.field.specs.declared.Field.{Field}
 use Rattle.questions.specs.declared.Place.{Place}
-use Rattle.field.specs.Boxes.{zonesFrom, operation, everywhere, emptyZone, zoneOf, inZone, orderOf, nobody}
+use Rattle.field.specs.Airspace.{zonesFrom, operation, everywhere, emptyZone, zoneOf, inZone, orderOf, nobody}
 use Rattle.field.specs.Lists.{isIn, every, allDifferent}
 use Rattle.questions.specs.Counts.{total}
 use Rattle.questions.specs.Find.{placeFrom, findIn, placeOf, aircraftAt, fixOf, numbersIn}
 use Rattle.bounds.specs.Bounds.{sequenceKept}
 use Rattle.order.specs.Model.{Side, num, nextFix, count, one}
 use Rattle.rules.specs.Reason.{Listed, listed, along, those, isInZone, QueueAgrees}
-use Rattle.field.proofs.Tests.{passed, decided, if-true, if-false, same}
-use Rattle.field.proofs.Lists.{in-append}
-use Rattle.line.proofs.Lists.{map-append}
+use Rattle.field.proofs.TestLaws.{passed, decided, if-true, if-false, same}
+use Rattle.field.proofs.NumberLists.{in-append}
+use Rattle.line.proofs.AheadInLists.{map-append}
 use Rattle.line.proofs.Line.{zoneFor, sequenceFor, fieldBy, by-zones, Placed, zonesIn, numbersOf, inside, zonesOf, fieldOf}
-use Rattle.line.proofs.Counted.{lower, not-13, in-everywhere}
+use Rattle.line.proofs.CountedOnLine.{lower, not-13, in-everywhere}
 use Rattle.questions.proofs.FindLaws.{numbers, no-place, place-at, at}
 use Rattle.line.proofs.Located.{find-at, zone-split}
 use Rattle.line.proofs.Members.{numbers-total, count-append, absent-count, count-different}

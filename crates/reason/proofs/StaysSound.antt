@@ -15,18 +15,18 @@ use Rattle.field.specs.declared.Aircraft.{Aircraft}
 use Rattle.field.specs.declared.Zone.{Zone}
 use Rattle.field.specs.declared.Legs.{Legs}
 use Rattle.field.specs.declared.Field.{Field}
-use Rattle.field.specs.Boxes.{everywhere, nobody, zoneOf}
+use Rattle.field.specs.Airspace.{everywhere, nobody, zoneOf}
 use Rattle.field.specs.Lists.{every}
 use Rattle.order.specs.Model.{Side}
 use Rattle.order.proofs.Facts.{okay-length}
 use Rattle.rules.specs.Step.{stepOf}
 use Rattle.rules.specs.Reason.{hasPlaces, Sound, KeptBy}
-use Rattle.field.proofs.Tests.{pass}
+use Rattle.field.proofs.TestLaws.{pass}
 use Rattle.line.proofs.Line.{zoneFor, sequenceFor, Placed, zonesIn, numbersOf, inside, fieldOf}
-use Rattle.line.proofs.Counted.{zone-of-line, zone-of-runway}
+use Rattle.line.proofs.CountedOnLine.{zone-of-line, zone-of-runway}
 use Rattle.line.proofs.Located.{zone-split}
 use Rattle.line.proofs.Orderly.{Orderly, every-zone, length-zones, length-numbers, inside-le}
-use Rattle.line.proofs.Within.{within-bounds}
+use Rattle.line.proofs.LineWithin.{within-bounds}
 use Rattle.demand.proofs.Runs.{runs}
 use Rattle.reason.proofs.AlongLine.{orderly-reason}
 

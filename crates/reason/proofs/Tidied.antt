@@ -12,17 +12,17 @@ use lib.Ieee.Fits.{and-i, and-l}
 use Rattle.request.specs.Input.{within}
 use Rattle.field.specs.declared.Zone.{Zone}
 use Rattle.field.specs.declared.Field.{Field}
-use Rattle.field.specs.Boxes.{nobody, emptyZone, everywhere, zoneOf, queueOf, inZone}
+use Rattle.field.specs.Airspace.{nobody, emptyZone, everywhere, zoneOf, queueOf, inZone}
 use Rattle.field.specs.Lists.{every}
 use Rattle.bounds.specs.Bounds.{isNobody, zoneKept}
 use Rattle.rules.specs.Reason.{Sound}
-use Rattle.field.proofs.Tests.{pass, decided}
-use Rattle.field.proofs.Lists.{every-listed}
+use Rattle.field.proofs.TestLaws.{pass, decided}
+use Rattle.field.proofs.NumberLists.{every-listed}
 use Rattle.laws.proofs.BoundLaws.{within-each}
 use Rattle.laws.proofs.EditLaws.{no-zone-empty}
 use Rattle.laws.proofs.SameQueues.{SameZone, Same, kept-empty, same-zone}
 use Rattle.line.proofs.Line.{zoneFor, queue-for, fieldBy, zone-by}
-use Rattle.line.proofs.Counted.{in-everywhere}
+use Rattle.line.proofs.CountedOnLine.{in-everywhere}
 use Rattle.line.proofs.Orderly.{kept-for}
 use Rattle.reason.proofs.StaysSound.{four-places}
 use Rattle.reason.proofs.Invariant.{parts, Places, places-parts}

@@ -9,7 +9,7 @@ use Rattle.field.specs.declared.Aircraft.{Aircraft}
 use Rattle.field.specs.declared.Zone.{Zone}
 use Rattle.field.specs.declared.Sequence.{Sequence}
 use Rattle.field.specs.declared.Field.{Field}
-use Rattle.field.specs.Boxes.{right, left, isSide, at3000, at2000, lateral, missed, finalApproach, runway, area, zonesFrom, operation, everywhere, zoneOf, inZone, orderOf}
+use Rattle.field.specs.Airspace.{right, left, isSide, at3000, at2000, lateral, missed, finalApproach, runway, area, zonesFrom, operation, everywhere, zoneOf, inZone, orderOf}
 use Rattle.field.specs.Lists.{every, isIn, allDifferent}
 use Rattle.questions.specs.Counts.{total, howMany, inOperation, inArea, perFix}
 use Rattle.questions.specs.Find.{numbersIn, aircraftAt, fixOf, isFirst}
@@ -17,8 +17,8 @@ use Rattle.numbers.specs.Numbers.{numbersDiffer, sequenceExact}
 use Rattle.bounds.specs.Bounds.{boundA, boundB, lateralRule, boundC, boundD, finalFirst, isNobody, zoneKept, sequenceKept, boundE, alternate, boundF, withinBounds}
 use Rattle.fits.specs.Fits.{fitsZone, legalLegs, boundG}
 use Rattle.renaming.specs.Renaming.{Renaming, renamedAircraft, renamedZone, renamedSequence, renamedField}
-use Rattle.renaming.proofs.Lists.{drop-map, every-map, zero-renamed, in-renamed, different-renamed}
-use Rattle.renaming.proofs.Asked.{order-renamed, zone-renamed, queue-renamed, at-renamed, many-renamed, with-fix-renamed, numbers-renamed, fix-renamed, first-renamed}
+use Rattle.renaming.proofs.ListsRenamed.{drop-map, every-map, zero-renamed, in-renamed, different-renamed}
+use Rattle.renaming.proofs.AskedRenamed.{order-renamed, zone-renamed, queue-renamed, at-renamed, many-renamed, with-fix-renamed, numbers-renamed, fix-renamed, first-renamed}
 
 module _ {π : ℕ → ℕ} (p : Renaming π) where
   -- ---- places past a length

@@ -9,7 +9,7 @@ use Rattle.field.specs.declared.Aircraft.{Aircraft}
 use Rattle.field.specs.declared.Zone.{Zone}
 use Rattle.field.specs.declared.Sequence.{Sequence}
 use Rattle.field.specs.declared.Field.{Field}
-use Rattle.field.specs.Boxes.{opposite, sideOf, at3000, at2000, lateral, missed, base, intermediate, finalApproach, runway, zoneOf, entering, onLeg, arrived, turnedAway, withFix}
+use Rattle.field.specs.Airspace.{opposite, sideOf, at3000, at2000, lateral, missed, base, intermediate, finalApproach, runway, zoneOf, entering, onLeg, arrived, arrivedByMiss, withFix}
 use Rattle.field.specs.Edits.{withoutHead, withTail, appended, removed, withZone, withSequence}
 use Rattle.questions.specs.declared.Place.{Place}
 use Rattle.questions.specs.Find.{aircraftAt}
@@ -17,8 +17,8 @@ use Rattle.rules.specs.Kinds.{zoneBefore, zoneAhead, headGone, tailPut, moved, 
 use Rattle.rules.specs.Kinds.{enteredAbove, mayApproach, baseFree, approached, landed, exited, fixAfterMiss, missedApproach, held}
 use Rattle.rules.specs.Step.{byKind, effectFor, effectOf}
 use Rattle.renaming.specs.Renaming.{Renaming, renamedAircraft, renamedSequence, renamedField, renamedRequest}
-use Rattle.renaming.proofs.Lists.{either-made, by-test}
-use Rattle.renaming.proofs.Asked.{order-length, zone-renamed, at-renamed, place-renamed, leader-zone-renamed}
+use Rattle.renaming.proofs.ListsRenamed.{either-made, by-test}
+use Rattle.renaming.proofs.AskedRenamed.{order-length, zone-renamed, at-renamed, place-renamed, leader-zone-renamed}
 use Rattle.renaming.proofs.Edited.{without-head-renamed, with-tail-renamed, appended-renamed, removed-renamed, with-zone-renamed, ticked-renamed}
 use Rattle.renaming.proofs.Needed.{empty-renamed, may-approach-renamed, base-renamed}
 
@@ -115,13 +115,13 @@ module _ {π : ℕ → ℕ} (p : Renaming π) where
     exited-renamed = ap (λ (g : Field). outOfSequence g (π (r .number))) (gone-renamed f intermediate) ∙ out-renamed (headGone f intermediate) (r .number)
 
     missed-renamed : missedApproach G R ≡ renamedField π (missedApproach f r)
-    unfolding missedApproach turnedAway onLeg withFix withSequence
+    unfolding missedApproach arrivedByMiss onLeg withFix withSequence
     missed-renamed =
         let n = r .number in
         let a = aircraftAt f finalApproach 1 in
         let w = missed (a .fix) in
         let fix = fixAfterMiss f a in
-        let b = withFix (turnedAway (f .legs) w a) fix in
+        let b = withFix (arrivedByMiss (f .legs) w a) fix in
         let s : appended (removed (G .sequence) (π n)) (π n) ≡ renamedSequence π (appended (removed (f .sequence) n) n) =
         ap (λ (t : Sequence). appended t (π n)) (removed-renamed p (f .sequence) n) ∙ appended-renamed p (removed (f .sequence) n) n in
         ap (λ (x : Aircraft). missing x (fixAfterMiss G x)) (at-renamed p f finalApproach 1)
@@ -133,7 +133,7 @@ module _ {π : ℕ → ℕ} (p : Renaming π) where
         -- the field after a miss of the one at the head of final, with the fix that it takes
         missing : Aircraft → ℕ → Field
         missing x fix =
-            withSequence (tailPut (headGone G finalApproach) (missed (x .fix)) (withFix (turnedAway (f .legs) (missed (x .fix)) x) fix))
+            withSequence (tailPut (headGone G finalApproach) (missed (x .fix)) (withFix (arrivedByMiss (f .legs) (missed (x .fix)) x) fix))
             (appended (removed (G .sequence) (π (r .number))) (π (r .number))) (opposite fix)
 
     held-renamed : (z : ℕ) → held G z ≡ renamedField π (held f z)

@@ -9,12 +9,12 @@ use Rattle.field.specs.declared.Aircraft.{Aircraft}
 use Rattle.field.specs.declared.Zone.{Zone}
 use Rattle.field.specs.declared.Sequence.{Sequence}
 use Rattle.field.specs.declared.Field.{Field}
-use Rattle.field.specs.Boxes.{isFlyingZone, nobody, orderOf}
+use Rattle.field.specs.Airspace.{isFlyingZone, nobody, orderOf}
 use Rattle.field.specs.Edits.{withoutHead, withTail, appended, before, removed, withZone}
 use Rattle.tick.specs.Tick.{tickedAircraft, tickedZone, tickedFrom, ticked}
 use Rattle.renaming.specs.Renaming.{Renaming, renamedAircraft, renamedZone, renamedSequence, renamedField}
-use Rattle.renaming.proofs.Lists.{take-map, drop-map, set-map, set-one-map, either-made, before-renamed}
-use Rattle.renaming.proofs.Asked.{nobody-renamed, order-renamed, order-length}
+use Rattle.renaming.proofs.ListsRenamed.{take-map, drop-map, set-map, set-one-map, either-made, before-renamed}
+use Rattle.renaming.proofs.AskedRenamed.{nobody-renamed, order-renamed, order-length}
 
 -- a zone by its places and its length, a sequence, and a field with other zones
 abbrev zoneWith : List Aircraft → ℕ → Zone

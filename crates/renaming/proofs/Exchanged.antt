@@ -5,7 +5,7 @@ use mathlib.Core.Bool.{true, false}
 use Prim.Native.Nat.{ℕ}
 use lib.Dec.{eqb}
 use borrow.Author.Tests.{eqb-true, ne-eqb}
-use Rattle.field.proofs.Tests.{decided, if-true, if-false, same}
+use Rattle.field.proofs.TestLaws.{decided, if-true, if-false, same}
 use Rattle.renaming.specs.Renaming.{Renaming, exchanged}
 
 module _ (m n : ℕ) where

@@ -1,8 +1,8 @@
-pub mod Lists
+pub mod ListsRenamed
 pub mod Exchanged
-pub mod Asked
+pub mod AskedRenamed
 pub mod Bounded
 pub mod Edited
 pub mod Needed
 pub mod Done
-pub mod Theorems
+pub mod StepsRenamed

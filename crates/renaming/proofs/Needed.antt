@@ -8,15 +8,15 @@ use Rattle.request.specs.Input.{within, deskAllowed, kindAllowed, sideAllowed, 
 use Rattle.request.specs.declared.Request.{Request}
 use Rattle.field.specs.declared.Aircraft.{Aircraft}
 use Rattle.field.specs.declared.Field.{Field}
-use Rattle.field.specs.Boxes.{opposite, sideOf, at3000, at2000, lateral, missed, base, runway, area, approach, operation, legFlownOut}
+use Rattle.field.specs.Airspace.{opposite, sideOf, at3000, at2000, lateral, missed, base, runway, area, approach, operation, legFlownOut}
 use Rattle.field.specs.Lists.{isIn}
 use Rattle.questions.specs.declared.Place.{Place}
 use Rattle.questions.specs.Counts.{total, isEmpty, approachHolds, countedFor, potentialOf}
 use Rattle.rules.specs.Kinds.{placeBefore, zoneAhead, presenceChecks, belongsTo, flownOutCheck, mayApproach, baseFree, mayMerge}
 use Rattle.rules.specs.Step.{byKind, needsFor, checksFor, checksOf}
 use Rattle.renaming.specs.Renaming.{Renaming, renamedField, renamedRequest}
-use Rattle.renaming.proofs.Lists.{zero-renamed}
-use Rattle.renaming.proofs.Asked.{at-renamed, many-renamed, with-fix-renamed, place-renamed, first-renamed, leader-zone-renamed}
+use Rattle.renaming.proofs.ListsRenamed.{zero-renamed}
+use Rattle.renaming.proofs.AskedRenamed.{at-renamed, many-renamed, with-fix-renamed, place-renamed, first-renamed, leader-zone-renamed}
 
 module _ {π : ℕ → ℕ} (p : Renaming π) where
   -- the input rules: 3 asks whether the number is 0

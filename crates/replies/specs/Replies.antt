@@ -12,7 +12,7 @@ use Rattle.gaps.specs.declared.Spacing.{Spacing}
 use Rattle.gaps.specs.declared.Spacing.the-variants.{Close, Clear}
 use Rattle.gaps.specs.declared.Pair.{Pair}
 use Rattle.gaps.specs.declared.Spacings.{Spacings}
-use Rattle.dialect.specs.declared.Entry.{Entry}
+use Rattle.dialect.specs.declared.ListEntry.{ListEntry}
 use Rattle.dialect.specs.declared.Listing.{Listing}
 
 -- ---- an answer
@@ -74,7 +74,7 @@ spacingNumbers s = s .count ∷ pairNumbers (s .pairs)
 -- ---- the classroom dialect (02, 2.12)
 
 -- of each entry number, location, place and fix
-abbrev pub entryNumbers : List Entry → List ℕ
+abbrev pub entryNumbers : List ListEntry → List ℕ
 entryNumbers [] = []
 entryNumbers (e ∷ es) = e .number ∷ e .location ∷ e .place ∷ e .fix ∷ entryNumbers es
 

@@ -1,5 +1,5 @@
 // The numbers and gaps that a host's calls put into the memory that they are lent (specs/Replies.antt).
-use dialect::Entry;
+use dialect::ListEntry;
 use dialect::Listing;
 use gaps::Pair;
 use gaps::Spacing;

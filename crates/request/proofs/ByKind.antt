@@ -10,7 +10,7 @@ use Rattle.limits.specs.Limits.{longestTick, fastest, desks}
 use Rattle.request.specs.declared.Request.{Request}
 use Rattle.request.specs.declared.KindRule.{KindRule}
 use Rattle.request.specs.Input.{within, inRange, ruleOf, deskAllowed, kindAllowed, sideAllowed, numberAllowed, amountAllowed, inputNumber}
-use Rattle.request.proofs.Tests.{within-yes, within-low, within-high, nonzero-yes, nonzero-known, passed, none-refused}
+use Rattle.request.proofs.InputTests.{within-yes, within-low, within-high, nonzero-yes, nonzero-known, passed, none-refused}
 use Rattle.request.proofs.Rules.{rule-of-entry, rule-of-move}
 
 -- ---- a request that keeps a rule, test by test

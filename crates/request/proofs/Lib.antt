@@ -1,3 +1,3 @@
-pub mod Tests
+pub mod InputTests
 pub mod Rules
 pub mod ByKind

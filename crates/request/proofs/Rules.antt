@@ -6,7 +6,7 @@ use native.Mathlib.Omega.{arith}
 use lib.Dec.{eqb}
 use borrow.Author.Tests.{ne-eqb, eqb-true, eqb-false}
 use Rattle.request.specs.Input.{range, startingZones, ruleOf}
-use Rattle.request.proofs.Tests.{within-yes, within-above}
+use Rattle.request.proofs.InputTests.{within-yes, within-above}
 
 -- a number from n on that is not n
 pub past : {n kind : ℕ} → n ≤ kind → (kind ≡ n → ⊥) → n + 1 ≤ kind

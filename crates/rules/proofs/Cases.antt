@@ -5,8 +5,8 @@ use lib.Dec.{T}
 use lib.Ieee.{neg, add, sub, mul, div, ofInt, round, lt, le, eq}
 use Rattle.leg.specs.Progress.{advanced, pastEnd, waitedAfter, missedLeg}
 use Rattle.request.specs.Input.{deskAllowed, kindAllowed, sideAllowed, numberAllowed, amountAllowed, inputNumber}
-use Rattle.field.specs.Boxes.{isSide, sideOf, opposite, isFlyingZone, zoneOf, queueOf, inZone, orderOf, legOf}
-use Rattle.field.specs.Boxes.{progressInto, entering, onLeg, arrived, turnedAway, withFix, legFlownOut, emptyField}
+use Rattle.field.specs.Airspace.{isSide, sideOf, opposite, isFlyingZone, zoneOf, queueOf, inZone, orderOf, legOf}
+use Rattle.field.specs.Airspace.{progressInto, entering, onLeg, arrived, arrivedByMiss, withFix, legFlownOut, emptyField}
 use Rattle.questions.specs.Counts.{howMany, howManyWithFix, presentOn, inOperation, inArea, perFix, approachHolds, countedFor, potentialOf}
 use Rattle.questions.specs.Find.{findIn, placeOf, aircraftAt, fixOf, isFirst, leaderOf, leaderZone}
 use Rattle.field.specs.Lists.{every}
@@ -21,14 +21,14 @@ use Rattle.rules.specs.Step.{checksOf, effectOf, numberOf, numberAndZero
 use Rattle.rules.specs.Reason.{along, approachOrder, areaOrder, roomToMiss, lateralOrder, QueueAgrees}
 use Rattle.rules.specs.Cases.{marked, caseHolds}
 use Rattle.rules.specs.Examples.{examples, exits, entries, earlyMisses, twoDesks, onePlace, entryOfEight, JudgedAfterBoth, crowded, missOfSeven, BoundsNotEnough, stuck, NobodyMoves}
-use Rattle.field.proofs.Tests.{each-operation}
+use Rattle.field.proofs.TestLaws.{each-operation}
 
 -- all together, so that what is computed is unfolded once
 computed : T (every caseHolds marked) × T (every caseHolds examples) × T (every caseHolds exits) × T (every caseHolds entries) × T (every caseHolds earlyMisses)
     × T (every caseHolds twoDesks) × JudgedAfterBoth onePlace entryOfEight × BoundsNotEnough crowded missOfSeven × NobodyMoves stuck
 unfolding
     advanced pastEnd waitedAfter missedLeg deskAllowed kindAllowed sideAllowed numberAllowed amountAllowed inputNumber isSide opposite isFlyingZone zoneOf queueOf inZone orderOf progressInto entering
-    onLeg arrived turnedAway withFix legOf legFlownOut emptyField howMany howManyWithFix presentOn inOperation inArea perFix approachHolds countedFor potentialOf findIn placeOf
+    onLeg arrived arrivedByMiss withFix legOf legFlownOut emptyField howMany howManyWithFix presentOn inOperation inArea perFix approachHolds countedFor potentialOf findIn placeOf
     aircraftAt fixOf isFirst leaderOf leaderZone boundA boundB lateralRule boundC boundD numbersDiffer sequenceExact finalFirst isNobody zoneKept sequenceKept
     boundE boundF legFits fitsZone legalLegs boundG withinBounds withoutHead withTail appended removed withZone withSequence tickedAircraft tickedZone ticked sideOf
     startsFrom mayApproach baseFree mayMerge headGone tailPut moved

@@ -11,12 +11,12 @@ use lib.Ieee.Fits.{and-i, and-l, and-r}
 use borrow.Author.Tests.{ne-eqb, eq-eqb, eqb-true}
 use Rattle.request.specs.Input.{within, isEntry, isTick, firstRefused, deskAllowed, kindAllowed, sideAllowed, numberAllowed, amountAllowed, inputNumber}
 use Rattle.request.specs.declared.Request.{Request}
-use Rattle.request.proofs.Tests.{Numbered}
+use Rattle.request.proofs.InputTests.{Numbered}
 use Rattle.field.specs.declared.Field.{Field}
 use Rattle.questions.specs.declared.Place.{Place}
 use Rattle.field.specs.Lists.{every}
-use Rattle.field.proofs.Tests.{pass, passed, failed, decided, if-false, either-way}
-use Rattle.field.proofs.Parts.{or-else}
+use Rattle.field.proofs.TestLaws.{pass, passed, failed, decided, if-false, either-way}
+use Rattle.field.proofs.TestParts.{or-else}
 use Rattle.rules.specs.Kinds.{placeBefore, zoneBefore, zoneAhead, startsFrom, belongsTo, absentChecks, headChecks, presenceChecks}
 use Rattle.rules.specs.Step.{byKind, needsFor, checksFor, effectFor, checksOf, effectOf}
 

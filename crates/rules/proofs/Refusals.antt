@@ -12,7 +12,7 @@ use Rattle.field.specs.declared.Field.{Field}
 use Rattle.bounds.specs.Bounds.{withinBounds}
 use Rattle.rules.specs.declared.Stepped.{Stepped}
 use Rattle.rules.specs.Step.{checksOf, effectOf, numberOf, numberAndZeros, answerOf, stepOf, Unchanged}
-use Rattle.field.proofs.Tests.{pass, if-true, if-false}
+use Rattle.field.proofs.TestLaws.{pass, if-true, if-false}
 use Rattle.rules.proofs.Checks.{first-passes, both-pass, refused-append, checks-refuse}
 use Rattle.rules.proofs.StepLaws.{number-is, input-of, field-accepted, field-refused}
 

@@ -7,7 +7,7 @@ use borrow.Author.Tests.{eqb-true, eq-eqb, ne-eqb}
 use Rattle.request.specs.Input.{firstRefused, inputNumber}
 use Rattle.request.specs.declared.Request.{Request}
 use Rattle.field.specs.declared.Field.{Field}
-use Rattle.field.proofs.Tests.{decided, if-true, if-false, either-way}
+use Rattle.field.proofs.TestLaws.{decided, if-true, if-false, either-way}
 use Rattle.questions.specs.Find.{placeOf}
 use Rattle.bounds.specs.Bounds.{withinBounds}
 use Rattle.rules.specs.declared.Answer.{Answer}

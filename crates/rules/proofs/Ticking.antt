@@ -17,9 +17,9 @@ use Rattle.request.specs.declared.Request.{Request}
 use Rattle.field.specs.declared.Aircraft.{Aircraft}
 use Rattle.field.specs.declared.Zone.{Zone}
 use Rattle.field.specs.declared.Field.{Field}
-use Rattle.field.specs.Boxes.{isFlyingZone, nobody, zoneOf, everywhere}
+use Rattle.field.specs.Airspace.{isFlyingZone, nobody, zoneOf, everywhere}
 use Rattle.field.specs.Lists.{every}
-use Rattle.field.proofs.Tests.{pass, passed, decided, every-from}
+use Rattle.field.proofs.TestLaws.{pass, passed, decided, every-from}
 use Rattle.bounds.specs.Bounds.{isNobody, zoneKept, withinBounds}
 use Rattle.fits.specs.Fits.{isWaiting}
 use Rattle.tick.specs.Tick.{tickedAircraft, ticked}

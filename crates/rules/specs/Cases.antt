@@ -8,7 +8,7 @@ use Rattle.leg.specs.Progress.{whole, flownOut}
 use Rattle.request.specs.declared.Request.{Request}
 use Rattle.field.specs.declared.Legs.{Legs}
 use Rattle.field.specs.declared.Field.{Field}
-use Rattle.field.specs.Boxes.{legsIn64ths, emptyField, orderOf}
+use Rattle.field.specs.Airspace.{legsIn64ths, emptyField, orderOf}
 use Rattle.questions.specs.Find.{placeOf, aircraftAt}
 use Rattle.rules.specs.declared.Answer.{Answer}
 use Rattle.rules.specs.Step.{numberAndZeros}

@@ -12,7 +12,7 @@ use Rattle.request.specs.declared.Request.{Request}
 use Rattle.field.specs.declared.Aircraft.{Aircraft}
 use Rattle.field.specs.declared.Zone.{Zone}
 use Rattle.field.specs.declared.Field.{Field}
-use Rattle.field.specs.Boxes.{right, left, finalApproach, zonesFrom, everywhere, nobody, emptyZone, entering, arrived}
+use Rattle.field.specs.Airspace.{right, left, finalApproach, zonesFrom, everywhere, nobody, emptyZone, entering, arrived}
 use Rattle.field.specs.Lists.{every}
 use Rattle.questions.specs.Counts.{presentOn}
 use Rattle.questions.specs.Find.{aircraftAt}

@@ -9,7 +9,7 @@ use Rattle.request.specs.declared.Request.{Request}
 use Rattle.field.specs.declared.Aircraft.{Aircraft}
 use Rattle.field.specs.declared.Sequence.{Sequence}
 use Rattle.field.specs.declared.Field.{Field}
-use Rattle.field.specs.Boxes.{opposite, sideOf, at3000, at2000, lateral, missed, base, intermediate, finalApproach, runway, zoneOf, orderOf, entering, arrived, turnedAway, withFix, legFlownOut}
+use Rattle.field.specs.Airspace.{opposite, sideOf, at3000, at2000, lateral, missed, base, intermediate, finalApproach, runway, zoneOf, orderOf, entering, arrived, arrivedByMiss, withFix, legFlownOut}
 use Rattle.questions.specs.declared.Place.{Place}
 use Rattle.questions.specs.Counts.{howMany, approachHolds, potentialOf, isEmpty}
 use Rattle.questions.specs.Find.{placeOf, aircraftAt, isFirst, leaderZone}
@@ -180,7 +180,7 @@ missedApproach f r =
     let a = aircraftAt f finalApproach 1 in
     let w = missed (a .fix) in
     let fix = fixAfterMiss f a in
-    let g = tailPut (headGone f finalApproach) w (withFix (turnedAway (f .legs) w a) fix) in
+    let g = tailPut (headGone f finalApproach) w (withFix (arrivedByMiss (f .legs) w a) fix) in
     withSequence g (appended (removed (f .sequence) (r .number)) (r .number)) (opposite fix)
 
 -- kind 11, from zone z: where both holdings of the side are empty to 2000, where only 3000 is to 3000; and where 3000 is occupied the one there descends

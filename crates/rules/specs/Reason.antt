@@ -9,7 +9,7 @@ use lib.ListN.{length}
 use Rattle.request.specs.Input.{within}
 use Rattle.request.specs.declared.Request.{Request}
 use Rattle.field.specs.declared.Field.{Field}
-use Rattle.field.specs.Boxes.{right, left, sideOf, at3000, missed, base, intermediate, finalApproach, area, everywhere, zoneOf, inZone, orderOf}
+use Rattle.field.specs.Airspace.{right, left, sideOf, at3000, missed, base, intermediate, finalApproach, area, everywhere, zoneOf, inZone, orderOf}
 use Rattle.field.specs.Lists.{isIn, every}
 use Rattle.questions.specs.Counts.{inArea}
 use Rattle.questions.specs.Find.{placeOf, fixOf}

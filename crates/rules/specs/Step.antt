@@ -7,7 +7,7 @@ use lib.Dec.{eqb}
 use Rattle.request.specs.Input.{firstRefused, inputNumber}
 use Rattle.request.specs.declared.Request.{Request}
 use Rattle.field.specs.declared.Field.{Field}
-use Rattle.field.specs.Boxes.{sideOf, lateral, intermediate, finalApproach, runway}
+use Rattle.field.specs.Airspace.{sideOf, lateral, intermediate, finalApproach, runway}
 use Rattle.questions.specs.declared.Place.{Place}
 use Rattle.questions.specs.Find.{placeOf, aircraftAt, leaderOf}
 use Rattle.bounds.specs.Bounds.{withinBounds}

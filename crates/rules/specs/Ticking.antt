@@ -6,7 +6,7 @@ use lib.Dec.{T, ltb}
 use lib.ListN.{getD}
 use Rattle.field.specs.declared.Aircraft.{Aircraft}
 use Rattle.field.specs.declared.Field.{Field}
-use Rattle.field.specs.Boxes.{isFlyingZone, nobody, zoneOf}
+use Rattle.field.specs.Airspace.{isFlyingZone, nobody, zoneOf}
 use Rattle.tick.specs.Tick.{tickedAircraft}
 
 -- what stands in a place of zone z, counted from 0

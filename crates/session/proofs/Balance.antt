@@ -7,7 +7,7 @@ use Rattle.practice.specs.File.{legsOf, legsBody, fileNumber}
 use Rattle.practice.proofs.Meaning.{held}
 use Rattle.demand.proofs.Demand.{demand-3}
 use Rattle.playing.specs.Playing.{answersFrom, presentFrom}
-use Rattle.playing.proofs.Files.{legsHeld, requestsInside, practice-holds, file-legs-legal}
+use Rattle.playing.proofs.PlayedFiles.{legsHeld, requestsInside, practice-holds, file-legs-legal}
 use Rattle.session.specs.Tally.{tallyOf}
 use Rattle.session.specs.Report.{sessionReport}
 use Rattle.session.specs.Balance.{Balanced}

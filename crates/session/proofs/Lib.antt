@@ -1,4 +1,4 @@
 pub mod Tallies
-pub mod Entries
+pub mod LogLines
 pub mod Reports
 pub mod Balance

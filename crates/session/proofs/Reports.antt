@@ -7,10 +7,10 @@ use Rattle.practice.specs.File.{fileNumber}
 use Rattle.rules.specs.declared.Answer.{Answer}
 use Rattle.playing.specs.declared.Played.{Played}
 use Rattle.playing.specs.Playing.{answersFrom, presentFrom, answersOf, playedOf}
-use Rattle.playing.proofs.Files.{legsHeld, requestsInside, practice-holds, practice-refused, answers-held, played-held}
+use Rattle.playing.proofs.PlayedFiles.{legsHeld, requestsInside, practice-holds, practice-refused, answers-held, played-held}
 use Rattle.session.specs.Tally.{tallyOf}
 use Rattle.session.specs.Report.{answerLines, endLine, sessionReport, refusedReport, practiceReport, reportOf}
-use Rattle.session.proofs.Entries.{AllShort, played-short}
+use Rattle.session.proofs.LogLines.{AllShort, played-short}
 
 module _ (file : List ℕ) where
   pub report-refused : (fileNumber file ≡ 0 → ⊥) → reportOf file ≡ refusedReport (fileNumber file)

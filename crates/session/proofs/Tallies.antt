@@ -12,8 +12,8 @@ use Rattle.rules.specs.declared.Answer.{Answer}
 use Rattle.playing.specs.Log.{kindAt, numberAt, ofKinds}
 use Rattle.rules.specs.Play.{letIn, taxiedOff, exitedFrom, misses}
 use Rattle.session.specs.declared.tally.Tally.{Tally}
-use Rattle.session.specs.Tally.{tallyOf, none, counted, Under}
-use Rattle.session.specs.Entries.{countedTo}
+use Rattle.session.specs.Tally.{tallyOf, emptyTally, tallied, Under}
+use Rattle.session.specs.Entries.{talliedTo}
 
 -- 1 or 0 by a test
 abbrev unit : Bool → ℕ
@@ -22,8 +22,8 @@ unit b = cond b 1 0
 module _ (t : Tally) {u : Tally} (kind number : ℕ) where
   -- a request of kind k that is accepted
   pub counted-at : (k : ℕ) → number ≡ 0 → kind ≡ k → u .entries ≡ t .entries + unit (isEntry k) → u .taxis ≡ t .taxis + unit (eqb k 8) → u .exits ≡ t .exits + unit (eqb k 9)
-      → u .misses ≡ t .misses + unit (eqb k 10) → u ≡ counted t kind number
-  unfolding counted
+      → u .misses ≡ t .misses + unit (eqb k 10) → u ≡ tallied t kind number
+  unfolding tallied
   counted-at k z e en ta ex mi i =
       record {
         entries = (en ∙ sym (by isEntry (t .entries))) i;
@@ -36,8 +36,8 @@ module _ (t : Tally) {u : Tally} (kind number : ℕ) where
       by kinds n = ap (λ (b : Bool). n + unit (b && kinds kind)) (eq-eqb number 0 z) ∙ ap (λ (j : ℕ). n + unit (kinds j)) e
 
   -- one that is refused
-  pub counted-none : (number ≡ 0 → ⊥) → u ≡ t → u ≡ counted t kind number
-  unfolding counted
+  pub counted-none : (number ≡ 0 → ⊥) → u ≡ t → u ≡ tallied t kind number
+  unfolding tallied
   counted-none z e =
       e ∙ λ i. record {
         entries = same isEntry (t .entries) i;
@@ -58,11 +58,11 @@ pub record Adds (t : Tally) (ps all : List (Request × Answer)) : Type 0 where
   pub exits : t .exits + exitedFrom ps ≡ exitedFrom all
   pub missed : t .misses + misses ps ≡ misses all
 
-pub adds-none : (all : List (Request × Answer)) → Adds none all all
+pub adds-none : (all : List (Request × Answer)) → Adds emptyTally all all
 adds-none all = record { entries = omega arith; taxis = omega arith; exits = omega arith; missed = omega arith }
 
-pub adds-more : {t u : Tally} {p : Request × Answer} {ps all : List (Request × Answer)} → Adds t (p ∷ ps) all → u ≡ counted t (p .0 .kind) (p .1 .number) → Adds u ps all
-unfolding counted
+pub adds-more : {t u : Tally} {p : Request × Answer} {ps all : List (Request × Answer)} → Adds t (p ∷ ps) all → u ≡ tallied t (p .0 .kind) (p .1 .number) → Adds u ps all
+unfolding tallied
 adds-more {t} {u} {p} a e =
     record {
       entries = let n = ap (λ (u : Tally). u .entries) e in omega (arith, a .entries);
@@ -87,8 +87,8 @@ adds-all {t} {all} a i =
 -- ---- the counts of a log
 
 -- each count is no more than what was counted
-pub counted-few : (log : List ℕ) (n : ℕ) → Under (suc n) (countedTo log n)
-unfolding counted
+pub counted-few : (log : List ℕ) (n : ℕ) → Under (suc n) (talliedTo log n)
+unfolding tallied
 counted-few log zero = record { entries = omega arith; taxis = omega arith; exits = omega arith; misses = omega arith }
 counted-few log (suc n) =
     let u = counted-few log n in

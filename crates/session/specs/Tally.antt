@@ -14,12 +14,12 @@ unfoldable pub tallyOf : List (Request × Answer) → Tally
 tallyOf ps = record { entries = letIn ps; taxis = taxiedOff ps; exits = exitedFrom ps; misses = misses ps }
 
 -- the counts before the first request
-abbrev pub none : Tally
-none = record { entries = 0; taxis = 0; exits = 0; misses = 0 }
+abbrev pub emptyTally : Tally
+emptyTally = record { entries = 0; taxis = 0; exits = 0; misses = 0 }
 
 -- the counts with one more request, of this kind and answered with this number
-unfoldable pub counted : Tally → ℕ → ℕ → Tally
-counted t kind number =
+unfoldable pub tallied : Tally → ℕ → ℕ → Tally
+tallied t kind number =
     record {
       entries = t .entries + ofKinds isEntry kind number;
       taxis = t .taxis + ofKinds (λ k. eqb k 8) kind number;

@@ -3,8 +3,8 @@ ghost use mathlib.Core.Path.{_≡_};
 ghost use Prim.Native.Nat.{_*_, _≤_};
 ghost use lib.ListN.{length};
 ghost use Rattle.limits.specs.Limits.{mostRequests};
-ghost use Rattle.session.specs.Tally.{Under, none, counted};
-ghost use Rattle.session.specs.Entries.{countedTo};
+ghost use Rattle.session.specs.Tally.{Under, emptyTally, tallied};
+ghost use Rattle.session.specs.Entries.{talliedTo};
 
 // How many entries, taxis, exits and misses were accepted.
 pub(crate) struct Tally {
@@ -15,8 +15,8 @@ pub(crate) struct Tally {
 }
 
 // The counts before the first request.
-fn none() -> Tally
-    ensures { λ t. ⌜ t ≡ none ⌝ }
+fn empty_tally() -> Tally
+    ensures { λ t. ⌜ t ≡ emptyTally ⌝ }
 {
     Tally {
         entries: 0,
@@ -27,9 +27,9 @@ fn none() -> Tally
 }
 
 // The counts with a request of this kind and its answer's number counted.
-fn counted(t: Tally, kind: u16, number: u16) -> Tally
+fn tallied(t: Tally, kind: u16, number: u16) -> Tally
     requires { ⌜ Under 65536 t ⌝ }
-    ensures { λ u. ⌜ u ≡ counted t kind number ⌝ }
+    ensures { λ u. ⌜ u ≡ tallied t kind number ⌝ }
 {
     if number != 0 {
         return t;
@@ -66,12 +66,12 @@ fn counted(t: Tally, kind: u16, number: u16) -> Tally
 // The counts of the first n answers in a log.
 pub(crate) fn tally_of(log: &[u16], n: usize) -> Tally
     requires { ⌜ (7 * n ≤ length (now log)) × (n ≤ mostRequests) ⌝ }
-    ensures { λ t. ⌜ t ≡ countedTo (now (log .entry)) n ⌝ }
+    ensures { λ t. ⌜ t ≡ talliedTo (now (log .entry)) n ⌝ }
 {
-    let mut t = none();
+    let mut t = empty_tally();
     let mut i = 0;
     while i < n {
-        t = counted(t, log[7 * i], log[7 * i + 1]);
+        t = tallied(t, log[7 * i], log[7 * i + 1]);
         i += 1;
     }
     t

@@ -1,4 +1,4 @@
-pub mod Listed
-pub mod Sizes
-pub mod Texts
+pub mod PairLines
+pub mod SpacingReportSizes
+pub mod ExactMiles
 pub mod Printed

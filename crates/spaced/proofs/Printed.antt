@@ -9,28 +9,28 @@ use Rattle.limits.specs.Limits.{longestLeg}
 use Rattle.leg.specs.Ticks.{Between}
 use Rattle.request.specs.declared.Request.{Request}
 use Rattle.field.specs.declared.Field.{Field}
-use Rattle.field.specs.Boxes.{orderOf}
+use Rattle.field.specs.Airspace.{orderOf}
 use Rattle.field.specs.Lists.{Each}
-use Rattle.field.proofs.Tests.{passed, if-true}
+use Rattle.field.proofs.TestLaws.{passed, if-true}
 use Rattle.practice.specs.File.{legsOf, legsBody, fileNumber}
-use Rattle.practice.proofs.Accepted.{LegKnown, legs-known}
+use Rattle.practice.proofs.AcceptedFile.{LegKnown, legs-known}
 use Rattle.practice.proofs.Meaning.{held}
 use Rattle.playing.specs.declared.Played.{Played}
 use Rattle.playing.specs.Playing.{fieldOfFile, fieldFrom, playedOf}
-use Rattle.playing.proofs.Files.{requestsInside, practice-holds, played-held}
+use Rattle.playing.proofs.PlayedFiles.{requestsInside, practice-holds, played-held}
 use Rattle.demand.specs.Exact.{WholeLegs}
 use Rattle.gaps.specs.declared.Spacing.{Spacing}
 use Rattle.gaps.specs.declared.Spacing.the-variants.{Close, Clear}
 use Rattle.gaps.specs.declared.Pair.{Pair}
-use Rattle.gaps.specs.Gaps.{legalSpacing, pairsIn, listed, gapsOf}
+use Rattle.gaps.specs.Gaps.{legalSpacing, pairsIn, pairsListed, gapsOf}
 use Rattle.exact_gaps.specs.ExactGaps.{reached, wayIn4096ths, gapIn, isClose, ExactPair}
 use Rattle.exact_gaps.proofs.ExactGaps.{way-few, exact-gaps}
 use Rattle.text.specs.Text.{decimal, space, newline}
 use Rattle.miles.specs.Miles.{milesText}
 use Rattle.spaced.specs.Spaced.{gapText, spacingText, pairLine, pairLines, spacingsReport, spacedOf}
 use Rattle.spaced.specs.Printed.{wordOf, wholeLine, wholeLines}
-use Rattle.spaced.proofs.Texts.{difference-text}
-use Rattle.spaced.proofs.Listed.{report-listed}
+use Rattle.spaced.proofs.ExactMiles.{difference-text}
+use Rattle.spaced.proofs.PairLines.{report-listed}
 
 -- ---- a pair
 -- the word and the gap of an answer
@@ -58,9 +58,9 @@ front : (ps qs : List Pair) → take (length ps) (ps ++ qs) ≡ ps
 front [] qs = refl
 front (p ∷ ps) qs = ap (λ (r : List Pair). p ∷ r) (front ps qs)
 
-listed-lines : (ps : List Pair) → spacingsReport (listed ps) ≡ pairLines ps
-unfolding listed
-listed-lines ps = report-listed (listed ps) refl ∙ ap pairLines (front ps _)
+listed-lines : (ps : List Pair) → spacingsReport (pairsListed ps) ≡ pairLines ps
+unfolding pairsListed
+listed-lines ps = report-listed (pairsListed ps) refl ∙ ap pairLines (front ps _)
 
 pub reached-exact : (w : WholeLegs) (rs : List Request) (spacing : ℕ) → T (legalSpacing spacing)
     → spacingsReport (gapsOf (reached w rs) spacing) ≡ wholeLines w rs spacing (pairsIn (reached w rs) spacing (orderOf (reached w rs .sequence)))

@@ -6,7 +6,7 @@ use lib.Dec.{eqb}
 use lib.ListN.{take}
 use lib.Ieee.{Float}
 use Rattle.practice.specs.File.{fileNumber}
-use Rattle.text.specs.Text.{decimal, space, newline, line}
+use Rattle.text.specs.Text.{decimal, space, newline, lineOf}
 use Rattle.playing.specs.Playing.{fieldOfFile}
 use Rattle.session.specs.Report.{refusedReport}
 use Rattle.gaps.specs.declared.Spacing.{Spacing}
@@ -36,7 +36,7 @@ pairLines (p ∷ ps) = pairLine p ++ pairLines ps
 
 -- a refusal: `spacing` and its number
 unfoldable pub refusedSpacing : ℕ → List ℕ
-refusedSpacing number = 115 ∷ 112 ∷ 97 ∷ 99 ∷ 105 ∷ 110 ∷ 103 ∷ space ∷ line (number ∷ [])
+refusedSpacing number = 115 ∷ 112 ∷ 97 ∷ 99 ∷ 105 ∷ 110 ∷ 103 ∷ space ∷ lineOf (number ∷ [])
 
 -- the report of an answer: a refusal, or a line for each pair
 unfoldable pub spacingsReport : Spacings → List ℕ

@@ -6,7 +6,7 @@ use libc::STDOUT_FILENO;
 fn main() {
     let mut word = io::buffer();
     let k = os::arg(1, &mut word);
-    let spacing = word::number_said(&word[..k]);
+    let spacing = decimal_word::number_said(&word[..k]);
     // one byte more than the longest file, so that a longer one is refused
     let mut file = [0u8; 24611];
     let n = io::read_full(STDIN_FILENO, &mut file);

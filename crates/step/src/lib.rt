@@ -4,7 +4,7 @@ use effects::effect;
 use effects::shown_at_3000;
 use effects::shown_to;
 use field::Field;
-use field::boxes::side_of;
+use field::airspace::side_of;
 use needs::check_number;
 use questions::Place;
 use questions::find::aircraft_at;

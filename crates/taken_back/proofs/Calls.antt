@@ -13,9 +13,9 @@ use Rattle.request.specs.Input.{within}
 use Rattle.request.specs.declared.Request.{Request}
 use Rattle.field.specs.declared.Legs.{Legs}
 use Rattle.field.specs.declared.Field.{Field}
-use Rattle.field.specs.Boxes.{emptyField}
-use Rattle.field.proofs.Tests.{passed, fail, decided, if-true, if-false}
-use Rattle.field.proofs.Parts.{and-then}
+use Rattle.field.specs.Airspace.{emptyField}
+use Rattle.field.proofs.TestLaws.{passed, fail, decided, if-true, if-false}
+use Rattle.field.proofs.TestParts.{and-then}
 use Rattle.fits.specs.Fits.{legalLegs}
 use Rattle.finder.specs.declared.Indexed.{Indexed}
 use Rattle.finder.specs.Finder.{withinBoundsIndexed}
@@ -25,7 +25,7 @@ use Rattle.rules.specs.Step.{numberOf, numberAndZeros, stepOf}
 use Rattle.rules.specs.Play.{fieldAfter, played}
 use Rattle.rules.specs.Reason.{Sound}
 use Rattle.rules.proofs.StepLaws.{number-is, field-refused}
-use Rattle.step.proofs.Steps as step
+use Rattle.step.proofs.StepsByTests as step
 use Rattle.reason.proofs.Reason.{empty-sound, neither-10-nor-25}
 use Rattle.demand.specs.Exact.{WholeLegs, Exact, inMiles}
 use Rattle.demand.proofs.Demand.{demand-3}
@@ -36,10 +36,10 @@ use Rattle.history.specs.declared.History.{History}
 use Rattle.history.specs.declared.SteppedHistory.{SteppedHistory}
 use Rattle.history.specs.History.{startOf, keptWithinBounds, withinBoundsHistory, keeping, numberHistory, stepHistory, numberBack, givenBack, stepBack}
 use Rattle.taken_back.specs.Calls.{Call, request, back, called, playedCalls, afterCalls, withCall, withCalls, historyOf}
-use Rattle.history.proofs.Numbers as numbers
+use Rattle.history.proofs.StepNumbers as numbers
 use Rattle.taken_back.specs.TakenBack.{neverAnswered, Follows, TakenBack, asCall, NoneTakenBack}
-use Rattle.taken_back.proofs.Lists.{after-behind, every-read, sound-after}
-use Rattle.taken_back.proofs.Counts.{count-exact}
+use Rattle.taken_back.proofs.PlayedBehind.{after-behind, every-read, sound-after}
+use Rattle.taken_back.proofs.KeptCounts.{count-exact}
 use Rattle.taken_back.proofs.Follows.{field-now, follows-start, follows-keeping, follows-given}
 
 module _ (legs : Legs) (l : T (legalLegs legs)) where

@@ -11,8 +11,8 @@ use borrow.Author.Tests.{eqb-true, eqb-false, ltb-true, ltb-false}
 use Rattle.request.specs.declared.Request.{Request}
 use Rattle.field.specs.declared.Legs.{Legs}
 use Rattle.field.specs.declared.Field.{Field}
-use Rattle.field.specs.Boxes.{emptyField}
-use Rattle.field.proofs.Tests.{decided, either-way}
+use Rattle.field.specs.Airspace.{emptyField}
+use Rattle.field.proofs.TestLaws.{decided, either-way}
 use Rattle.finder.specs.declared.Indexed.{Indexed}
 use Rattle.rules.specs.Step.{numberOf, stepOf}
 use Rattle.rules.specs.Play.{fieldAfter}
@@ -20,9 +20,9 @@ use Rattle.rules.proofs.StepLaws.{number-is}
 use Rattle.indexed.specs.Indexed.{withIndex}
 use Rattle.history.specs.declared.History.{History}
 use Rattle.history.specs.History.{mostKept, startOf, startWith, keeping, givenBack}
-use Rattle.history.proofs.Moved.{movedUp, moved-length, moved-at, moved-last}
-use Rattle.taken_back.specs.TakenBack.{fieldAt, Follows}
-use Rattle.taken_back.proofs.Lists.{after-behind, accepted-more, accepted-fewer}
+use Rattle.history.proofs.MovedUp.{movedUp, moved-length, moved-at, moved-last}
+use Rattle.taken_back.specs.TakenBack.{fieldAfterFirst, Follows}
+use Rattle.taken_back.proofs.PlayedBehind.{after-behind, accepted-more, accepted-fewer}
 
 module _ (legs : Legs) where
   abbrev empty : Field
@@ -49,10 +49,10 @@ module _ (legs : Legs) where
       long : length more ≡ length rs + 1
       long = length-append rs (r ∷ [])
 
-      at-before : (k : ℕ) → k ≤ length rs → fieldAt legs rs k ≡ fieldAt legs more k
+      at-before : (k : ℕ) → k ≤ length rs → fieldAfterFirst legs rs k ≡ fieldAfterFirst legs more k
       at-before k h = sym (ap (λ (l : List Request). withIndex (fieldAfter empty l)) (take-append-le k rs (r ∷ []) h))
 
-      at-end : h .now ≡ fieldAt legs more (length rs)
+      at-end : h .now ≡ fieldAfterFirst legs more (length rs)
       at-end = p .now ∙ sym (ap (λ (l : List Request). withIndex (fieldAfter empty l)) (take-append-seam rs (r ∷ [])))
 
       next-now : withIndex (stepOf f r .field) ≡ withIndex (fieldAfter empty more)
@@ -60,7 +60,7 @@ module _ (legs : Legs) where
 
       -- behind those that count, ..
       module _ (room : h .count < mostKept) where
-        kept-behind : (i : ℕ) (d : Indexed) → i < h .count + 1 → getD (set (h .kept) (h .count) (h .now)) i d ≡ fieldAt legs more (length more - (h .count + 1) + i)
+        kept-behind : (i : ℕ) (d : Indexed) → i < h .count + 1 → getD (set (h .kept) (h .count) (h .now)) i d ≡ fieldAfterFirst legs more (length more - (h .count + 1) + i)
         kept-behind i d k =
             let e = long in
             let b = p .before in
@@ -70,18 +70,18 @@ module _ (legs : Legs) where
                   let same = eqb-true i (h .count) t in
                   let place : length rs ≡ length more - (h .count + 1) + i = omega (arith, e, b, same) in
                   ap (λ (j : ℕ). getD (set (h .kept) (h .count) (h .now)) j d) same
-                  ∙ getD-set-same (h .kept) (h .count) (h .now) d (omega (arith, places, room)) ∙ at-end ∙ ap (fieldAt legs more) place
+                  ∙ getD-set-same (h .kept) (h .count) (h .now) d (omega (arith, places, room)) ∙ at-end ∙ ap (fieldAfterFirst legs more) place
               | inr t ↦
                   let other = eqb-false i (h .count) t in
                   let below : i < h .count = omega (arith, k, other) in
                   let place : length rs - h .count + i ≡ length more - (h .count + 1) + i = omega (arith, e, b) in
                   getD-set-other (h .kept) (h .count) i (h .now) d other ∙ p .kept i d below
-                  ∙ at-before (length rs - h .count + i) (omega (arith, b, below)) ∙ ap (fieldAt legs more) place
+                  ∙ at-before (length rs - h .count + i) (omega (arith, b, below)) ∙ ap (fieldAfterFirst legs more) place
             ]
 
       -- .. and where eight count
       module _ (full : h .count ≡ mostKept) where
-        kept-moved : (i : ℕ) (d : Indexed) → i < h .count → getD (movedUp (h .kept) (h .now)) i d ≡ fieldAt legs more (length more - h .count + i)
+        kept-moved : (i : ℕ) (d : Indexed) → i < h .count → getD (movedUp (h .kept) (h .now)) i d ≡ fieldAfterFirst legs more (length more - h .count + i)
         kept-moved i d k =
             let e = long in
             let b = p .before in
@@ -90,13 +90,13 @@ module _ (legs : Legs) where
               | inl t ↦
                   let last = eqb-true i 7 t in
                   let place : length rs ≡ length more - h .count + i = omega (arith, e, b, last, full) in
-                  moved-last (h .kept) (h .now) i d (omega (arith, places, last)) ∙ at-end ∙ ap (fieldAt legs more) place
+                  moved-last (h .kept) (h .now) i d (omega (arith, places, last)) ∙ at-end ∙ ap (fieldAfterFirst legs more) place
               | inr t ↦
                   let other = eqb-false i 7 t in
                   let below : i + 1 < h .count = omega (arith, k, full, other) in
                   let place : length rs - h .count + (i + 1) ≡ length more - h .count + i = omega (arith, e, b) in
                   moved-at (h .kept) (h .now) i d d (omega (arith, places, below, full)) ∙ p .kept (i + 1) d below
-                  ∙ at-before (length rs - h .count + (i + 1)) (omega (arith, b, below)) ∙ ap (fieldAt legs more) place
+                  ∙ at-before (length rs - h .count + (i + 1)) (omega (arith, b, below)) ∙ ap (fieldAfterFirst legs more) place
             ]
 
       pub follows-keeping : numberOf f r ≡ 0 → Follows legs (keeping h (withIndex (stepOf f r .field))) more
@@ -148,7 +148,7 @@ module _ (legs : Legs) where
           let last : length rs - h .count + (h .count - 1) ≡ length rs - 1 = omega (arith, b, some) in
           record {
             accepted = accepted-fewer empty (length rs - 1) rs (p .accepted);
-            now = p .kept (h .count - 1) (h .now) (omega (arith, some)) ∙ ap (fieldAt legs rs) last;
+            now = p .kept (h .count - 1) (h .now) (omega (arith, some)) ∙ ap (fieldAfterFirst legs rs) last;
             few = omega (arith, few);
             before = omega (arith, b, e);
             places = p .places;
@@ -156,5 +156,5 @@ module _ (legs : Legs) where
                 let place : length rs - h .count + i ≡ length less - (h .count - 1) + i = omega (arith, e, b, some) in
                 p .kept i d (omega (arith, k))
                 ∙ sym (ap (λ (l : List Request). withIndex (fieldAfter empty l)) (take-take (length rs - h .count + i) (length rs - 1) rs (omega (arith, b, k))))
-                ∙ ap (fieldAt legs less) place;
+                ∙ ap (fieldAfterFirst legs less) place;
           }

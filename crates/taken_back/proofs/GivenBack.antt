@@ -11,10 +11,10 @@ use lib.Seq.{getD-set-same, take-all, take-at, take-set-le, take-suc-set}
 use borrow.Author.Tests.{le-leb, lt-ltb, eqb-false, ltb-true, ltb-false}
 use Rattle.request.specs.Input.{within, inputNumber}
 use Rattle.request.specs.declared.Request.{Request}
-use Rattle.request.proofs.Tests.{both-left, both-right}
+use Rattle.request.proofs.InputTests.{both-left, both-right}
 use Rattle.field.specs.Lists.{every}
-use Rattle.field.proofs.Tests.{passed, either-way, if-true, if-false}
-use Rattle.field.proofs.Parts.{and-then}
+use Rattle.field.proofs.TestLaws.{passed, either-way, if-true, if-false}
+use Rattle.field.proofs.TestParts.{and-then}
 use Rattle.finder.specs.declared.Indexed.{Indexed}
 use Rattle.finder.specs.Finder.{withinBoundsIndexed}
 use Rattle.rules.specs.Step.{numberOf, numberAndZeros, stepOf}
@@ -25,8 +25,8 @@ use Rattle.indexed.proofs.Own.{within-own}
 use Rattle.history.specs.declared.History.{History}
 use Rattle.history.specs.declared.SteppedHistory.{SteppedHistory}
 use Rattle.history.specs.History.{mostKept, counted, keptWithinBounds, withinBoundsHistory, keeping, numberHistory, stepHistory, numberBack, givenBack, stepBack}
-use Rattle.history.proofs.Moved.{movedUp, moved-length, moved-last}
-use Rattle.history.proofs.Numbers as numbers
+use Rattle.history.proofs.MovedUp.{movedUp, moved-length, moved-last}
+use Rattle.history.proofs.StepNumbers as numbers
 use Rattle.taken_back.specs.Calls.{Call, request, back, called}
 use Rattle.taken_back.specs.TakenBack.{NothingChanged, GivenBack}
 

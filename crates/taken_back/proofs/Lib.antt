@@ -1,5 +1,5 @@
-pub mod Lists
+pub mod PlayedBehind
 pub mod Follows
 pub mod GivenBack
-pub mod Counts
+pub mod KeptCounts
 pub mod Calls

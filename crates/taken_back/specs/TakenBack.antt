@@ -7,7 +7,7 @@ use lib.Dec.{T, eqb, ltb}
 use lib.ListN.{length, getD, take, drop}
 use Rattle.request.specs.declared.Request.{Request}
 use Rattle.field.specs.declared.Legs.{Legs}
-use Rattle.field.specs.Boxes.{emptyField}
+use Rattle.field.specs.Airspace.{emptyField}
 use Rattle.field.specs.Lists.{every}
 use Rattle.finder.specs.declared.Indexed.{Indexed}
 use Rattle.rules.specs.declared.Answer.{Answer}
@@ -24,8 +24,8 @@ abbrev pub neverAnswered : ℕ → List (Call × Answer) → Bool
 neverAnswered number ps = every (λ p. not (eqb (p .1 .number) number)) ps
 
 -- the field after the first n requests of a list from the empty field, with its index
-abbrev pub fieldAt : Legs → List Request → ℕ → Indexed
-fieldAt legs rs n = withIndex (fieldAfter (emptyField legs) (take n rs))
+abbrev pub fieldAfterFirst : Legs → List Request → ℕ → Indexed
+fieldAfterFirst legs rs n = withIndex (fieldAfter (emptyField legs) (take n rs))
 
 -- a field with its kept ones as a history of requests leaves them
 pub record Follows (legs : Legs) (h : History) (rs : List Request) : Type 0 where
@@ -38,7 +38,7 @@ pub record Follows (legs : Legs) (h : History) (rs : List Request) : Type 0 wher
   pub before : h .count ≤ length rs
   pub places : length (h .kept) ≡ mostKept
   -- those that count are the fields before its last requests, oldest first: whatever is read past the array
-  pub kept : (i : ℕ) (past : Indexed) → i < h .count → getD (h .kept) i past ≡ fieldAt legs rs (length rs - h .count + i)
+  pub kept : (i : ℕ) (past : Indexed) → i < h .count → getD (h .kept) i past ≡ fieldAfterFirst legs rs (length rs - h .count + i)
 
 -- what holds after a list of calls from the empty field with these legs
 pub record TakenBack (legs : Legs) (cs : List Call) : Type 0 where

@@ -10,7 +10,7 @@ use lib.Dec.{ltb}
 use lib.ListN.{length, set, getD, drop, length-append, length-set}
 use lib.Seq.{sets, sets-eq, set-out, drop-cons, drop-nil, append-snoc}
 use borrow.Author.Tests.{lt-ltb, le-ltb, ltb-true, ltb-false}
-use Rattle.text.specs.Text.{digitsUpTo, decimal, space, newline, markBefore, line}
+use Rattle.text.specs.Text.{digitsUpTo, decimal, space, newline, markBefore, lineOf}
 use Rattle.text.specs.Buffer.{put, Put, room, Written}
 
 -- ---- the digits of a number
@@ -151,11 +151,11 @@ past-all (x ∷ l) zero h = absurd (omega arith)
 past-all (x ∷ l) (suc i) h = past-all l i (omega arith)
 
 -- ---- a line of numbers, from the i-th on
-pub line-here : (l : List ℕ) (i : ℕ) (mark : ℕ) → i < length l → markBefore (drop (i + 1) l) ≡ mark → line (drop i l) ≡ decimal (getD l i 0) ++ (mark ∷ []) ++ line (drop (i + 1) l)
+pub line-here : (l : List ℕ) (i : ℕ) (mark : ℕ) → i < length l → markBefore (drop (i + 1) l) ≡ mark → lineOf (drop i l) ≡ decimal (getD l i 0) ++ (mark ∷ []) ++ lineOf (drop (i + 1) l)
 line-here l i mark h e =
     let n = decimal (getD l i 0) in
-    let rest = line (drop (i + 1) l) in
-    ap line (from-here l i h) ∙ ap (λ (m : ℕ). n ++ (m ∷ rest)) e ∙ sym (append-snoc n mark rest)
+    let rest = lineOf (drop (i + 1) l) in
+    ap lineOf (from-here l i h) ∙ ap (λ (m : ℕ). n ++ (m ∷ rest)) e ∙ sym (append-snoc n mark rest)
 
 pub mark-between : (l : List ℕ) (i : ℕ) → i < length l → markBefore (drop i l) ≡ space
 mark-between l i h = ap markBefore (from-here l i h)
@@ -165,18 +165,18 @@ mark-last l i h = ap markBefore (past-all l i h)
 
 -- the i-th number and its mark are put
 pub line-more : {b m n o all : List ℕ} {at e f g : ℕ} (l : List ℕ) (i mark : ℕ) → i < length l → markBefore (drop (i + 1) l) ≡ mark
-    → Left b at all m e (line (drop i l)) → Put m e (decimal (getD l i 0)) n f → Put n f (mark ∷ []) o g → Left b at all o g (line (drop (i + 1) l))
-line-more l i mark h k rest p q = left-more (decimal (getD l i 0) ++ (mark ∷ [])) (line (drop (i + 1) l)) rest (line-here l i mark h k) (put-more p q)
+    → Left b at all m e (lineOf (drop i l)) → Put m e (decimal (getD l i 0)) n f → Put n f (mark ∷ []) o g → Left b at all o g (lineOf (drop (i + 1) l))
+line-more l i mark h k rest p q = left-more (decimal (getD l i 0) ++ (mark ∷ [])) (lineOf (drop (i + 1) l)) rest (line-here l i mark h k) (put-more p q)
 
 -- ---- how long a line is
-pub line-length : (n : ℕ) (ns : List ℕ) (k : ℕ) → n < 10 ^ suc k → length (line (n ∷ ns)) ≤ suc (suc k) + length (line ns)
+pub line-length : (n : ℕ) (ns : List ℕ) (k : ℕ) → n < 10 ^ suc k → length (lineOf (n ∷ ns)) ≤ suc (suc k) + length (lineOf ns)
 line-length n ns k h =
     let d = decimal-short k n h in
-    let a = length-append (decimal n) (markBefore ns ∷ line ns) in
+    let a = length-append (decimal n) (markBefore ns ∷ lineOf ns) in
     omega arith
 
 -- a line of numbers of 64 bits
-pub line-short : (ns : List ℕ) → ((i : ℕ) → getD ns i 0 < 2 ^ 64) → length (line ns) ≤ 21 * length ns
+pub line-short : (ns : List ℕ) → ((i : ℕ) → getD ns i 0 < 2 ^ 64) → length (lineOf ns) ≤ 21 * length ns
 line-short [] w = omega arith
 line-short (n ∷ ns) w =
     let first = line-length n ns 19 (let h = w 0 in omega arith) in

@@ -27,6 +27,6 @@ markBefore [] = newline
 markBefore (n ∷ ns) = space
 
 -- a line of numbers
-abbrev pub line : List ℕ → List ℕ
-line [] = []
-line (n ∷ ns) = decimal n ++ (markBefore ns ∷ line ns)
+abbrev pub lineOf : List ℕ → List ℕ
+lineOf [] = []
+lineOf (n ∷ ns) = decimal n ++ (markBefore ns ∷ lineOf ns)

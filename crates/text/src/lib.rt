@@ -1,6 +1,6 @@
 // Text put into a lent buffer, from a place on. Each function yields the place after what it put; a byte that finds no room is left out.
 ghost use mathlib.Core.List.{[], _∷_};
-ghost use Rattle.text.specs.Text.{decimal, line};
+ghost use Rattle.text.specs.Text.{decimal, lineOf};
 ghost use Rattle.text.specs.Buffer.{Put};
 
 // The caller's buffer, long enough for every report.
@@ -43,7 +43,7 @@ pub fn put_number(out: &mut [u8], at: usize, n: usize) -> usize
 
 // A line of numbers.
 pub fn put_line(out: &mut [u8], at: usize, numbers: &[usize]) -> usize
-    ensures { λ r. ⌜ Put (now (out .entry)) at (line (now (numbers .entry))) (now (out .exit)) r ⌝ }
+    ensures { λ r. ⌜ Put (now (out .entry)) at (lineOf (now (numbers .entry))) (now (out .exit)) r ⌝ }
 {
     let mut end = at;
     let mut i = 0;

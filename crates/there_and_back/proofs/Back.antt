@@ -16,10 +16,10 @@ use Rattle.field.specs.declared.Aircraft.{Aircraft}
 use Rattle.field.specs.declared.Sequence.{Sequence}
 use Rattle.field.specs.declared.Legs.{Legs}
 use Rattle.field.specs.declared.Field.{Field}
-use Rattle.field.specs.Boxes.{right, isSide, everywhere, zonesFrom, nobody, zoneOf, queueOf, inZone, orderOf, entering, runway}
+use Rattle.field.specs.Airspace.{right, isSide, everywhere, zonesFrom, nobody, zoneOf, queueOf, inZone, orderOf, entering, runway}
 use Rattle.field.specs.Lists.{every}
-use Rattle.field.proofs.Tests.{passed, decided, if-true, same, every-from}
-use Rattle.field.proofs.Lists.{every-listed, zone-listed}
+use Rattle.field.proofs.TestLaws.{passed, decided, if-true, same, every-from}
+use Rattle.field.proofs.NumberLists.{every-listed, zone-listed}
 use Rattle.questions.specs.declared.Place.{Place}
 use Rattle.questions.specs.Counts.{howMany, isEmpty}
 use Rattle.questions.specs.Find.{placeOf, aircraftAt, fixOf}
@@ -33,17 +33,17 @@ use Rattle.finder.specs.Finder.{withinBoundsIndexed}
 use Rattle.indexed.specs.Indexed.{withIndex}
 use Rattle.indexed.proofs.Own.{within-own}
 use Rattle.line.proofs.Line.{zoneFor, queue-for, sequenceFor, order-for, fieldBy, zone-by}
-use Rattle.line.proofs.Counted.{in-everywhere}
+use Rattle.line.proofs.CountedOnLine.{in-everywhere}
 use Rattle.reason.proofs.Invariant.{parts}
 use Rattle.playing.specs.Playing.{legsInMiles}
-use Rattle.dialect.specs.declared.Entry.{Entry}
-use Rattle.dialect.specs.Going.{listEntry, listEntries, onRunway, entriesOf, inDialect, listed, listOf}
-use Rattle.dialect.specs.Coming.{entriesIn, isPlaced, placedFrom, fixIn, built, fieldOf}
+use Rattle.dialect.specs.declared.ListEntry.{ListEntry}
+use Rattle.dialect.specs.Going.{listEntry, listEntries, onRunway, entriesOf, inDialect, entriesListed, listOf}
+use Rattle.dialect.specs.Coming.{entriesIn, isPlaced, placedFrom, fixIn, built, fieldOfList}
 use Rattle.there_and_back.proofs.Shape.{uncut, waiting, atZone, numbersIn, nextFrom, fieldFor, built-for}
-use Rattle.there_and_back.proofs.Parts.{own-place, from-1, to-4, in-a-zone, first-placed, rest-placed, located, none-at, in-all, at-split, only, fix-kept}
-use Rattle.there_and_back.proofs.Accepted.{Accepted, accepted}
+use Rattle.there_and_back.proofs.ByLocation.{own-place, from-1, to-4, in-a-zone, first-placed, rest-placed, located, none-at, in-all, at-split, only, fix-kept}
+use Rattle.there_and_back.proofs.AcceptedList.{Accepted, accepted}
 
-module _ (legs : Legs) (speed : ℕ) (es : List Entry) (p : T (placedFrom 1 es)) (w : T (withinBounds (built legs speed es))) where
+module _ (legs : Legs) (speed : ℕ) (es : List ListEntry) (p : T (placedFrom 1 es)) (w : T (withinBounds (built legs speed es))) where
   -- the field
   abbrev g : Field
   g = built legs speed es
@@ -87,15 +87,15 @@ module _ (legs : Legs) (speed : ℕ) (es : List Entry) (p : T (placedFrom 1 es))
   pub order-is : orderOf (g .sequence) ≡ numbersIn es
   order-is =
       ap (λ (f : Field). orderOf (f .sequence)) is-for ∙ order-for (take 4 (numbersIn es))
-      ∙ uncut 4 (numbersIn es) (let l = length-map es (λ (e : Entry). e .number) in let h = four-in-all in omega arith)
+      ∙ uncut 4 (numbersIn es) (let l = length-map es (λ (e : ListEntry). e .number) in let h = four-in-all in omega arith)
 
   -- nobody but in the holdings
   pub nobody-at : (z : ℕ) → T (within 1 13 z) → 4 < z → isEmpty g z ≡ true
   unfolding howMany
-  nobody-at z t h = ap (λ (l : List Aircraft). eqb (length l) 0) (queue-cut z t ∙ ap (λ (l : List Entry). take 4 (map (waiting speed) l)) (none-at z 1 es p h))
+  nobody-at z t h = ap (λ (l : List Aircraft). eqb (length l) 0) (queue-cut z t ∙ ap (λ (l : List ListEntry). take 4 (map (waiting speed) l)) (none-at z 1 es p h))
 
   -- one of the list
-  module _ (xs : List Entry) (e : Entry) (ys : List Entry) (q : es ≡ xs ++ e ∷ ys) (place : ℕ) (here : T (isPlaced e place)) where
+  module _ (xs : List ListEntry) (e : ListEntry) (ys : List ListEntry) (q : es ≡ xs ++ e ∷ ys) (place : ℕ) (here : T (isPlaced e place)) where
     abbrev l : ℕ
     l = e .location
 
@@ -105,7 +105,7 @@ module _ (legs : Legs) (speed : ℕ) (es : List Entry) (p : T (placedFrom 1 es))
         let one = one-at l (from-1 e place here) (to-4 e place here) in
         let long = ap length split in
         queue-cut l (in-a-zone e place here)
-        ∙ ap (λ (r : List Entry). take 4 (map (waiting speed) r)) (split ∙ only (atZone l xs) e (atZone l ys) (omega arith))
+        ∙ ap (λ (r : List ListEntry). take 4 (map (waiting speed) r)) (split ∙ only (atZone l xs) e (atZone l ys) (omega arith))
 
     found : placeOf g (e .number) ≡ at l 1
     unfolding placeOf entering
@@ -131,17 +131,17 @@ module _ (legs : Legs) (speed : ℕ) (es : List Entry) (p : T (placedFrom 1 es))
     unfolding listEntry
     same-entry = λ i. record { number = e .number; location = found i .zone; place = sym (own-place e place here) i; fix = has-fix i }
 
-  again : (xs ys : List Entry) (place : ℕ) → es ≡ xs ++ ys → T (placedFrom place ys) → listEntries g place (numbersIn ys) ≡ ys
+  again : (xs ys : List ListEntry) (place : ℕ) → es ≡ xs ++ ys → T (placedFrom place ys) → listEntries g place (numbersIn ys) ≡ ys
   again xs [] place q t = refl
   again xs (e ∷ ys) place q t =
-      ap (λ (x : Entry). x ∷ listEntries g (suc place) (numbersIn ys)) (same-entry xs e ys q place (first-placed place e ys t))
-      ∙ ap (λ (r : List Entry). e ∷ r) (again (xs ++ (e ∷ [])) ys (suc place) (q ∙ sym (append-assoc xs (e ∷ []) ys)) (rest-placed place e ys t))
+      ap (λ (x : ListEntry). x ∷ listEntries g (suc place) (numbersIn ys)) (same-entry xs e ys q place (first-placed place e ys t))
+      ∙ ap (λ (r : List ListEntry). e ∷ r) (again (xs ++ (e ∷ [])) ys (suc place) (q ∙ sym (append-assoc xs (e ∷ []) ys)) (rest-placed place e ys t))
 
   -- The field has that list, ..
   pub entries-again : entriesOf g ≡ es
   unfolding entriesOf onRunway
   entries-again =
-      ap (λ (r : List Entry). listEntries g 1 (orderOf (g .sequence)) ++ r) (if-true _ _ (nobody-at runway tt (omega arith)))
+      ap (λ (r : List ListEntry). listEntries g 1 (orderOf (g .sequence)) ++ r) (if-true _ _ (nobody-at runway tt (omega arith)))
       ∙ append-nil (listEntries g 1 (orderOf (g .sequence)))
       ∙ ap (listEntries g 1) order-is
       ∙ again [] es 1 refl p
@@ -155,7 +155,7 @@ module _ (legs : Legs) (speed : ℕ) (es : List Entry) (p : T (placedFrom 1 es))
       ∙ ap (λ (b : Bool). b && true) (nobody-at 11 tt (omega arith))
 
 -- Back and there gives the list again, whatever the legs and the speed.
-pub back-and-there : (legs : FileLegs) (speed : ℕ) (bytes : List ℕ) → fieldOf legs speed bytes .number ≡ 0 → listOf (fieldOf legs speed bytes .after) ≡ listed (entriesIn bytes)
+pub back-and-there : (legs : FileLegs) (speed : ℕ) (bytes : List ℕ) → fieldOfList legs speed bytes .number ≡ 0 → listOf (fieldOfList legs speed bytes .after) ≡ entriesListed (entriesIn bytes)
 unfolding listOf withIndex
 back-and-there legs speed bytes e =
     let a = accepted legs speed bytes e in
@@ -164,4 +164,4 @@ back-and-there legs speed bytes e =
     ap listOf (a .after)
     ∙ if-true _ _ (within-own (built miles speed es) ∙ passed (a .bounds))
     ∙ if-true _ _ (in-dialect miles speed es (a .placed) (a .bounds))
-    ∙ ap listed (entries-again miles speed es (a .placed) (a .bounds))
+    ∙ ap entriesListed (entries-again miles speed es (a .placed) (a .bounds))

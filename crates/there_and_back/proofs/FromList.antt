@@ -7,27 +7,27 @@ use lib.ListN.{replicate}
 use Rattle.practice.specs.declared.FileLegs.{FileLegs}
 use Rattle.field.specs.declared.Legs.{Legs}
 use Rattle.field.specs.declared.Field.{Field}
-use Rattle.field.specs.Boxes.{emptyField}
+use Rattle.field.specs.Airspace.{emptyField}
 use Rattle.field.specs.Edits.{withZone, withSequence}
-use Rattle.field.proofs.Tests.{pass, passed}
+use Rattle.field.proofs.TestLaws.{pass, passed}
 use Rattle.finder.specs.declared.Indexed.{Indexed}
 use Rattle.finder.specs.Finder.{withinBoundsIndexed}
 use Rattle.indexed.specs.Indexed.{withIndex}
 use Rattle.indexed.proofs.Own.{within-own}
 use Rattle.playing.specs.Playing.{legsInMiles}
-use Rattle.dialect.specs.declared.Entry.{Entry}
-use Rattle.dialect.specs.Coming.{withEntry, builtOn, built, entriesIn, fieldOf}
+use Rattle.dialect.specs.declared.ListEntry.{ListEntry}
+use Rattle.dialect.specs.Coming.{withEntry, builtOn, built, entriesIn, fieldOfList}
 use Rattle.history.specs.History.{mostKept, startWith, keptWithinBounds, withinBoundsHistory}
 use Rattle.there_and_back.specs.FromList.{FromList}
-use Rattle.there_and_back.proofs.Accepted.{accepted}
+use Rattle.there_and_back.proofs.AcceptedList.{accepted}
 
 -- building leaves the legs
-legs-on : (f : Field) (speed : ℕ) (es : List Entry) → builtOn f speed es .legs ≡ f .legs
+legs-on : (f : Field) (speed : ℕ) (es : List ListEntry) → builtOn f speed es .legs ≡ f .legs
 unfolding withEntry withSequence withZone
 legs-on f speed [] = refl
 legs-on f speed (e ∷ es) = legs-on (withEntry f speed e) speed es
 
-legs-built : (legs : Legs) (speed : ℕ) (es : List Entry) → built legs speed es .legs ≡ legs
+legs-built : (legs : Legs) (speed : ℕ) (es : List ListEntry) → built legs speed es .legs ≡ legs
 unfolding built emptyField
 legs-built legs speed es = legs-on (emptyField legs) speed es
 
@@ -49,11 +49,11 @@ unfolding withIndex
 field-legs f = refl
 
 -- Of an accepted list.
-pub from-list : (legs : FileLegs) (speed : ℕ) (bytes : List ℕ) → fieldOf legs speed bytes .number ≡ 0 → FromList legs speed bytes
+pub from-list : (legs : FileLegs) (speed : ℕ) (bytes : List ℕ) → fieldOfList legs speed bytes .number ≡ 0 → FromList legs speed bytes
 from-list legs speed bytes n =
     let a = accepted legs speed bytes n in
     let f = built (legsInMiles legs) speed (entriesIn bytes) in
-    let x = fieldOf legs speed bytes .after in
+    let x = fieldOfList legs speed bytes .after in
     let those : x .field .legs ≡ legsInMiles legs = ap (λ (y : Indexed). y .field .legs) (a .after) ∙ field-legs f ∙ legs-built (legsInMiles legs) speed (entriesIn bytes) in
     record {
       none = none-counts x;

@@ -11,22 +11,22 @@ use lib.Ieee.Fits.{and-i, and-l, and-r}
 use borrow.Author.Tests.{eq-eqb, ne-eqb, eqb-true, eqb-false}
 use Rattle.request.specs.Input.{within}
 use Rattle.field.specs.declared.Field.{Field}
-use Rattle.field.specs.Boxes.{runway, isSide, opposite, orderOf}
+use Rattle.field.specs.Airspace.{runway, isSide, opposite, orderOf}
 use Rattle.field.specs.Lists.{every, isIn}
-use Rattle.field.proofs.Tests.{pass, passed, decided, if-true, if-false, fail}
+use Rattle.field.proofs.TestLaws.{pass, passed, decided, if-true, if-false, fail}
 use Rattle.questions.specs.Counts.{isEmpty}
 use Rattle.questions.specs.Find.{placeOf, fixOf, aircraftAt}
 use Rattle.bounds.specs.Bounds.{alternate}
-use Rattle.dialect.specs.declared.Entry.{Entry}
+use Rattle.dialect.specs.declared.ListEntry.{ListEntry}
 use Rattle.dialect.specs.Going.{listEntry, listEntries, onRunway, entriesOf}
 use Rattle.dialect.specs.Coming.{isPlaced, placedFrom, fixIn}
 use Rattle.there_and_back.proofs.Shape.{atZone, numbersIn, nextFrom}
-use Rattle.there_and_back.proofs.Parts.{holding, own-place, first-placed, rest-placed}
+use Rattle.there_and_back.proofs.ByLocation.{holding, own-place, first-placed, rest-placed}
 
 -- ---- nobody on the runway
 
 -- the last of a list has a place from 1
-last-placed : (place : ℕ) (es : List Entry) (e : Entry) → T (placedFrom place (es ++ (e ∷ []))) → (k : ℕ) × (place ≤ k) × T (isPlaced e k)
+last-placed : (place : ℕ) (es : List ListEntry) (e : ListEntry) → T (placedFrom place (es ++ (e ∷ []))) → (k : ℕ) × (place ≤ k) × T (isPlaced e k)
 last-placed place [] e t = (place, omega arith, first-placed place e [] t)
 last-placed place (x ∷ es) e t =
     let r = last-placed (suc place) es e (rest-placed place x (es ++ (e ∷ [])) t) in
@@ -46,13 +46,13 @@ module _ (f : Field) where
       go (inr e) =
           let es = listEntries f 1 (orderOf (f .sequence)) in
           let last = listEntry f (aircraftAt f runway 1 .number) 0 in
-          let all = subst (λ (l : List Entry). T (placedFrom 1 (es ++ l))) (if-false [] (last ∷ []) e) t in
+          let all = subst (λ (l : List ListEntry). T (placedFrom 1 (es ++ l))) (if-false [] (last ∷ []) e) t in
           let r = last-placed 1 es last all in
           absurd (at-0 (aircraftAt f runway 1 .number) (r .0) (r .1) (r .2))
 
   pub entries-are : isEmpty f runway ≡ true → entriesOf f ≡ listEntries f 1 (orderOf (f .sequence))
   unfolding entriesOf onRunway
-  entries-are e = ap (λ (l : List Entry). listEntries f 1 (orderOf (f .sequence)) ++ l) (if-true _ _ e) ∙ append-nil (listEntries f 1 (orderOf (f .sequence)))
+  entries-are e = ap (λ (l : List ListEntry). listEntries f 1 (orderOf (f .sequence)) ++ l) (if-true _ _ e) ∙ append-nil (listEntries f 1 (orderOf (f .sequence)))
 
   -- ---- everyone of the sequence waits in a holding
   pub all-hold : (place : ℕ) (ns : List ℕ) → T (placedFrom place (listEntries f place ns)) → T (every (λ n. within 1 4 (placeOf f n .zone)) ns)
@@ -82,9 +82,9 @@ module _ (f : Field) where
 
   -- one of the sequence splits the list
   pub record Split (place : ℕ) (ns : List ℕ) (n : ℕ) : Type 0 where
-    pub ahead : List Entry
+    pub ahead : List ListEntry
     pub own : ℕ
-    pub behind : List Entry
+    pub behind : List ListEntry
     pub is : listEntries f place ns ≡ ahead ++ listEntry f n own ∷ behind
 
   pub split-at : (place : ℕ) (ns : List ℕ) (n : ℕ) → isIn n ns ≡ true → Split place ns n
@@ -96,7 +96,7 @@ module _ (f : Field) where
           record { ahead = []; own = place; behind = listEntries f (suc place) ns; is = ap (λ (k : ℕ). listEntry f k place ∷ listEntries f (suc place) ns) (eqb-true m n e) }
       go (inr e) later =
           let r = later (sym (ap (λ (b : Bool). b || isIn n ns) e) ∙ i) in
-          record { ahead = listEntry f m place ∷ r .ahead; own = r .own; behind = r .behind; is = ap (λ (l : List Entry). listEntry f m place ∷ l) (r .is) }
+          record { ahead = listEntry f m place ∷ r .ahead; own = r .own; behind = r .behind; is = ap (λ (l : List ListEntry). listEntry f m place ∷ l) (r .is) }
 
   -- ---- the next fix
   opposite-in : (s : ℕ) → opposite (fixIn s) ≡ opposite s

@@ -1,8 +1,8 @@
 pub mod Shape
-pub mod Parts
-pub mod Accepted
+pub mod ByLocation
+pub mod AcceptedList
 pub mod Back
 pub mod Gone
 pub mod There
-pub mod ReadBack
+pub mod ListReadBack
 pub mod FromList

@@ -16,12 +16,12 @@ use Rattle.field.specs.declared.Zone.{Zone}
 use Rattle.field.specs.declared.Sequence.{Sequence}
 use Rattle.field.specs.declared.Legs.{Legs}
 use Rattle.field.specs.declared.Field.{Field}
-use Rattle.field.specs.Boxes.{right, opposite, zoneOf, entering, emptyField}
+use Rattle.field.specs.Airspace.{right, opposite, zoneOf, entering, emptyField}
 use Rattle.field.specs.Edits.{withTail, appended, withZone, withSequence}
 use Rattle.field.specs.Lists.{every}
-use Rattle.field.proofs.Tests.{decided, if-true, if-false}
+use Rattle.field.proofs.TestLaws.{decided, if-true, if-false}
 use Rattle.line.proofs.Line.{zoneFor, tail-for, sequenceFor, appended-for, fieldBy, zone-by, with-by, by-zones}
-use Rattle.dialect.specs.declared.Entry.{Entry}
+use Rattle.dialect.specs.declared.ListEntry.{ListEntry}
 use Rattle.dialect.specs.Coming.{isPlaced, placedFrom, fixIn, withEntry, builtOn, built}
 
 -- ---- lists
@@ -71,25 +71,25 @@ appended-cut (x ∷ y ∷ z ∷ w ∷ v ∷ rest) n h = absurd (omega arith)
 -- ---- the list
 
 -- one of the list as it waits
-abbrev pub waiting : ℕ → Entry → Aircraft
+abbrev pub waiting : ℕ → ListEntry → Aircraft
 waiting speed e = entering (e .number) (fixIn (e .fix)) speed 1
 
 -- those of the list with this location
-abbrev pub atZone : ℕ → List Entry → List Entry
+abbrev pub atZone : ℕ → List ListEntry → List ListEntry
 atZone z [] = []
 atZone z (e ∷ es) = cond (eqb z (e .location)) (e ∷ atZone z es) (atZone z es)
 
 -- their numbers
-abbrev pub numbersIn : List Entry → List ℕ
-numbersIn es = map (λ (e : Entry). e .number) es
+abbrev pub numbersIn : List ListEntry → List ℕ
+numbersIn es = map (λ (e : ListEntry). e .number) es
 
 -- the next fix behind the last of the list
-abbrev pub nextFrom : ℕ → List Entry → ℕ
+abbrev pub nextFrom : ℕ → List ListEntry → ℕ
 nextFrom next [] = next
 nextFrom next (e ∷ es) = nextFrom (opposite (fixIn (e .fix))) es
 
 -- locations that are zones
-abbrev pub Located : List Entry → Type 0
+abbrev pub Located : List ListEntry → Type 0
 Located [] = Unit {0}
 Located (e ∷ es) = T (within 1 13 (e .location)) × Located es
 
@@ -99,10 +99,10 @@ module _ (legs : Legs) (speed : ℕ) where
   fieldFor q ns next = fieldBy (λ z. zoneFor (q z)) (sequenceFor ns) next legs
 
   -- one more
-  abbrev more : (ℕ → List Aircraft) → Entry → ℕ → List Aircraft
+  abbrev more : (ℕ → List Aircraft) → ListEntry → ℕ → List Aircraft
   more q e z = cond (eqb z (e .location)) (take 4 (q z ++ (waiting speed e ∷ []))) (q z)
 
-  one-more : (q : ℕ → List Aircraft) (ns : List ℕ) (next : ℕ) (e : Entry) → T (within 1 13 (e .location)) → ((z : ℕ) → length (q z) ≤ 4) → length ns ≤ 4
+  one-more : (q : ℕ → List Aircraft) (ns : List ℕ) (next : ℕ) (e : ListEntry) → T (within 1 13 (e .location)) → ((z : ℕ) → length (q z) ≤ 4) → length ns ≤ 4
       → withEntry (fieldFor q ns next) speed e ≡ fieldFor (more q e) (take 4 (ns ++ (e .number ∷ []))) (opposite (fixIn (e .fix)))
   unfolding withEntry withSequence
   one-more q ns next e t few short =
@@ -123,7 +123,7 @@ module _ (legs : Legs) (speed : ℕ) where
           if-true _ _ b ∙ ap (λ (k : ℕ). zoneFor (take 4 (q k ++ (waiting speed e ∷ [])))) (sym (eqb-true y (e .location) b)) ∙ ap zoneFor (sym (if-true _ _ b))
       same-zone y (inr b) = if-false _ _ b ∙ ap zoneFor (sym (if-false _ _ b))
 
-  more-few : (q : ℕ → List Aircraft) (e : Entry) → ((z : ℕ) → length (q z) ≤ 4) → (z : ℕ) → length (more q e z) ≤ 4
+  more-few : (q : ℕ → List Aircraft) (e : ListEntry) → ((z : ℕ) → length (q z) ≤ 4) → (z : ℕ) → length (more q e z) ≤ 4
   more-few q e few z = go (eqb z (e .location))
     where
       go : (b : Bool) → length (cond b (take 4 (q z ++ (waiting speed e ∷ []))) (q z)) ≤ 4
@@ -131,7 +131,7 @@ module _ (legs : Legs) (speed : ℕ) where
       go false = few z
 
   -- all of them, on any such field
-  all-on : (es : List Entry) (q : ℕ → List Aircraft) (ns : List ℕ) (next : ℕ) → Located es → ((z : ℕ) → length (q z) ≤ 4) → length ns ≤ 4
+  all-on : (es : List ListEntry) (q : ℕ → List Aircraft) (ns : List ℕ) (next : ℕ) → Located es → ((z : ℕ) → length (q z) ≤ 4) → length ns ≤ 4
       → builtOn (fieldFor q ns next) speed es
       ≡ fieldFor (λ z. take 4 (q z ++ map (waiting speed) (atZone z es))) (take 4 (ns ++ numbersIn es)) (nextFrom next es)
   all-on [] q ns next t few short =
@@ -154,13 +154,13 @@ module _ (legs : Legs) (speed : ℕ) where
           ap (λ (l : List Aircraft). take 4 (l ++ rest)) (if-true _ _ b)
           ∙ cut-twice 4 (q z ++ (waiting speed e ∷ [])) rest
           ∙ ap (take 4) (append-assoc (q z) (waiting speed e ∷ []) rest)
-          ∙ ap (λ (l : List Entry). take 4 (q z ++ map (waiting speed) l)) (sym (if-true (e ∷ atZone z es) (atZone z es) b))
+          ∙ ap (λ (l : List ListEntry). take 4 (q z ++ map (waiting speed) l)) (sym (if-true (e ∷ atZone z es) (atZone z es) b))
       queue z (inr b) =
           ap (λ (l : List Aircraft). take 4 (l ++ map (waiting speed) (atZone z es))) (if-false _ _ b)
-          ∙ ap (λ (l : List Entry). take 4 (q z ++ map (waiting speed) l)) (sym (if-false (e ∷ atZone z es) (atZone z es) b))
+          ∙ ap (λ (l : List ListEntry). take 4 (q z ++ map (waiting speed) l)) (sym (if-false (e ∷ atZone z es) (atZone z es) b))
 
   -- The field of a list.
-  pub built-for : (es : List Entry) → Located es
+  pub built-for : (es : List ListEntry) → Located es
       → built legs speed es ≡ fieldFor (λ z. take 4 (map (waiting speed) (atZone z es))) (take 4 (numbersIn es)) (nextFrom right es)
   unfolding built emptyField
   built-for es t = all-on es (λ z. []) [] right t (λ z. omega arith) (omega arith)

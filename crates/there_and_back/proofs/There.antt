@@ -22,15 +22,15 @@ use Rattle.field.specs.declared.Zone.{Zone}
 use Rattle.field.specs.declared.Sequence.{Sequence}
 use Rattle.field.specs.declared.Legs.{Legs}
 use Rattle.field.specs.declared.Field.{Field}
-use Rattle.field.specs.Boxes.{right, isSide, isFlyingZone, everywhere, operation, zonesFrom, nobody, emptyZone, zoneOf, queueOf, inZone, orderOf, orderLength, entering, runway}
+use Rattle.field.specs.Airspace.{right, isSide, isFlyingZone, everywhere, operation, zonesFrom, nobody, emptyZone, zoneOf, queueOf, inZone, orderOf, orderLength, entering, runway}
 use Rattle.field.specs.Lists.{every, isIn, allDifferent}
-use Rattle.field.proofs.Tests.{pass, passed, decided, if-true, if-false, same, every-from, each-operation}
-use Rattle.field.proofs.Lists.{every-listed}
+use Rattle.field.proofs.TestLaws.{pass, passed, decided, if-true, if-false, same, every-from, each-operation}
+use Rattle.field.proofs.NumberLists.{every-listed}
 use Rattle.field.proofs.Shapes.{order-fits}
 use Rattle.questions.specs.declared.Place.{Place}
 use Rattle.questions.specs.Counts.{howMany, isEmpty}
 use Rattle.questions.specs.Find as find
-use Rattle.questions.proofs.Listed.{numberOf, numbersAt}
+use Rattle.questions.proofs.NumbersListed.{numberOf, numbersAt}
 use Rattle.questions.proofs.FindLaws.{at, find-own, in-zones, found-exactly, found-there}
 use Rattle.numbers.specs.Numbers.{sequenceExact}
 use Rattle.bounds.specs.Bounds.{lateralRule, boundC, boundF, alternate, isNobody, zoneKept, withinBounds}
@@ -42,21 +42,21 @@ use Rattle.rules.specs.Reason.{hasPlaces}
 use Rattle.finder.specs.declared.Index.{Index}
 use Rattle.finder.specs.declared.Indexed.{Indexed}
 use Rattle.finder.specs.Finder.{indexOf, sameIndex, withinBoundsIndexed}
-use Rattle.finder.proofs.Theorems.{index-same, same-equal}
+use Rattle.finder.proofs.IndexLaws.{index-same, same-equal}
 use Rattle.indexed.specs.Indexed.{withIndex}
 use Rattle.line.proofs.Line.{zoneFor, queue-for, sequenceFor, fieldBy, by-zones}
-use Rattle.line.proofs.Counted.{in-everywhere}
+use Rattle.line.proofs.CountedOnLine.{in-everywhere}
 use Rattle.reason.proofs.Invariant.{Places, places-parts, parts}
 use Rattle.reason.proofs.Stands.{sequence-is, zones-are}
 use Rattle.playing.specs.Playing.{legsInMiles}
-use Rattle.dialect.specs.declared.Entry.{Entry}
+use Rattle.dialect.specs.declared.ListEntry.{ListEntry}
 use Rattle.dialect.specs.declared.Listing.{Listing}
-use Rattle.dialect.specs.Going.{listEntry, listEntries, entriesOf, inDialect, noEntry, listed, refused, listOf}
-use Rattle.dialect.specs.Coming.{entriesIn, placedFrom, fixIn, built, fieldOf}
+use Rattle.dialect.specs.Going.{listEntry, listEntries, entriesOf, inDialect, noEntry, entriesListed, listRefused, listOf}
+use Rattle.dialect.specs.Coming.{entriesIn, placedFrom, fixIn, built, fieldOfList}
 use Rattle.there_and_back.specs.Settled.{settled, plainZeros, settledZone, settledField, settledIndexed}
 use Rattle.there_and_back.proofs.Shape.{uncut, waiting, atZone, numbersIn, nextFrom, fieldFor, built-for}
-use Rattle.there_and_back.proofs.Parts.{located, none-at, at-split, only, side-kept}
-use Rattle.there_and_back.proofs.Accepted.{Accepted, accepted}
+use Rattle.there_and_back.proofs.ByLocation.{located, none-at, at-split, only, side-kept}
+use Rattle.there_and_back.proofs.AcceptedList.{Accepted, accepted}
 use Rattle.there_and_back.proofs.Back.{zone-is, one-at}
 use Rattle.there_and_back.proofs.Gone.{none-on-runway, entries-are, all-hold, numbers-are, none-listed, Split, split-at, next-is}
 
@@ -111,7 +111,7 @@ module _ (f : Field) (h : Places f) (w : T (withinBounds f)) (legs : Legs) (spee
   abbrev order : List ℕ
   order = orderOf (f .sequence)
 
-  abbrev es : List Entry
+  abbrev es : List ListEntry
   es = entriesOf f
 
   clear : isEmpty f runway ≡ true
@@ -121,7 +121,7 @@ module _ (f : Field) (h : Places f) (w : T (withinBounds f)) (legs : Legs) (spee
   es-are = entries-are f clear
 
   holds : T (every (λ n. within 1 4 (find.placeOf f n .zone)) order)
-  holds = all-hold f 1 order (subst (λ (l : List Entry). T (placedFrom 1 l)) es-are p)
+  holds = all-hold f 1 order (subst (λ (l : List ListEntry). T (placedFrom 1 l)) es-are p)
 
   -- everyone of the operation area is in the sequence
   listed-in-order : (n : ℕ) → isIn n (find.numbersIn f operation) ≡ true → isIn n order ≡ true
@@ -265,7 +265,7 @@ module _ (f : Field) (h : Places f) (w : T (withinBounds f)) (legs : Legs) (spee
       ∙ sym (zone-settled speed (zoneOf f z) (h .four z t) (every-listed (λ y. zoneKept (zoneOf f y)) everywhere z (within-e f w .zones-kept) (in-everywhere z t)))
 
   order-again : take 4 (numbersIn es) ≡ order
-  order-again = ap (λ (l : List Entry). take 4 (numbersIn l)) es-are ∙ ap (take 4) (numbers-are f 1 order) ∙ uncut 4 order (order-fits (f .sequence) (h .numbers))
+  order-again = ap (λ (l : List ListEntry). take 4 (numbersIn l)) es-are ∙ ap (take 4) (numbers-are f 1 order) ∙ uncut 4 order (order-fits (f .sequence) (h .numbers))
 
   next-by : (ns : List ℕ) → T (alternate (map (find.fixOf f) ns ++ (f .next ∷ []))) → nextFrom right (listEntries f 1 ns) ≡ cond (eqb (length ns) 0) right (f .next)
   next-by [] t = refl
@@ -313,28 +313,28 @@ module _ (f : Field) (h : Places f) (w : T (withinBounds f)) (legs : Legs) (spee
   index-again = index-same (built legs speed es) f numbers-again
 
 -- ---- what going tells
-those-listed : (es : List Entry) → take (listed es .count) (listed es .entries) ≡ es
-unfolding listed
+those-listed : (es : List ListEntry) → take (entriesListed es .count) (entriesListed es .entries) ≡ es
+unfolding entriesListed
 those-listed es = take-append-seam es (replicate (5 - length es) noEntry)
 
-record Gone (x : Indexed) (es : List Entry) : Type 0 where
+record Gone (x : Indexed) (es : List ListEntry) : Type 0 where
   pub bounds : T (withinBoundsIndexed x)
   pub entries : es ≡ entriesOf (x .field)
 
-gone : (x : Indexed) (es : List Entry) → listOf x ≡ listed es → Gone x es
-unfolding listOf listed refused
+gone : (x : Indexed) (es : List ListEntry) → listOf x ≡ entriesListed es → Gone x es
+unfolding listOf entriesListed listRefused
 gone x es e = go (decided (withinBoundsIndexed x)) (decided (inDialect (x .field)))
   where
     go : (withinBoundsIndexed x ≡ true) ⊎ (withinBoundsIndexed x ≡ false) → (inDialect (x .field) ≡ true) ⊎ (inDialect (x .field) ≡ false) → Gone x es
     go (inl a) (inl b) =
-        let same : listed (entriesOf (x .field)) ≡ listed es = sym (if-true _ _ a ∙ if-true _ _ b) ∙ e in
+        let same : entriesListed (entriesOf (x .field)) ≡ entriesListed es = sym (if-true _ _ a ∙ if-true _ _ b) ∙ e in
         record { bounds = pass a; entries = sym (those-listed es) ∙ ap (λ (l : Listing). take (l .count) (l .entries)) (sym same) ∙ those-listed (entriesOf (x .field)) }
     go (inl a) (inr b) = absurd (let n : 29 ≡ 0 = ap (λ (l : Listing). l .number) (sym (if-true _ _ a ∙ if-false _ _ b) ∙ e) in omega arith)
     go (inr a) b = absurd (let n : 10 ≡ 0 = ap (λ (l : Listing). l .number) (sym (if-false _ _ a) ∙ e) in omega arith)
 
 -- There and back, where both accept, gives the field again but for the parts that are set.
-pub there-and-back : (x : Indexed) → T (hasPlaces (x .field)) → (legs : FileLegs) (speed : ℕ) (bytes : List ℕ) → listOf x ≡ listed (entriesIn bytes) → fieldOf legs speed bytes .number ≡ 0
-    → fieldOf legs speed bytes .after ≡ settledIndexed (legsInMiles legs) speed x
+pub there-and-back : (x : Indexed) → T (hasPlaces (x .field)) → (legs : FileLegs) (speed : ℕ) (bytes : List ℕ) → listOf x ≡ entriesListed (entriesIn bytes) → fieldOfList legs speed bytes .number ≡ 0
+    → fieldOfList legs speed bytes .after ≡ settledIndexed (legsInMiles legs) speed x
 unfolding withinBoundsIndexed withIndex settledIndexed
 there-and-back x shaped legs speed bytes l n =
     let f = x .field in
@@ -345,8 +345,8 @@ there-and-back x shaped legs speed bytes l n =
     let w = and-l (withinBounds f) agrees (b .bounds) in
     let own = same-equal (x .index) (indexOf f) (and-r (withinBounds f) agrees (b .bounds)) in
     let h = places-parts f shaped in
-    let p = subst (λ (es : List Entry). T (placedFrom 1 es)) (b .entries) (a .placed) in
-    let u = subst (λ (es : List Entry). T (withinBounds (built miles speed es))) (b .entries) (a .bounds) in
+    let p = subst (λ (es : List ListEntry). T (placedFrom 1 es)) (b .entries) (a .placed) in
+    let u = subst (λ (es : List ListEntry). T (withinBounds (built miles speed es))) (b .entries) (a .bounds) in
     let index = index-again f h w miles speed p u ∙ sym own in
     let field = field-again f h w miles speed p u in
-    a .after ∙ ap (λ (es : List Entry). withIndex (built miles speed es)) (b .entries) ∙ (λ i. record { field = field i; index = index i })
+    a .after ∙ ap (λ (es : List ListEntry). withIndex (built miles speed es)) (b .entries) ∙ (λ i. record { field = field i; index = index i })

@@ -5,16 +5,16 @@ use Prim.Native.Nat.{ℕ}
 use lib.Dec.{T}
 use lib.ListN.{replicate}
 use Rattle.practice.specs.declared.FileLegs.{FileLegs}
-use Rattle.field.specs.Boxes.{emptyField}
+use Rattle.field.specs.Airspace.{emptyField}
 use Rattle.indexed.specs.Indexed.{withIndex}
 use Rattle.playing.specs.Playing.{legsInMiles}
-use Rattle.dialect.specs.Coming.{fieldOf}
+use Rattle.dialect.specs.Coming.{fieldOfList}
 use Rattle.history.specs.declared.History.{History}
 use Rattle.history.specs.History.{mostKept, startWith, withinBoundsHistory}
 
 -- the field of a list with its index, and none kept
 abbrev pub historyOfList : FileLegs → ℕ → List ℕ → History
-historyOfList legs speed bytes = startWith (fieldOf legs speed bytes .after)
+historyOfList legs speed bytes = startWith (fieldOfList legs speed bytes .after)
 
 -- no field is kept, the places hold the empty field with the list's legs, and the bounds are kept (02, 2.13)
 pub record FromList (legs : FileLegs) (speed : ℕ) (bytes : List ℕ) : Type 0 where

@@ -11,7 +11,7 @@ use Rattle.field.specs.declared.Aircraft.{Aircraft}
 use Rattle.field.specs.declared.Zone.{Zone}
 use Rattle.field.specs.declared.Legs.{Legs}
 use Rattle.field.specs.declared.Field.{Field}
-use Rattle.field.specs.Boxes.{right, queueOf, orderLength}
+use Rattle.field.specs.Airspace.{right, queueOf, orderLength}
 use Rattle.finder.specs.declared.Indexed.{Indexed}
 
 -- one present: it gets the caller's speed, no miles waited, desk 1, and plus 0 for its own leg, which compares equal to 0 while it waits (02, 2.7)

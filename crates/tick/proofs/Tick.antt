@@ -9,7 +9,7 @@ use lib.ListN.{length, getD, set, take, drop}
 use lib.Seq.{set-getD}
 use borrow.Author.Tests.{le-leb}
 use Rattle.field.specs.declared.Zone.{Zone}
-use Rattle.field.specs.Boxes.{emptyZone, isFlyingZone}
+use Rattle.field.specs.Airspace.{emptyZone, isFlyingZone}
 use Rattle.field.proofs.Arrays.{filled-at, filled-more, filled-all}
 use Rattle.tick.specs.Tick.{tickedZone, tickedFrom}
 

@@ -6,7 +6,7 @@ use Rattle.leg.specs.Progress.{progressAfter, waitedWith}
 use Rattle.field.specs.declared.Aircraft.{Aircraft}
 use Rattle.field.specs.declared.Zone.{Zone}
 use Rattle.field.specs.declared.Field.{Field}
-use Rattle.field.specs.Boxes.{isFlyingZone}
+use Rattle.field.specs.Airspace.{isFlyingZone}
 
 -- an aircraft after a tick: its miles, up to its own leg (02, 2.7), and the miles waited with those past the end added (02, 2.2)
 unfoldable pub tickedAircraft : ℕ → Aircraft → Aircraft

@@ -26,7 +26,7 @@ pub fn bits_of(miles: f64) -> u64
 }
 
 // Puts a number of 16 bits.
-pub fn put_word(out: &mut [u8], at: usize, n: u16) -> usize
+pub fn put_number16(out: &mut [u8], at: usize, n: u16) -> usize
     ensures { λ r. ⌜ Put (now (out .entry)) at (bytes16 n) (now (out .exit)) r ⌝ }
 {
     let next = put_byte(out, at, (n % 256) as u8);
@@ -34,24 +34,24 @@ pub fn put_word(out: &mut [u8], at: usize, n: u16) -> usize
 }
 
 // Puts a number of 32 bits.
-pub fn put_double(out: &mut [u8], at: usize, n: u32) -> usize
+pub fn put_number32(out: &mut [u8], at: usize, n: u32) -> usize
     ensures { λ r. ⌜ Put (now (out .entry)) at (bytes32 n) (now (out .exit)) r ⌝ }
 {
-    let next = put_word(out, at, (n % 65536) as u16);
-    put_word(out, next, (n / 65536) as u16)
+    let next = put_number16(out, at, (n % 65536) as u16);
+    put_number16(out, next, (n / 65536) as u16)
 }
 
 // Puts a number of 64 bits.
-pub fn put_quad(out: &mut [u8], at: usize, n: u64) -> usize
+pub fn put_number64(out: &mut [u8], at: usize, n: u64) -> usize
     ensures { λ r. ⌜ Put (now (out .entry)) at (bytes64 n) (now (out .exit)) r ⌝ }
 {
-    let next = put_double(out, at, (n % 4294967296) as u32);
-    put_double(out, next, (n / 4294967296) as u32)
+    let next = put_number32(out, at, (n % 4294967296) as u32);
+    put_number32(out, next, (n / 4294967296) as u32)
 }
 
 // Puts the 64 bits of miles.
 pub fn put_bits(out: &mut [u8], at: usize, miles: f64) -> usize
     ensures { λ r. ⌜ Put (now (out .entry)) at (bytes64 (bitsOf miles)) (now (out .exit)) r ⌝ }
 {
-    put_quad(out, at, bits_of(miles))
+    put_number64(out, at, bits_of(miles))
 }

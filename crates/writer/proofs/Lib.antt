@@ -1,5 +1,5 @@
 pub mod Offences
-pub mod Bytes
-pub mod Numbers
+pub mod RequestBytes
+pub mod WritingNumbers
 pub mod Only
 pub mod Written

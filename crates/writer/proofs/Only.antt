@@ -10,17 +10,17 @@ use lib.Seq.{getD-drop, getD-take}
 use borrow.Author.Tests.{eqb-true, eq-eqb}
 use Rattle.request.specs.declared.Request.{Request}
 use Rattle.request.specs.Input.{word, within}
-use Rattle.request.proofs.Tests.{both-left, both-right}
+use Rattle.request.proofs.InputTests.{both-left, both-right}
 use Rattle.practice.specs.declared.FileLegs.{FileLegs}
-use Rattle.practice.specs.File.{number16, number32, letters, same, opens, entryIs, bodyLength, contentsAllowed, legsOf, legsBody, requestsBody, fileNumber}
+use Rattle.practice.specs.File.{number16, number32, letters, sameBytes, opens, entryIs, bodyLength, contentsAllowed, legsOf, legsBody, requestsBody, fileNumber}
 use Rattle.practice.specs.Requests.{requestsOf}
 use Rattle.practice.specs.Practice.{refused, holds, practiceOf, bytes16, bytes32, entryBytes, legBytes, requestBytes, encoded}
-use Rattle.practice.proofs.Bytes.{same-true}
-use Rattle.practice.proofs.Accepted.{accepted, whole-of, long-enough}
+use Rattle.practice.proofs.SameBytes.{same-true}
+use Rattle.practice.proofs.AcceptedFile.{accepted, whole-of, long-enough}
 use Rattle.practice.proofs.Requests.{count}
 use Rattle.practice.proofs.Meaning.{held}
 use Rattle.text.proofs.Texts.{from-here}
-use Rattle.writer.proofs.Bytes.{AreBytes, low-back, high-back, requests-bytes}
+use Rattle.writer.proofs.RequestBytes.{AreBytes, low-back, high-back, requests-bytes}
 
 module _ (file : List ℕ) (known : AreBytes file) where
   -- ---- numbers and entries, from a place of the file on
@@ -116,7 +116,7 @@ module _ (file : List ℕ) (known : AreBytes file) where
       let from4 : drop 4 file ≡ bytes16 2 ++ entryBytes 1 26 8 ++ entryBytes 2 34 (6 * length requests) ++ legBytes legs ++ requestBytes requests =
       two-at 4 (omega arith) ∙ (λ i. bytes16 (eqb-true (number16 file 4) 2 (both-left two first counted) i) ++ from6 i) in
       sym (take-append-drop 4 file)
-      ∙ (λ i. same-true (take 4 file) letters (both-right (within 26 24610 (length file)) (same (take 4 file) letters) (a .opening)) i ++ from4 i)
+      ∙ (λ i. same-true (take 4 file) letters (both-right (within 26 24610 (length file)) (sameBytes (take 4 file) letters) (a .opening)) i ++ from4 i)
 
   -- what it is read as
   pub read-as : fileNumber file ≡ 0 → practiceOf file ≡ holds legs requests
@@ -134,4 +134,4 @@ only-file file known legs rs e =
 
 -- two files that are read as the same legs and requests are the same bytes
 pub same-bytes : (a b : List ℕ) → AreBytes a → AreBytes b → (legs : FileLegs) (rs : List Request) → practiceOf a ≡ holds legs rs → practiceOf a ≡ practiceOf b → a ≡ b
-same-bytes a b ka kb legs rs e same = only-file a ka legs rs e ∙ sym (only-file b kb legs rs (sym same ∙ e))
+same-bytes a b ka kb legs rs e sameBytes = only-file a ka legs rs e ∙ sym (only-file b kb legs rs (sym sameBytes ∙ e))

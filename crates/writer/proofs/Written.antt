@@ -9,9 +9,9 @@ use borrow.Author.Tests.{eq-eqb, ne-eqb}
 use Rattle.practice.specs.declared.FileLegs.{FileLegs}
 use Rattle.practice.specs.Requests.{requestsOf}
 use Rattle.practice.specs.Practice.{holds, practiceOf}
-use Rattle.practice.proofs.ReadBack.{read-back, from-bytes}
+use Rattle.practice.proofs.FileReadBack.{read-back, from-bytes}
 use Rattle.writer.specs.Writer.{fileOf, writingNumber, bufferAfter}
-use Rattle.writer.proofs.Numbers.{allowed}
+use Rattle.writer.proofs.WritingNumbers.{allowed}
 
 module _ (legs : FileLegs) (bytes buffer : List ℕ) where
   -- where the number is 0, the buffer starts with the file, and goes on as lent

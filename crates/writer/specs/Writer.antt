@@ -18,8 +18,8 @@ abbrev pub fileOf : FileLegs → List ℕ → List ℕ
 fileOf legs bytes = encoded legs (requestsOf bytes)
 
 -- 5: the bytes are whole requests, and no more than a practice file may hold
-abbrev pub listAllowed : List ℕ → Bool
-listAllowed bytes = eqb (length bytes % 6) 0 && leb (length (requestsOf bytes)) mostRequests
+abbrev pub requestsAllowed : List ℕ → Bool
+requestsAllowed bytes = eqb (length bytes % 6) 0 && leb (length (requestsOf bytes)) mostRequests
 
 -- 1 to 4: the number of the first request in the list that breaks the input rules; 0 where none does
 abbrev pub firstOffence : List Request → ℕ
@@ -27,17 +27,17 @@ firstOffence [] = 0
 firstOffence (r ∷ rest) = cond (eqb (inputNumber r) 0) (firstOffence rest) (inputNumber r)
 
 -- 28: the file fits into a buffer of this many bytes
-abbrev pub hasRoom : FileLegs → List ℕ → ℕ → Bool
-hasRoom legs bytes room = leb (length (fileOf legs bytes)) room
+abbrev pub fileFits : FileLegs → List ℕ → ℕ → Bool
+fileFits legs bytes room = leb (length (fileOf legs bytes)) room
 
 -- the number of a writing: 7, then 5, then the number of the first offender, then 28; 0 where the file is written
 unfoldable pub writingNumber : FileLegs → List ℕ → ℕ → ℕ
 writingNumber legs bytes room =
     firstRefused
     ((7, legsAllowed legs)
-    ∷ (5, listAllowed bytes)
+    ∷ (5, requestsAllowed bytes)
     ∷ (firstOffence (requestsOf bytes), eqb (firstOffence (requestsOf bytes)) 0)
-    ∷ (28, hasRoom legs bytes room)
+    ∷ (28, fileFits legs bytes room)
     ∷ [])
 
 -- the answer: the number, and the file's length, 0 where it is refused

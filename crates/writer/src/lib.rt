@@ -29,7 +29,7 @@ pub struct Writing {
 }
 
 // Whether so many bytes are whole requests, and no more than a practice file may hold.
-fn list_allowed(size: usize) -> bool
+fn requests_allowed(size: usize) -> bool
     ensures { λ r. ⌜ r ≡ (eqb (size % 6) 0 && leb (size / 6) mostRequests) ⌝ }
 {
     if size % 6 != 0 {
@@ -39,7 +39,7 @@ fn list_allowed(size: usize) -> bool
 }
 
 // Whether the file of n requests fits into a buffer of so many bytes.
-fn has_room(n: usize, room: usize) -> bool
+fn file_fits(n: usize, room: usize) -> bool
     ensures { λ r. ⌜ r ≡ leb (34 + 6 * n) room ⌝ }
 {
     if room < 34 {
@@ -101,14 +101,14 @@ pub fn writing_number(legs: FileLegs, requests: &[u8], room: usize) -> u16
 {
     let size = requests.len();
     let allowed = legs_allowed(legs);
-    let list = list_allowed(size);
+    let list = requests_allowed(size);
     let offence = first_offence(requests);
-    let fits = has_room(size / 6, room);
+    let fits = file_fits(size / 6, room);
     first_number(allowed, list, offence, fits)
 }
 
 // A number of 16 bits.
-fn put_word(out: &mut [u8], at: usize, n: u16) -> usize
+fn put_number16(out: &mut [u8], at: usize, n: u16) -> usize
     ensures { λ r. ⌜ Put (now (out .entry)) at (bytes16 n) (now (out .exit)) r ⌝ }
 {
     let next = put_byte(out, at, (n % 256) as u8);
@@ -116,30 +116,30 @@ fn put_word(out: &mut [u8], at: usize, n: u16) -> usize
 }
 
 // A number of 32 bits.
-fn put_double(out: &mut [u8], at: usize, n: u32) -> usize
+fn put_number32(out: &mut [u8], at: usize, n: u32) -> usize
     ensures { λ r. ⌜ Put (now (out .entry)) at (bytes32 n) (now (out .exit)) r ⌝ }
 {
-    let next = put_word(out, at, (n % 65536) as u16);
-    put_word(out, next, (n / 65536) as u16)
+    let next = put_number16(out, at, (n % 65536) as u16);
+    put_number16(out, next, (n / 65536) as u16)
 }
 
 // An entry of the contents.
 fn put_entry(out: &mut [u8], at: usize, kind: u16, offset: u32, size: u32) -> usize
     ensures { λ r. ⌜ Put (now (out .entry)) at (entryBytes kind offset size) (now (out .exit)) r ⌝ }
 {
-    let second = put_word(out, at, kind);
-    let third = put_double(out, second, offset);
-    put_double(out, third, size)
+    let second = put_number16(out, at, kind);
+    let third = put_number32(out, second, offset);
+    put_number32(out, third, size)
 }
 
 // The body of the legs.
 fn put_legs(out: &mut [u8], at: usize, legs: FileLegs) -> usize
     ensures { λ r. ⌜ Put (now (out .entry)) at (legBytes legs) (now (out .exit)) r ⌝ }
 {
-    let second = put_word(out, at, legs.base);
-    let third = put_word(out, second, legs.intermediate);
-    let fourth = put_word(out, third, legs.last);
-    put_word(out, fourth, legs.missed)
+    let second = put_number16(out, at, legs.base);
+    let third = put_number16(out, second, legs.intermediate);
+    let fourth = put_number16(out, third, legs.last);
+    put_number16(out, fourth, legs.missed)
 }
 
 // The whole file, from the buffer's first byte on: the letters, the count, the two entries and the two bodies.
@@ -150,7 +150,7 @@ fn put_file(out: &mut [u8], legs: FileLegs, requests: &[u8]) -> usize
 {
     let size = requests.len() as u32;
     let count = put_text(out, 0, b"SCAP");
-    let first = put_word(out, count, 2);
+    let first = put_number16(out, count, 2);
     let second = put_entry(out, first, 1, 26, 8);
     let body = put_entry(out, second, 2, 34, size);
     let next = put_legs(out, body, legs);

@@ -8,12 +8,12 @@ use denote.Ref.{now}
 use Rattle.playing.specs.declared.Played.{Played}
 use Rattle.playing.specs.Playing.{answersOf, playedOf}
 use Rattle.playing.specs.Log.{logOf}
-use Rattle.playing.proofs.Files.{answers-count, requests-few}
+use Rattle.playing.proofs.PlayedFiles.{answers-count, requests-few}
 use Rattle.playing.proofs.Logs.{log-kept}
-use Rattle.contents.proofs.Accepted.{count-high}
+use Rattle.contents.proofs.AcceptedBinder.{count-high}
 use Rattle.binder.specs.declared.counts.Counts.{Counts}
 use Rattle.binder.specs.Counts.{Small, Columned, withNumber, countedTo, withFile}
-use Rattle.binder.proofs.Counted.{headed-file}
+use Rattle.binder.proofs.CountedOnce.{headed-file}
 use Rattle.binder.proofs.Adding.{small-up, small-number, small-counted, log-columned, file-counted, Counting, counting-none, counting-more, counting-all}
 use borrow.Author.Needs.{needs}
 use Rattle.binder.proofs.counts_of.Statement.{statement}
@@ -63,13 +63,13 @@ columned c =
 file-count-requires : tie.Need-file-count-requires Inv-loop μ-loop
 file-count-requires c κs = search needs
 
-none-requires : tie.Need-none-requires Inv-loop μ-loop
-none-requires c κs = search needs
+empty-counts-requires : tie.Need-empty-counts-requires Inv-loop μ-loop
+empty-counts-requires c κs = search needs
 
 loop-holds : tie.Need-loop-holds Inv-loop μ-loop
 loop-holds c =
     let binder = now (c .before .before .before .args .binder) in
-    rw (c .none .ensures) (counting-none binder (c .before .file-count .result) _ (c .before .file-count .ensures) (length-replicate {A = ℕ} 28672 0))
+    rw (c .empty-counts .ensures) (counting-none binder (c .before .file-count .result) _ (c .before .file-count .ensures) (length-replicate {A = ℕ} 28672 0))
 
 file-at-requires : tie.Need-file-at-requires Inv-loop μ-loop
 file-at-requires c κs = search needs
@@ -128,7 +128,7 @@ counts-of-spec =
     Inv-loop
     μ-loop
     file-count-requires
-    none-requires
+    empty-counts-requires
     loop-holds
     file-at-requires
     play-requires

@@ -1,7 +1,7 @@
 -- `bounds::bound_c` meets its contract, part by part. Assumes nothing.
 use mathlib.Core.Path.{sym}
 use Rattle.bounds.specs.Bounds.{boundC}
-use Rattle.field.proofs.Parts.{and-then, and-cut, holds, fails}
+use Rattle.field.proofs.TestParts.{and-then, and-cut, holds, fails}
 use borrow.Author.Needs.{needs}
 use Rattle.bounds.proofs.bound_c.Statement.{statement}
 use Rattle.bounds.proofs.bound_c.Tie as tie

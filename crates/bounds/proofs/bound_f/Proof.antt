@@ -6,10 +6,10 @@ use Prim.Native.Nat.{ℕ, zero, suc, _+_, _-_, _≤_, _<_}
 use lib.Dec.{eqb}
 use lib.ListN.{length, getD, drop, length-map, length-append, drop-of-length-le}
 use Rattle.field.specs.declared.Field.{Field}
-use Rattle.field.specs.Boxes.{opposite, orderOf, orderLength}
+use Rattle.field.specs.Airspace.{opposite, orderOf, orderLength}
 use Rattle.questions.specs.Find.{fixOf}
 use Rattle.bounds.specs.Bounds.{alternate, boundF}
-use Rattle.field.proofs.Parts.{and-then, and-cut, is, is-not}
+use Rattle.field.proofs.TestParts.{and-then, and-cut, is, is-not}
 use Rattle.field.proofs.Arrays.{Walked, next-of, walked-none, walked-more, walked-stop}
 use borrow.Author.Needs.{needs}
 use native.Mathlib.Omega.{arith}

@@ -3,7 +3,7 @@ use mathlib.Core.Path.{sym, ap, _∙_}
 use Rattle.field.specs.declared.Aircraft.{Aircraft}
 use Rattle.questions.specs.Find.{isFirst}
 use Rattle.bounds.specs.Bounds.{finalFirst}
-use Rattle.field.proofs.Parts.{or-first, or-else, is, is-not}
+use Rattle.field.proofs.TestParts.{or-first, or-else, is, is-not}
 use borrow.Author.Needs.{needs}
 use Rattle.bounds.proofs.final_first.Statement.{statement}
 use Rattle.bounds.proofs.final_first.Tie as tie

@@ -5,10 +5,10 @@ use Prim.Native.Nat.{ℕ, _≤_, _<_}
 use lib.ListN.{length, getD, length-map, length-take, List·getD-eq-default}
 use lib.Seq.{getD-take}
 use Rattle.field.specs.declared.Sequence.{Sequence}
-use Rattle.field.specs.Boxes.{orderOf, orderLength}
+use Rattle.field.specs.Airspace.{orderOf, orderLength}
 use Rattle.questions.specs.Find.{fixOf}
 use Rattle.field.proofs.Arrays.{getD-map}
-use Rattle.field.proofs.Known.{field-known}
+use Rattle.field.proofs.FieldKnown.{field-known}
 use Rattle.field.proofs.Shapes.{order-fits}
 use borrow.Author.Needs.{needs}
 use native.Mathlib.Omega.{arith}

@@ -6,7 +6,7 @@ use lib.Ieee.{binary64, eq, ofBits, ofInt}
 use Rattle.field.specs.declared.Aircraft.{Aircraft}
 use Rattle.bounds.specs.Bounds.{isNobody}
 use Rattle.fits.specs.Fits.{isWaiting}
-use Rattle.field.proofs.Parts.{and-then, and-cut}
+use Rattle.field.proofs.TestParts.{and-then, and-cut}
 use borrow.Author.Needs.{needs}
 use Rattle.bounds.proofs.is_nobody.Statement.{statement}
 use Rattle.bounds.proofs.is_nobody.Tie as tie

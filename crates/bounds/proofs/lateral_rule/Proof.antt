@@ -3,7 +3,7 @@ use mathlib.Core.Path.{sym, ap}
 use Prim.Native.Nat.{ℕ}
 use lib.Dec.{eqb}
 use Rattle.bounds.specs.Bounds.{lateralRule}
-use Rattle.field.proofs.Parts.{and-then, and-cut, or-first, or-else, is, is-not}
+use Rattle.field.proofs.TestParts.{and-then, and-cut, or-first, or-else, is, is-not}
 use borrow.Author.Needs.{needs}
 use Rattle.bounds.proofs.lateral_rule.Statement.{statement}
 use Rattle.bounds.proofs.lateral_rule.Tie as tie

@@ -5,9 +5,9 @@ use Prim.Native.Nat.{ℕ, _-_}
 use lib.Dec.{leb}
 use Rattle.field.specs.declared.Field.{Field}
 use Rattle.questions.specs.Counts.{howMany}
-use Rattle.field.proofs.Known.{field-known}
+use Rattle.field.proofs.FieldKnown.{field-known}
 use Rattle.questions.proofs.CountReads.{length-read}
-use Rattle.field.proofs.Parts.{at-most, over, Passed, passed-none, passed-more, passed-not, passed-all}
+use Rattle.field.proofs.TestParts.{at-most, over, Passed, passed-none, passed-more, passed-not, passed-all}
 use borrow.Author.Needs.{needs}
 use native.Mathlib.Omega.{arith}
 use Rattle.bounds.proofs.one_each.Statement.{statement}

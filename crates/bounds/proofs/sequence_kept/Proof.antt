@@ -5,8 +5,8 @@ use Prim.Native.Nat.{ℕ, _-_}
 use borrow.Author.Tests.{lt-leb, eq-eqb, ne-eqb}
 use lib.Dec.{eqb}
 use Rattle.bounds.specs.Bounds.{sequenceKept}
-use Rattle.field.proofs.Parts.{and-cut, Kept, kept-none, kept-more, kept-not, kept-all}
-use Rattle.field.proofs.Known.{sequence-known}
+use Rattle.field.proofs.TestParts.{and-cut, Kept, kept-none, kept-more, kept-not, kept-all}
+use Rattle.field.proofs.FieldKnown.{sequence-known}
 use borrow.Author.Needs.{needs}
 use native.Mathlib.Omega.{arith}
 use Rattle.bounds.proofs.sequence_kept.Statement.{statement}

@@ -1,7 +1,7 @@
 -- `bounds::within_bounds` meets its contract, bound by bound. Assumes nothing.
 use mathlib.Core.Path.{sym}
 use Rattle.bounds.specs.Bounds.{withinBounds}
-use Rattle.field.proofs.Parts.{and-then, and-cut, holds, fails}
+use Rattle.field.proofs.TestParts.{and-then, and-cut, holds, fails}
 use borrow.Author.Needs.{needs}
 use Rattle.bounds.proofs.within_bounds.Statement.{statement}
 use Rattle.bounds.proofs.within_bounds.Tie as tie

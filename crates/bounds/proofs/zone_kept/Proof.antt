@@ -3,8 +3,8 @@ use mathlib.Core.Path.{sym}
 use Prim.Native.Nat.{_-_}
 use borrow.Author.Tests.{lt-leb}
 use Rattle.bounds.specs.Bounds.{isNobody, zoneKept}
-use Rattle.field.proofs.Parts.{and-cut, holds, fails, Kept, kept-none, kept-more, kept-not, kept-all}
-use Rattle.field.proofs.Known.{zone-known}
+use Rattle.field.proofs.TestParts.{and-cut, holds, fails, Kept, kept-none, kept-more, kept-not, kept-all}
+use Rattle.field.proofs.FieldKnown.{zone-known}
 use borrow.Author.Needs.{needs}
 use native.Mathlib.Omega.{arith}
 use Rattle.bounds.proofs.zone_kept.Statement.{statement}

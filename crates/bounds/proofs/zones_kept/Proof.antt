@@ -3,11 +3,11 @@ use mathlib.Core.Path.{sym, ap, _∙_}
 use mathlib.Core.Bool.{Bool}
 use Prim.Native.Nat.{ℕ, _-_}
 use Rattle.field.specs.declared.Field.{Field}
-use Rattle.field.specs.Boxes.{zoneOf}
+use Rattle.field.specs.Airspace.{zoneOf}
 use Rattle.bounds.specs.Bounds.{zoneKept}
-use Rattle.field.proofs.Known.{field-known}
+use Rattle.field.proofs.FieldKnown.{field-known}
 use Rattle.field.proofs.Shapes.{zone-read}
-use Rattle.field.proofs.Parts.{holds, fails, Passed, passed-none, passed-more, passed-not, passed-all}
+use Rattle.field.proofs.TestParts.{holds, fails, Passed, passed-none, passed-more, passed-not, passed-all}
 use borrow.Author.Needs.{needs}
 use native.Mathlib.Omega.{arith}
 use Rattle.bounds.proofs.zones_kept.Statement.{statement}

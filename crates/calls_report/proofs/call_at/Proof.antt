@@ -3,7 +3,7 @@ use mathlib.Core.Path.{ap, _∙_}
 use denote.Ref.{now}
 use borrow.Author.Needs.{needs}
 use Rattle.taken_back.specs.Calls.{called}
-use Rattle.calls_report.proofs.Calls.{call-back, call-request}
+use Rattle.calls_report.proofs.CallLines.{call-back, call-request}
 use Rattle.calls_report.proofs.call_at.Statement.{statement}
 use Rattle.calls_report.proofs.call_at.Tie as tie
 

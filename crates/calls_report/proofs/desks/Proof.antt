@@ -14,7 +14,7 @@ use Rattle.field.specs.declared.Legs.{Legs}
 use Rattle.authored.specs.Authored.{refusedLine}
 use Rattle.authored.proofs.Outputs.{refused-short}
 use Rattle.calls_report.specs.CallsReport.{callsIn, reportFrom, desksNumber}
-use Rattle.calls_report.proofs.Calls.{printed-refused, printed-report, accepted-input}
+use Rattle.calls_report.proofs.CallLines.{printed-refused, printed-report, accepted-input}
 use Rattle.calls_report.proofs.desks.Statement.{statement}
 use Rattle.calls_report.proofs.desks.Tie as tie
 

@@ -5,7 +5,7 @@ use borrow.Author.Needs.{needs}
 use borrow.Author.Tests.{le-leb, lt-leb, eq-eqb, ne-eqb}
 use Rattle.limits.specs.Limits.{mostRequests}
 use Rattle.practice.specs.File.{legsOf, legsAllowed}
-use Rattle.practice.proofs.Tests.{fails, passes}
+use Rattle.practice.proofs.BranchTests.{fails, passes}
 use Rattle.calls_report.specs.CallsReport.{desksNumber}
 use Rattle.calls_report.proofs.input_number.Statement.{statement}
 use Rattle.calls_report.proofs.input_number.Tie as tie

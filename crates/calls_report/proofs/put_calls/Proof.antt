@@ -9,7 +9,7 @@ use Rattle.text.specs.Buffer.{Put, room}
 use Rattle.text.proofs.Texts.{put-same}
 use Rattle.history.specs.declared.History.{History}
 use Rattle.calls_report.specs.CallsReport.{callsIn, reportFrom}
-use Rattle.calls_report.proofs.Calls.{Answered, answered-none, answered-more, answered-all, answered-fits}
+use Rattle.calls_report.proofs.CallLines.{Answered, answered-none, answered-more, answered-all, answered-fits}
 use Rattle.calls_report.proofs.put_calls.Statement.{statement}
 use Rattle.calls_report.proofs.put_calls.Tie as tie
 

@@ -3,7 +3,7 @@ use mathlib.Core.Path.{_≡_}
 use mathlib.Core.Bool.{true}
 use denote.Ref.{now}
 use borrow.Author.Needs.{needs}
-use Rattle.practice.proofs.Tests.{fails, passes}
+use Rattle.practice.proofs.BranchTests.{fails, passes}
 use Rattle.contents.specs.Contents.{tableAllowed, binderNumber}
 use Rattle.contents.proofs.binder_number.Statement.{statement}
 use Rattle.contents.proofs.binder_number.Tie as tie

@@ -4,8 +4,8 @@ use native.Mathlib.Omega.{arith}
 use denote.Ref.{now}
 use borrow.Author.Needs.{needs}
 use Rattle.contents.specs.Contents.{fileCount}
-use Rattle.contents.proofs.Accepted.{Held, held}
-use Rattle.contents.proofs.Files.{is-held, is-none}
+use Rattle.contents.proofs.AcceptedBinder.{Held, held}
+use Rattle.contents.proofs.FileStretches.{is-held, is-none}
 use Rattle.contents.proofs.file_at.Statement.{statement}
 use Rattle.contents.proofs.file_at.Tie as tie
 

@@ -3,9 +3,9 @@ use mathlib.Core.Path.{_≡_, sym, _∙_}
 use native.Mathlib.Omega.{arith}
 use denote.Ref.{now}
 use borrow.Author.Needs.{needs}
-use Rattle.practice.proofs.Tests.{differs}
+use Rattle.practice.proofs.BranchTests.{differs}
 use Rattle.contents.specs.Contents.{binderNumber, fileCount}
-use Rattle.contents.proofs.Accepted.{accepted, count-of}
+use Rattle.contents.proofs.AcceptedBinder.{accepted, count-of}
 use Rattle.contents.proofs.file_count.Statement.{statement}
 use Rattle.contents.proofs.file_count.Tie as tie
 

@@ -5,7 +5,7 @@ use native.Mathlib.Omega.{arith}
 use denote.Ref.{now}
 use borrow.Author.Needs.{needs}
 use Rattle.contents.proofs.Table.{table-known}
-use Rattle.contents.proofs.Placed.{Passed, passed-none, passed-more, passed-stop, passed-all}
+use Rattle.contents.proofs.FilesPlaced.{Passed, passed-none, passed-more, passed-stop, passed-all}
 use Rattle.contents.proofs.files_placed.Statement.{statement}
 use Rattle.contents.proofs.files_placed.Tie as tie
 

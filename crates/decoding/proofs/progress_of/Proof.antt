@@ -3,7 +3,7 @@ use mathlib.Core.Path.{sym, ap, _∙_}
 use borrow.Author.Tests.{eq-eqb, ne-eqb}
 use Rattle.leg.specs.declared.Progress.the-variants.{Flying}
 use Rattle.layout.specs.Read.{waiting}
-use Rattle.field.proofs.Tests.{if-true, if-false}
+use Rattle.field.proofs.TestLaws.{if-true, if-false}
 use borrow.Author.Needs.{needs}
 use Rattle.decoding.proofs.progress_of.Statement.{statement}
 use Rattle.decoding.proofs.progress_of.Tie as tie

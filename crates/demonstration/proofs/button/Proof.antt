@@ -17,8 +17,8 @@ use Rattle.press.specs.HeldDown.{heldRequests, heldOf, heldLines}
 use Rattle.text.specs.Buffer.{room, Written}
 use Rattle.text.proofs.Texts.{put-more, written, stated}
 use Rattle.session.specs.Report.{refusedReport}
-use Rattle.session.proofs.Entries.{refused-length}
-use Rattle.demonstration.specs.Demonstration.{endLine, buttonReport}
+use Rattle.session.proofs.LogLines.{refused-length}
+use Rattle.demonstration.specs.Demonstration.{endingLine, buttonReport}
 use Rattle.demonstration.proofs.Buttons.{button-refused, button-holds, button-moves, end-length}
 use Rattle.demonstration.proofs.button.Statement.{statement}
 use Rattle.demonstration.proofs.button.Tie as tie
@@ -74,14 +74,14 @@ returns-2 c =
     let field = field-told k in
     let is : held ≡ heldOf f = h .hold-down .ensures .0 ∙ ap heldOf field in
     let lines = ap heldLines field in
-    let bytes = ap (λ (l : List ℕ). l ++ endLine (held .ending) (held .played)) lines
-    ∙ ap (λ (x : Held). heldLines f ++ endLine (x .ending) (x .played)) is
+    let bytes = ap (λ (l : List ℕ). l ++ endingLine (held .ending) (held .played)) lines
+    ∙ ap (λ (x : Held). heldLines f ++ endingLine (x .ending) (x .played)) is
     ∙ sym (button-holds file accepted) in
     let few = button-moves file accepted in
     let short = subst (λ (g : Field). length (heldLines g) ≤ 147 * moves (played g (heldRequests g))) field (h .hold-down .ensures .1 .1) in
     let last = end-length (held .ending) (held .played) (omega (arith, h .hold-down .ok)) in
     let same = ap length lines in
-    let both = length-append (heldLines (k .play .result .field)) (endLine (held .ending) (held .played)) in
+    let both = length-append (heldLines (k .play .result .field)) (endingLine (held .ending) (held .played)) in
     let room = written (put-more (h .hold-down .ensures .1 .0) (c .put-end .ensures)) (room-known (k .before .before)) (omega arith) in
     stated (subst (λ (b : List ℕ). Written b (now (k .before .before .before .before .args .out)) (c .put-end .result) (c .put-end .last .0)) bytes room)
 

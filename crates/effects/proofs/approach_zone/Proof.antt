@@ -1,7 +1,7 @@
 -- `effects::approach_zone` meets its contract: it goes by the needs in order. Assumes nothing.
 use mathlib.Core.Path.{sym}
-use Rattle.field.proofs.Parts.{and-then, and-cut, holds, fails}
-use Rattle.field.proofs.Tests.{if-true, if-false}
+use Rattle.field.proofs.TestParts.{and-then, and-cut, holds, fails}
+use Rattle.field.proofs.TestLaws.{if-true, if-false}
 use borrow.Author.Needs.{needs}
 use Rattle.effects.proofs.approach_zone.Statement.{statement}
 use Rattle.effects.proofs.approach_zone.Tie as tie

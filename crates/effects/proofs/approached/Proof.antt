@@ -3,8 +3,8 @@ use mathlib.Core.Path.{_≡_, refl, sym, ap, _∙_}
 use mathlib.Core.Bool.{Bool, true, false, cond, _&&_}
 use Prim.Native.Nat.{ℕ}
 use Rattle.field.specs.declared.Field.{Field}
-use Rattle.field.specs.Boxes.{at2000, base, sideOf}
-use Rattle.field.proofs.Tests.{if-true, if-false}
+use Rattle.field.specs.Airspace.{at2000, base, sideOf}
+use Rattle.field.proofs.TestLaws.{if-true, if-false}
 use Rattle.rules.specs.Kinds.{mayApproach, baseFree, moved, approached}
 use borrow.Author.Needs.{needs}
 use Rattle.effects.proofs.approached.Statement.{statement}

@@ -1,9 +1,9 @@
 -- `effects::fix_after_miss` meets its contract: the definition takes the arm of the test. Assumes nothing.
 use mathlib.Core.Path.{sym}
-use Rattle.field.specs.Boxes.{orderLength}
-use Rattle.field.proofs.Parts.{is, is-not}
+use Rattle.field.specs.Airspace.{orderLength}
+use Rattle.field.proofs.TestParts.{is, is-not}
 use Rattle.rules.specs.Kinds.{fixAfterMiss}
-use Rattle.field.proofs.Tests.{if-true, if-false}
+use Rattle.field.proofs.TestLaws.{if-true, if-false}
 use borrow.Author.Needs.{needs}
 use Rattle.effects.proofs.fix_after_miss.Statement.{statement}
 use Rattle.effects.proofs.fix_after_miss.Tie as tie

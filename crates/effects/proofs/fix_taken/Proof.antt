@@ -1,9 +1,9 @@
 -- `effects::fix_taken` meets its contract: the definition takes the arm of the test. Assumes nothing.
 use mathlib.Core.Path.{sym}
-use Rattle.field.specs.Boxes.{orderLength}
-use Rattle.field.proofs.Parts.{is, is-not}
+use Rattle.field.specs.Airspace.{orderLength}
+use Rattle.field.proofs.TestParts.{is, is-not}
 use Rattle.rules.specs.Kinds.{fixTaken}
-use Rattle.field.proofs.Tests.{if-true, if-false}
+use Rattle.field.proofs.TestLaws.{if-true, if-false}
 use borrow.Author.Needs.{needs}
 use Rattle.effects.proofs.fix_taken.Statement.{statement}
 use Rattle.effects.proofs.fix_taken.Tie as tie

@@ -3,11 +3,11 @@ use mathlib.Core.Path.{_≡_, sym, ap, _∙_}
 use mathlib.Core.Bool.{cond}
 use Prim.Native.Nat.{ℕ}
 use Rattle.field.specs.declared.Field.{Field}
-use Rattle.field.specs.Boxes.{at3000, at2000, sideOf}
+use Rattle.field.specs.Airspace.{at3000, at2000, sideOf}
 use Rattle.questions.specs.Counts.{isEmpty}
-use Rattle.field.proofs.Parts.{holds, fails}
+use Rattle.field.proofs.TestParts.{holds, fails}
 use Rattle.rules.specs.Kinds.{moved, held}
-use Rattle.field.proofs.Tests.{if-true, if-false}
+use Rattle.field.proofs.TestLaws.{if-true, if-false}
 use borrow.Author.Needs.{needs}
 use Rattle.effects.proofs.held.Statement.{statement}
 use Rattle.effects.proofs.held.Tie as tie

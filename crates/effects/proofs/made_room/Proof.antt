@@ -1,7 +1,7 @@
 -- `effects::made_room` meets its contract: it goes by whether 3000 is empty. Assumes nothing.
 use mathlib.Core.Path.{sym, _∙_}
 use Rattle.rules.specs.Kinds.{madeRoom}
-use Rattle.field.proofs.Tests.{if-true, if-false}
+use Rattle.field.proofs.TestLaws.{if-true, if-false}
 use borrow.Author.Needs.{needs}
 use Rattle.effects.proofs.made_room.Statement.{statement}
 use Rattle.effects.proofs.made_room.Tie as tie

@@ -5,7 +5,7 @@ use Rattle.request.specs.declared.Request.{Request}
 use Rattle.field.specs.declared.Aircraft.{Aircraft}
 use Rattle.field.specs.declared.Sequence.{Sequence}
 use Rattle.field.specs.declared.Field.{Field}
-use Rattle.field.specs.Boxes.{opposite, turnedAway, withFix}
+use Rattle.field.specs.Airspace.{opposite, arrivedByMiss, withFix}
 use Rattle.field.specs.Edits.{appended, removed, withSequence}
 use Rattle.questions.specs.Find.{aircraftAt}
 use Rattle.rules.specs.Kinds.{headGone, tailPut, fixAfterMiss, missedApproach}
@@ -15,7 +15,7 @@ use Rattle.effects.proofs.missed_approach.Tie as tie
 
 -- the field by its parts
 made : (f : Field) (r : Request) {a b d : Aircraft} {fix next : ℕ} {g h x : Field} {s t : Sequence}
-    → a ≡ aircraftAt f 12 1 → fix ≡ fixAfterMiss f a → b ≡ turnedAway (f .legs) (6 + a .fix) a → d ≡ withFix b fix
+    → a ≡ aircraftAt f 12 1 → fix ≡ fixAfterMiss f a → b ≡ arrivedByMiss (f .legs) (6 + a .fix) a → d ≡ withFix b fix
     → g ≡ headGone f 12 → h ≡ tailPut g (6 + a .fix) d
     → s ≡ removed (f .sequence) (r .number) → t ≡ appended s (r .number) → next ≡ opposite fix → x ≡ withSequence h t next → x ≡ missedApproach f r
 unfolding missedApproach
@@ -33,8 +33,8 @@ add-zone c = search needs
 fix-after-miss-requires : tie.Need-fix-after-miss-requires
 fix-after-miss-requires c κs = search needs
 
-turned-away-requires : tie.Need-turned-away-requires
-turned-away-requires c κs = search needs
+arrived-by-miss-requires : tie.Need-arrived-by-miss-requires
+arrived-by-miss-requires c κs = search needs
 
 with-fix-requires : tie.Need-with-fix-requires
 with-fix-requires c κs = search needs
@@ -65,7 +65,7 @@ returns c =
     made (a .before .args .f) (a .before .args .r)
     (a .aircraft-at .ensures)
     (b .before .before .before .fix-after-miss .ensures)
-    (b .before .turned-away .ensures)
+    (b .before .arrived-by-miss .ensures)
     (b .with-fix .ensures)
     (d .before .before .before .before .head-gone .ensures)
     (d .before .before .before .tail-put .ensures)
@@ -82,7 +82,7 @@ missed-approach-spec =
     cast-zone
     add-zone
     fix-after-miss-requires
-    turned-away-requires
+    arrived-by-miss-requires
     with-fix-requires
     head-gone-requires
     tail-put-requires

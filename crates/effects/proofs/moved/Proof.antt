@@ -4,16 +4,16 @@ use mathlib.Core.List.{List}
 use Prim.Native.Nat.{ℕ, _-_, _≤_}
 use native.Mathlib.Omega.{arith}
 use lib.ListN.{length, getD, set, length-set}
-use Rattle.request.proofs.Tests.{within-low, within-high}
+use Rattle.request.proofs.InputTests.{within-low, within-high}
 use Rattle.field.specs.declared.Aircraft.{Aircraft}
 use Rattle.field.specs.declared.Zone.{Zone}
 use Rattle.field.specs.declared.Field.{Field}
-use Rattle.field.specs.Boxes.{arrived}
+use Rattle.field.specs.Airspace.{arrived}
 use Rattle.field.specs.Edits.{withoutHead, withTail, withZone}
 use Rattle.field.proofs.Arrays.{set-from-one}
 use Rattle.field.proofs.Shapes.{zone-read}
-use Rattle.field.proofs.Known.{field-known}
-use Rattle.field.proofs.Parts.{holds}
+use Rattle.field.proofs.FieldKnown.{field-known}
+use Rattle.field.proofs.TestParts.{holds}
 use Rattle.questions.specs.Find.{aircraftAt}
 use Rattle.rules.specs.Kinds.{headGone, tailPut, moved}
 use borrow.Author.Needs.{needs}

@@ -8,8 +8,8 @@ use Rattle.text.proofs.Texts.{put-more, put-same}
 use Rattle.encoding.proofs.put_aircraft.Statement.{statement}
 use Rattle.encoding.proofs.put_aircraft.Tie as tie
 
-put-word-requires : tie.Need-put-word-requires
-put-word-requires c κs = search needs
+put-number16-requires : tie.Need-put-number16-requires
+put-number16-requires c κs = search needs
 
 put-byte-requires : tie.Need-put-byte-requires
 put-byte-requires c κs = search needs
@@ -17,14 +17,14 @@ put-byte-requires c κs = search needs
 put-byte-requires-2 : tie.Need-put-byte-requires-2
 put-byte-requires-2 c κs = search needs
 
-put-word-requires-2 : tie.Need-put-word-requires-2
-put-word-requires-2 c κs = search needs
+put-number16-requires-2 : tie.Need-put-number16-requires-2
+put-number16-requires-2 c κs = search needs
 
 progress-bits-requires : tie.Need-progress-bits-requires
 progress-bits-requires c κs = search needs
 
-put-quad-requires : tie.Need-put-quad-requires
-put-quad-requires c κs = search needs
+put-number64-requires : tie.Need-put-number64-requires
+put-number64-requires c κs = search needs
 
 put-bits-requires : tie.Need-put-bits-requires
 put-bits-requires c κs = search needs
@@ -41,7 +41,7 @@ same-length c =
     let p3 = p4 .before .before .before .before in
     let p2 = p3 .before .before .before .before in
     let p1 = p2 .before .before .before .before in
-    put-same (put-more (put-more (put-more (put-more (put-more (put-more (p1 .put-word .ensures) (p2 .put-byte .ensures)) (p3 .put-byte2 .ensures)) (p4 .put-word2 .ensures)) (put-as (ap bytes64 (p5 .before .progress-bits .ensures)) (p5 .put-quad .ensures))) (p6 .put-bits .ensures)) (p7 .put-bits2 .ensures))
+    put-same (put-more (put-more (put-more (put-more (put-more (put-more (p1 .put-number16 .ensures) (p2 .put-byte .ensures)) (p3 .put-byte2 .ensures)) (p4 .put-number162 .ensures)) (put-as (ap bytes64 (p5 .before .progress-bits .ensures)) (p5 .put-number64 .ensures))) (p6 .put-bits .ensures)) (p7 .put-bits2 .ensures))
 
 returns : tie.Need-returns
 unfolding aircraftBytes
@@ -53,18 +53,18 @@ returns c =
     let p3 = p4 .before .before .before .before in
     let p2 = p3 .before .before .before .before in
     let p1 = p2 .before .before .before .before in
-    put-more (put-more (put-more (put-more (put-more (put-more (p1 .put-word .ensures) (p2 .put-byte .ensures)) (p3 .put-byte2 .ensures)) (p4 .put-word2 .ensures)) (put-as (ap bytes64 (p5 .before .progress-bits .ensures)) (p5 .put-quad .ensures))) (p6 .put-bits .ensures)) (p7 .put-bits2 .ensures)
+    put-more (put-more (put-more (put-more (put-more (put-more (p1 .put-number16 .ensures) (p2 .put-byte .ensures)) (p3 .put-byte2 .ensures)) (p4 .put-number162 .ensures)) (put-as (ap bytes64 (p5 .before .progress-bits .ensures)) (p5 .put-number64 .ensures))) (p6 .put-bits .ensures)) (p7 .put-bits2 .ensures)
 
 pub put-aircraft-spec : {M : Type 1} → statement M
 put-aircraft-spec =
     tie.close
     (tie.spec
-    put-word-requires
+    put-number16-requires
     put-byte-requires
     put-byte-requires-2
-    put-word-requires-2
+    put-number16-requires-2
     progress-bits-requires
-    put-quad-requires
+    put-number64-requires
     put-bits-requires
     put-bits-requires-2
     same-length

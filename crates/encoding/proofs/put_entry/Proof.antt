@@ -4,8 +4,8 @@ use Rattle.text.proofs.Texts.{put-more, put-same}
 use Rattle.encoding.proofs.put_entry.Statement.{statement}
 use Rattle.encoding.proofs.put_entry.Tie as tie
 
-put-word-requires : tie.Need-put-word-requires
-put-word-requires c κs = search needs
+put-number16-requires : tie.Need-put-number16-requires
+put-number16-requires c κs = search needs
 
 put-byte-requires : tie.Need-put-byte-requires
 put-byte-requires c κs = search needs
@@ -18,20 +18,20 @@ same-length c =
     let p3 = c .before .before in
     let p2 = p3 .before .before .before .before in
     let p1 = p2 .before .before .before .before in
-    put-same (put-more (put-more (p1 .put-word .ensures) (p2 .put-byte .ensures)) (p3 .put-byte2 .ensures))
+    put-same (put-more (put-more (p1 .put-number16 .ensures) (p2 .put-byte .ensures)) (p3 .put-byte2 .ensures))
 
 returns : tie.Need-returns
 returns c =
     let p3 = c .before .before in
     let p2 = p3 .before .before .before .before in
     let p1 = p2 .before .before .before .before in
-    put-more (put-more (p1 .put-word .ensures) (p2 .put-byte .ensures)) (p3 .put-byte2 .ensures)
+    put-more (put-more (p1 .put-number16 .ensures) (p2 .put-byte .ensures)) (p3 .put-byte2 .ensures)
 
 pub put-entry-spec : {M : Type 1} → statement M
 put-entry-spec =
     tie.close
     (tie.spec
-    put-word-requires
+    put-number16-requires
     put-byte-requires
     put-byte-requires-2
     same-length

@@ -11,15 +11,15 @@ put-indexed-requires c κs = search needs
 put-kept-requires : tie.Need-put-kept-requires
 put-kept-requires c κs = search needs
 
-put-quad-requires : tie.Need-put-quad-requires
-put-quad-requires c κs = search needs
+put-number64-requires : tie.Need-put-number64-requires
+put-number64-requires c κs = search needs
 
 same-length : tie.Need-same-length
 same-length c =
     let p3 = c .before .before in
     let p2 = p3 .before .before .before .before in
     let p1 = p2 .before .before .before .before in
-    put-same (put-more (put-more (p1 .put-indexed .ensures) (p2 .put-kept .ensures)) (p3 .put-quad .ensures))
+    put-same (put-more (put-more (p1 .put-indexed .ensures) (p2 .put-kept .ensures)) (p3 .put-number64 .ensures))
 
 returns : tie.Need-returns
 unfolding historyBytes
@@ -27,7 +27,7 @@ returns c =
     let p3 = c .before .before in
     let p2 = p3 .before .before .before .before in
     let p1 = p2 .before .before .before .before in
-    put-more (put-more (p1 .put-indexed .ensures) (p2 .put-kept .ensures)) (p3 .put-quad .ensures)
+    put-more (put-more (p1 .put-indexed .ensures) (p2 .put-kept .ensures)) (p3 .put-number64 .ensures)
 
 pub put-history-spec : {M : Type 1} → statement M
 put-history-spec =
@@ -35,6 +35,6 @@ put-history-spec =
     (tie.spec
     put-indexed-requires
     put-kept-requires
-    put-quad-requires
+    put-number64-requires
     same-length
     returns)

@@ -2,20 +2,20 @@
 use Prim.Native.Nat.{_-_}
 use native.Mathlib.Omega.{arith}
 use borrow.Author.Needs.{needs}
-use Rattle.layout.specs.Written.{entryBytes}
-use Rattle.finder.proofs.Known.{index-known}
+use Rattle.layout.specs.Written.{indexEntryBytes}
+use Rattle.finder.proofs.IndexKnown.{index-known}
 use Rattle.encoding.proofs.Each.{Each, each-none, each-more, each-all}
 use Rattle.encoding.proofs.put_index.Statement.{statement}
 use Rattle.encoding.proofs.put_index.Tie as tie
 
 abbrev Inv-loop : tie.InvT-loop
-Inv-loop out₀ at index end₀ i₀ out end i = Each entryBytes (index .entries) 5 out₀ at out end i
+Inv-loop out₀ at index end₀ i₀ out end i = Each indexEntryBytes (index .entries) 5 out₀ at out end i
 
 abbrev μ-loop : tie.MeasureT-loop
 μ-loop out₀ at index end₀ i₀ out end i = 5 - i
 
 loop-holds : tie.Need-loop-holds Inv-loop μ-loop
-loop-holds c = each-none entryBytes (c .before .args .t3 .entries) _ _ (index-known (c .before .args .t3) (c .before .good .1 .1 .0) .places)
+loop-holds c = each-none indexEntryBytes (c .before .args .t3 .entries) _ _ (index-known (c .before .args .t3) (c .before .good .1 .1 .0) .places)
 
 mul-e : tie.Need-mul-e Inv-loop μ-loop
 mul-e c = search needs

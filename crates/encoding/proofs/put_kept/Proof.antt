@@ -3,7 +3,7 @@ use Prim.Native.Nat.{_-_}
 use native.Mathlib.Omega.{arith}
 use borrow.Author.Needs.{needs}
 use Rattle.layout.specs.Written.{indexedBytes}
-use Rattle.history.proofs.Known.{history-known}
+use Rattle.history.proofs.HistoryKnown.{history-known}
 use Rattle.encoding.proofs.Each.{Each, each-none, each-more, each-all}
 use Rattle.encoding.proofs.put_kept.Statement.{statement}
 use Rattle.encoding.proofs.put_kept.Tie as tie

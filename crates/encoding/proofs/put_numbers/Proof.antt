@@ -3,7 +3,7 @@ use Prim.Native.Nat.{_-_}
 use native.Mathlib.Omega.{arith}
 use borrow.Author.Needs.{needs}
 use Rattle.practice.specs.Practice.{bytes16}
-use Rattle.field.proofs.Known.{sequence-known}
+use Rattle.field.proofs.FieldKnown.{sequence-known}
 use Rattle.encoding.proofs.Each.{Each, each-none, each-more, each-all}
 use Rattle.encoding.proofs.put_numbers.Statement.{statement}
 use Rattle.encoding.proofs.put_numbers.Tie as tie
@@ -23,8 +23,8 @@ mul-n c = search needs
 element-copy-out-n : tie.Need-element-copy-out-n Inv-loop μ-loop
 element-copy-out-n c = search needs
 
-put-word-requires : tie.Need-put-word-requires Inv-loop μ-loop
-put-word-requires c κs = search needs
+put-number16-requires : tie.Need-put-number16-requires Inv-loop μ-loop
+put-number16-requires c κs = search needs
 
 add-i : tie.Need-add-i Inv-loop μ-loop
 add-i c = search needs
@@ -33,7 +33,7 @@ loop-less : tie.Need-loop-less Inv-loop μ-loop
 loop-less c = search needs
 
 loop-again : tie.Need-loop-again Inv-loop μ-loop
-loop-again c = let k = c .before .before in each-more _ (k .before .before .before .before .loop .inv) (omega arith) (k .put-word .ensures)
+loop-again c = let k = c .before .before in each-more _ (k .before .before .before .before .loop .inv) (omega arith) (k .put-number16 .ensures)
 
 same-length : tie.Need-same-length Inv-loop μ-loop
 same-length c = c .before .loop .inv .left .same
@@ -50,7 +50,7 @@ put-numbers-spec =
     loop-holds
     mul-n
     element-copy-out-n
-    put-word-requires
+    put-number16-requires
     add-i
     loop-less
     loop-again

@@ -3,7 +3,7 @@ use Prim.Native.Nat.{_-_}
 use native.Mathlib.Omega.{arith}
 use borrow.Author.Needs.{needs}
 use Rattle.layout.specs.Written.{aircraftBytes}
-use Rattle.field.proofs.Known.{zone-known}
+use Rattle.field.proofs.FieldKnown.{zone-known}
 use Rattle.encoding.proofs.Each.{Each, each-none, each-more, each-all}
 use Rattle.encoding.proofs.put_queue.Statement.{statement}
 use Rattle.encoding.proofs.put_queue.Tie as tie

@@ -3,7 +3,7 @@ use Prim.Native.Nat.{_-_}
 use native.Mathlib.Omega.{arith}
 use borrow.Author.Needs.{needs}
 use Rattle.layout.specs.Written.{zoneBytes}
-use Rattle.field.proofs.Known.{field-known}
+use Rattle.field.proofs.FieldKnown.{field-known}
 use Rattle.encoding.proofs.Each.{Each, each-none, each-more, each-all}
 use Rattle.encoding.proofs.put_zones.Statement.{statement}
 use Rattle.encoding.proofs.put_zones.Tie as tie

@@ -7,7 +7,7 @@ use lib.ListN.{length, drop-of-length-le}
 use borrow.Author.Needs.{needs}
 use Rattle.text.specs.Buffer.{Put}
 use Rattle.text.proofs.Texts.{put-whole}
-use Rattle.layout.proofs.Sizes.{state-size}
+use Rattle.layout.proofs.PartSizes.{state-size}
 use Rattle.layout.proofs.Owned.{history-held}
 use Rattle.encoding.proofs.store.Statement.{statement}
 use Rattle.encoding.proofs.store.Tie as tie

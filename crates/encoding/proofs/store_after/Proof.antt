@@ -1,7 +1,7 @@
 -- `encoding::store_after` meets its contract: the history after an accepted call is stored, and a refused one leaves the state. Assumes nothing.
 use mathlib.Core.Path.{sym, _∙_}
 use borrow.Author.Needs.{needs}
-use Rattle.encoding.proofs.Stored.{state-stored, state-left}
+use Rattle.encoding.proofs.StoredAfter.{state-stored, state-left}
 use Rattle.encoding.proofs.store_after.Statement.{statement}
 use Rattle.encoding.proofs.store_after.Tie as tie
 

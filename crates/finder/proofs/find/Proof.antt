@@ -6,9 +6,9 @@ use borrow.Author.Needs.{needs}
 use borrow.Author.Tests.{eq-eqb, ne-eqb}
 use native.Mathlib.Omega.{arith}
 use Rattle.field.proofs.Arrays.{Walked, next-of, walked-none, walked-more, walked-stop, walked-all}
-use Rattle.field.proofs.Tests.{if-true, if-false}
+use Rattle.field.proofs.TestLaws.{if-true, if-false}
 use Rattle.finder.specs.Finder.{foundAmong, foundIn}
-use Rattle.finder.proofs.Known.{index-known}
+use Rattle.finder.proofs.IndexKnown.{index-known}
 use Rattle.finder.proofs.find.Statement.{statement}
 use Rattle.finder.proofs.find.Tie as tie
 

@@ -1,7 +1,7 @@
 -- `finder::first_of` meets its contract: the definition takes the arm of the test. Assumes nothing.
 use mathlib.Core.Path.{sym, _∙_}
 use borrow.Author.Needs.{needs}
-use Rattle.field.proofs.Tests.{if-true, if-false}
+use Rattle.field.proofs.TestLaws.{if-true, if-false}
 use Rattle.finder.specs.Finder.{firstOf}
 use Rattle.finder.proofs.first_of.Statement.{statement}
 use Rattle.finder.proofs.first_of.Tie as tie

@@ -8,8 +8,8 @@ use lib.ListN.{length, getD, take}
 use borrow.Author.Needs.{needs}
 use Rattle.field.specs.declared.Zone.{Zone}
 use Rattle.field.specs.declared.Field.{Field}
-use Rattle.field.specs.Boxes.{zoneOf, queueOf, inZone}
-use Rattle.field.proofs.Known.{field-known}
+use Rattle.field.specs.Airspace.{zoneOf, queueOf, inZone}
+use Rattle.field.proofs.FieldKnown.{field-known}
 use Rattle.field.proofs.Shapes.{zone-read}
 use Rattle.finder.specs.declared.Entry.{Entry}
 use Rattle.finder.specs.declared.Index.{Index}

@@ -2,7 +2,7 @@
 use mathlib.Core.Path.{refl, sym, ap}
 use mathlib.Core.Bool.{not}
 use borrow.Author.Tests.{eq-eqb, ne-eqb}
-use Rattle.field.proofs.Parts.{and-then, and-cut, or-first, or-else}
+use Rattle.field.proofs.TestParts.{and-then, and-cut, or-first, or-else}
 use Rattle.finder.specs.Finder.{isBefore}
 use Rattle.finder.proofs.is_before.Statement.{statement}
 use Rattle.finder.proofs.is_before.Tie as tie

@@ -1,7 +1,7 @@
 -- `finder::same_entry` meets its contract: each test decides a part of the definition. Assumes nothing.
 use mathlib.Core.Path.{refl, sym}
 use borrow.Author.Tests.{eq-eqb, ne-eqb}
-use Rattle.field.proofs.Parts.{and-then, and-cut}
+use Rattle.field.proofs.TestParts.{and-then, and-cut}
 use Rattle.finder.specs.Finder.{sameEntry}
 use Rattle.finder.proofs.same_entry.Statement.{statement}
 use Rattle.finder.proofs.same_entry.Tie as tie

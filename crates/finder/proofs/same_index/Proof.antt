@@ -7,10 +7,10 @@ use lib.ListN.{length, getD, drop, drop-of-length-le}
 use borrow.Author.Needs.{needs}
 use native.Mathlib.Omega.{arith}
 use Rattle.field.proofs.Arrays.{next-of}
-use Rattle.field.proofs.Parts.{and-then, and-cut, holds, fails}
+use Rattle.field.proofs.TestParts.{and-then, and-cut, holds, fails}
 use Rattle.finder.specs.declared.Entry.{Entry}
 use Rattle.finder.specs.Finder.{sameEntry, sameEntries, sameIndex}
-use Rattle.finder.proofs.Known.{index-known}
+use Rattle.finder.proofs.IndexKnown.{index-known}
 use Rattle.finder.proofs.same_index.Statement.{statement}
 use Rattle.finder.proofs.same_index.Tie as tie
 

@@ -2,7 +2,7 @@
 use mathlib.Core.Path.{sym, _∙_}
 use borrow.Author.Needs.{needs}
 use borrow.Author.Tests.{eq-eqb, ne-eqb}
-use Rattle.field.proofs.Tests.{if-true, if-false}
+use Rattle.field.proofs.TestLaws.{if-true, if-false}
 use Rattle.finder.specs.Finder.{secondOf}
 use Rattle.finder.proofs.second_of.Statement.{statement}
 use Rattle.finder.proofs.second_of.Tie as tie

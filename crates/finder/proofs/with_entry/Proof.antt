@@ -2,7 +2,7 @@
 use Prim.Native.Nat.{_-_}
 use borrow.Author.Needs.{needs}
 use native.Mathlib.Omega.{arith}
-use Rattle.finder.proofs.Known.{index-known}
+use Rattle.finder.proofs.IndexKnown.{index-known}
 use Rattle.finder.proofs.Putting.{Putting, putting-none, putting-more, putting-all, putting-stop}
 use Rattle.finder.proofs.with_entry.Statement.{statement}
 use Rattle.finder.proofs.with_entry.Tie as tie

@@ -7,11 +7,11 @@ use borrow.Author.Needs.{needs}
 use native.Mathlib.Omega.{arith}
 use Rattle.field.specs.declared.Aircraft.{Aircraft}
 use Rattle.field.specs.declared.Zone.{Zone}
-use Rattle.field.specs.Boxes.{queueOf, queueLength}
-use Rattle.field.proofs.Known.{zone-known}
+use Rattle.field.specs.Airspace.{queueOf, queueLength}
+use Rattle.field.proofs.FieldKnown.{zone-known}
 use Rattle.field.proofs.Shapes.{queue-next, queue-fits}
 use Rattle.finder.specs.declared.Entry.{Entry}
-use Rattle.finder.specs.Finder.{put, putEach, entriesFrom}
+use Rattle.finder.specs.Finder.{putAmong, putEach, entriesFrom}
 use Rattle.finder.proofs.with_queue.Statement.{statement}
 use Rattle.finder.proofs.with_queue.Tie as tie
 
@@ -23,7 +23,7 @@ record Gathered (zone : ℕ) (q : Zone) (end : ℕ) (xs es : List Entry) (i : �
   pub rest : putEach (entriesFrom zone 1 (queueOf q)) xs ≡ putEach (entriesFrom zone (i + 1) (drop i (queueOf q))) es
 
 more : (zone : ℕ) (q : Zone) (end : ℕ) (xs es rs : List Entry) (i : ℕ) (d : Aircraft) → Gathered zone q end xs es i → i < end
-    → rs ≡ put (record { number = getD (q .aircraft) i d .number; zone = zone; place = i + 1 }) es → Gathered zone q end xs rs (i + 1)
+    → rs ≡ putAmong (record { number = getD (q .aircraft) i d .number; zone = zone; place = i + 1 }) es → Gathered zone q end xs rs (i + 1)
 more zone q end xs es rs i d g h made =
     let whole = g .whole in
     let next : suc (i + 1) ≡ i + 1 + 1 = omega arith in

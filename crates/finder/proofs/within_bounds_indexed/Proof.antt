@@ -1,7 +1,7 @@
 -- `finder::within_bounds_indexed` meets its contract: each test decides a part of the definition. Assumes nothing.
 use mathlib.Core.Path.{sym, ap, _∙_}
 use borrow.Author.Needs.{needs}
-use Rattle.field.proofs.Parts.{and-then, and-cut, holds, fails}
+use Rattle.field.proofs.TestParts.{and-then, and-cut, holds, fails}
 use Rattle.finder.specs.Finder.{sameIndex, withinBoundsIndexed}
 use Rattle.finder.proofs.within_bounds_indexed.Statement.{statement}
 use Rattle.finder.proofs.within_bounds_indexed.Tie as tie

@@ -1,7 +1,7 @@
 -- `bounds::bound_g` meets its contract, part by part. Assumes nothing.
 use mathlib.Core.Path.{sym}
 use Rattle.fits.specs.Fits.{boundG}
-use Rattle.field.proofs.Parts.{and-then, and-cut, holds, fails}
+use Rattle.field.proofs.TestParts.{and-then, and-cut, holds, fails}
 use borrow.Author.Needs.{needs}
 use Rattle.fits.proofs.bound_g.Statement.{statement}
 use Rattle.fits.proofs.bound_g.Tie as tie

@@ -5,9 +5,9 @@ use borrow.Author.Tests.{le-leb, lt-leb}
 use lib.Dec.{leb}
 use Rattle.limits.specs.Limits.{fastest, desks}
 use Rattle.leg.specs.Progress.{waitedWithin}
-use Rattle.field.specs.Boxes.{isSide}
+use Rattle.field.specs.Airspace.{isSide}
 use Rattle.fits.specs.Fits.{legFits, fitsZone}
-use Rattle.field.proofs.Parts.{and-then, and-cut, cond-then, cond-else, holds, fails}
+use Rattle.field.proofs.TestParts.{and-then, and-cut, cond-then, cond-else, holds, fails}
 use borrow.Author.Needs.{needs}
 use Rattle.fits.proofs.fits_zone.Statement.{statement}
 use Rattle.fits.proofs.fits_zone.Tie as tie

@@ -1,7 +1,7 @@
 -- `bounds::is_desk` meets its contract. Assumes nothing.
 use mathlib.Core.Path.{refl, sym}
 use borrow.Author.Tests.{le-leb, lt-leb}
-use Rattle.field.proofs.Parts.{and-then, and-cut}
+use Rattle.field.proofs.TestParts.{and-then, and-cut}
 use borrow.Author.Needs.{needs}
 use Rattle.fits.proofs.is_desk.Statement.{statement}
 use Rattle.fits.proofs.is_desk.Tie as tie

@@ -3,7 +3,7 @@ use mathlib.Core.Path.{sym, ap}
 use borrow.Author.Tests.{eq-eqb, ne-eqb}
 use lib.Ieee.{eq}
 use Rattle.fits.specs.Fits.{legFits}
-use Rattle.field.proofs.Parts.{or-first, or-else, cond-then, cond-else}
+use Rattle.field.proofs.TestParts.{or-first, or-else, cond-then, cond-else}
 use borrow.Author.Needs.{needs}
 use Rattle.fits.proofs.leg_fits.Statement.{statement}
 use Rattle.fits.proofs.leg_fits.Tie as tie

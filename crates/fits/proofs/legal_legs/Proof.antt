@@ -1,7 +1,7 @@
 -- `bounds::legal_legs` meets its contract, leg by leg. Assumes nothing.
 use mathlib.Core.Path.{sym}
 use Rattle.fits.specs.Fits.{legalLegs}
-use Rattle.field.proofs.Parts.{and-then, and-cut, holds, fails}
+use Rattle.field.proofs.TestParts.{and-then, and-cut, holds, fails}
 use borrow.Author.Needs.{needs}
 use Rattle.fits.proofs.legal_legs.Statement.{statement}
 use Rattle.fits.proofs.legal_legs.Tie as tie

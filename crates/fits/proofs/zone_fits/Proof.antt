@@ -2,12 +2,12 @@
 use mathlib.Core.Path.{_≡_, sym}
 use Prim.Native.Nat.{_-_, _≤_}
 use lib.ListN.{length}
-use Rattle.field.specs.Boxes.{queueOf, queueLength}
+use Rattle.field.specs.Airspace.{queueOf, queueLength}
 use Rattle.field.specs.Lists.{every}
 use Rattle.fits.specs.Fits.{fitsZone}
-use Rattle.field.proofs.Parts.{holds, fails, each-more, each-not}
+use Rattle.field.proofs.TestParts.{holds, fails, each-more, each-not}
 use Rattle.field.proofs.Arrays.{Walked, walked-none, walked-all}
-use Rattle.field.proofs.Known.{zone-known}
+use Rattle.field.proofs.FieldKnown.{zone-known}
 use Rattle.field.proofs.Shapes.{queue-next, queue-fits}
 use borrow.Author.Needs.{needs}
 use native.Mathlib.Omega.{arith}

@@ -4,12 +4,12 @@ use mathlib.Core.Bool.{Bool}
 use Prim.Native.Nat.{ℕ, _-_}
 use Rattle.field.specs.declared.Field.{Field}
 use Rattle.field.specs.declared.Zone.{Zone}
-use Rattle.field.specs.Boxes.{queueOf, inZone}
+use Rattle.field.specs.Airspace.{queueOf, inZone}
 use Rattle.field.specs.Lists.{every}
 use Rattle.fits.specs.Fits.{fitsZone}
-use Rattle.field.proofs.Known.{field-known}
+use Rattle.field.proofs.FieldKnown.{field-known}
 use Rattle.field.proofs.Shapes.{zone-read}
-use Rattle.field.proofs.Parts.{holds, fails, Passed, passed-none, passed-more, passed-not, passed-all}
+use Rattle.field.proofs.TestParts.{holds, fails, Passed, passed-none, passed-more, passed-not, passed-all}
 use borrow.Author.Needs.{needs}
 use native.Mathlib.Omega.{arith}
 use Rattle.fits.proofs.zones_fit.Statement.{statement}

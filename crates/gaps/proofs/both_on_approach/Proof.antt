@@ -1,7 +1,7 @@
 -- `gaps::both_on_approach` meets its contract, by that of `on_approach`. Assumes nothing.
 use mathlib.Core.Path.{sym, _∙_}
 use borrow.Author.Needs.{needs}
-use Rattle.field.proofs.Parts.{and-then, and-cut}
+use Rattle.field.proofs.TestParts.{and-then, and-cut}
 use Rattle.gaps.proofs.both_on_approach.Statement.{statement}
 use Rattle.gaps.proofs.both_on_approach.Tie as tie
 

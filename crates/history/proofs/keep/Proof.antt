@@ -5,11 +5,11 @@ use Prim.Native.Nat.{_-_}
 use native.Mathlib.Omega.{arith}
 use borrow.Author.Needs.{needs}
 use borrow.Author.Tests.{lt-ltb, le-ltb}
-use Rattle.field.proofs.Tests.{if-true, if-false}
+use Rattle.field.proofs.TestLaws.{if-true, if-false}
 use Rattle.finder.specs.declared.Indexed.{Indexed}
 use Rattle.history.specs.History.{keeping}
-use Rattle.history.proofs.Known.{history-known}
-use Rattle.history.proofs.Moved.{Moving, moving-none, moving-more, moving-all}
+use Rattle.history.proofs.HistoryKnown.{history-known}
+use Rattle.history.proofs.MovedUp.{Moving, moving-none, moving-more, moving-all}
 use Rattle.history.proofs.keep.Statement.{statement}
 use Rattle.history.proofs.keep.Tie as tie
 

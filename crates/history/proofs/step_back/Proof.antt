@@ -7,17 +7,17 @@ use lib.ListN.{getD}
 use borrow.Author.Needs.{needs}
 use borrow.Author.Tests.{lt-ltb, le-ltb}
 use Rattle.request.specs.Input.{within}
-use Rattle.request.proofs.Tests.{within-yes, within-below, within-above}
-use Rattle.field.proofs.Parts.{holds, fails}
+use Rattle.request.proofs.InputTests.{within-yes, within-below, within-above}
+use Rattle.field.proofs.TestParts.{holds, fails}
 use Rattle.rules.specs.declared.Answer.{Answer}
 use Rattle.rules.specs.Step.{numberAndZeros}
 use Rattle.finder.specs.declared.Indexed.{Indexed}
 use Rattle.history.specs.declared.History.{History}
 use Rattle.history.specs.declared.SteppedHistory.{SteppedHistory}
 use Rattle.history.specs.History.{withinBoundsHistory, givenBack}
-use Rattle.history.proofs.Known.{history-known}
-use Rattle.history.proofs.Kept.{read-any}
-use Rattle.history.proofs.Numbers.{few-kept, back-turned-away, back-let-through, number-31, number-10, number-27, number-0}
+use Rattle.history.proofs.HistoryKnown.{history-known}
+use Rattle.history.proofs.KeptTested.{read-any}
+use Rattle.history.proofs.StepNumbers.{few-kept, back-turned-away, back-let-through, number-31, number-10, number-27, number-0}
 use Rattle.history.proofs.step_back.Statement.{statement}
 use Rattle.history.proofs.step_back.Tie as tie
 

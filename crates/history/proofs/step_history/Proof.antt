@@ -4,9 +4,9 @@ use native.Mathlib.Omega.{arith}
 use mathlib.Core.Bool.{true}
 use borrow.Author.Needs.{needs}
 use Rattle.request.specs.Input.{inputNumber}
-use Rattle.field.proofs.Parts.{holds, fails}
+use Rattle.field.proofs.TestParts.{holds, fails}
 use Rattle.history.specs.History.{keptWithinBounds}
-use Rattle.history.proofs.Numbers.{turned-away, number-input, number-kept, number-stepped, through-stepped}
+use Rattle.history.proofs.StepNumbers.{turned-away, number-input, number-kept, number-stepped, through-stepped}
 use Rattle.history.proofs.step_history.Statement.{statement}
 use Rattle.history.proofs.step_history.Tie as tie
 

@@ -1,7 +1,7 @@
 -- `history::within_bounds_history` meets its contract: each test decides a part of the definition. Assumes nothing.
 use mathlib.Core.Path.{sym}
 use borrow.Author.Needs.{needs}
-use Rattle.field.proofs.Parts.{and-then, and-cut, holds, fails}
+use Rattle.field.proofs.TestParts.{and-then, and-cut, holds, fails}
 use Rattle.history.specs.History.{withinBoundsHistory}
 use Rattle.history.proofs.within_bounds_history.Statement.{statement}
 use Rattle.history.proofs.within_bounds_history.Tie as tie

@@ -4,12 +4,12 @@ use denote.Ref.{now}
 use borrow.Author.Needs.{needs}
 use Rattle.history.specs.declared.SteppedHistory.{SteppedHistory}
 use Rattle.replies.specs.Replies.{answerNumbers}
-use Rattle.host.proofs.Stored.{asked, after-step}
+use Rattle.host.proofs.CallsOnState.{asked, after-step}
 use Rattle.host.proofs.baguymo_host_ask.Statement.{statement}
 use Rattle.host.proofs.baguymo_host_ask.Tie as tie
 
-history-of-requires : tie.Need-history-of-requires
-history-of-requires c κs = search needs
+read-history-requires : tie.Need-read-history-requires
+read-history-requires c κs = search needs
 
 step-history-requires : tie.Need-step-history-requires
 step-history-requires c κs = search needs
@@ -25,7 +25,7 @@ returns c =
     let n = c .before .before in
     let k = n .before .before in
     let state = now (k .before .before .before .args .state) in
-    let e = asked state _ (k .step-history .ensures) (k .before .history-of .ensures) in (
+    let e = asked state _ (k .step-history .ensures) (k .before .read-history .ensures) in (
       ap (λ (s : SteppedHistory). s .answer .number) e,
       (n .answer-numbers .ensures ∙ ap (λ (s : SteppedHistory). answerNumbers (s .answer)) e, c .store-after .ensures ∙ after-step state e),
     )
@@ -34,7 +34,7 @@ pub baguymo-host-ask-spec : {M : Type 1} → statement M
 baguymo-host-ask-spec =
     tie.close
     (tie.spec
-    history-of-requires
+    read-history-requires
     step-history-requires
     answer-numbers-requires
     store-after-requires

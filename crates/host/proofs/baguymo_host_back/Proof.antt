@@ -3,12 +3,12 @@ use mathlib.Core.Path.{_≡_, ap, _∙_}
 use denote.Ref.{now}
 use borrow.Author.Needs.{needs}
 use Rattle.history.specs.declared.SteppedHistory.{SteppedHistory}
-use Rattle.host.proofs.Stored.{stepped-back, after-step}
+use Rattle.host.proofs.CallsOnState.{stepped-back, after-step}
 use Rattle.host.proofs.baguymo_host_back.Statement.{statement}
 use Rattle.host.proofs.baguymo_host_back.Tie as tie
 
-history-of-requires : tie.Need-history-of-requires
-history-of-requires c κs = search needs
+read-history-requires : tie.Need-read-history-requires
+read-history-requires c κs = search needs
 
 step-back-requires : tie.Need-step-back-requires
 step-back-requires c κs = search needs
@@ -20,9 +20,9 @@ returns : tie.Need-returns
 returns c =
     let k = c .before .before .before in
     let state = now (k .before .before .before .args .state) in
-    let e = stepped-back state _ (k .step-back .ensures) (k .before .history-of .ensures) in
+    let e = stepped-back state _ (k .step-back .ensures) (k .before .read-history .ensures) in
     (ap (λ (s : SteppedHistory). s .answer .number) e, c .store-after .ensures ∙ after-step state e)
 
 pub baguymo-host-back-spec : {M : Type 1} → statement M
 baguymo-host-back-spec =
-    tie.close (tie.spec history-of-requires step-back-requires store-after-requires returns)
+    tie.close (tie.spec read-history-requires step-back-requires store-after-requires returns)

@@ -9,8 +9,8 @@ use Rattle.host.specs.Calls.{builtState}
 use Rattle.host.proofs.baguymo_host_field.Statement.{statement}
 use Rattle.host.proofs.baguymo_host_field.Tie as tie
 
-field-of-requires : tie.Need-field-of-requires
-field-of-requires c κs = search needs
+field-of-list-requires : tie.Need-field-of-list-requires
+field-of-list-requires c κs = search needs
 
 start-with-requires : tie.Need-start-with-requires
 start-with-requires c κs = search needs
@@ -22,11 +22,11 @@ returns : tie.Need-returns
 returns c =
     let k = c .before .before .before in
     let state = now (k .before .before .args .state) in
-    let e = k .field-of .ensures in (
+    let e = k .field-of-list .ensures in (
       ap (λ (b : Built). b .number) e,
-      c .store-after .ensures ∙ ap (λ (h : History). stateAfter state (k .field-of .result .number) h) (c .before .start-with .ensures) ∙ ap (builtState state) e,
+      c .store-after .ensures ∙ ap (λ (h : History). stateAfter state (k .field-of-list .result .number) h) (c .before .start-with .ensures) ∙ ap (builtState state) e,
     )
 
 pub baguymo-host-field-spec : {M : Type 1} → statement M
 baguymo-host-field-spec =
-    tie.close (tie.spec field-of-requires start-with-requires store-after-requires returns)
+    tie.close (tie.spec field-of-list-requires start-with-requires store-after-requires returns)

@@ -1,10 +1,10 @@
 -- `host::baguymo_host_start` meets its contract: 7, or the state of the start. Assumes nothing.
 use mathlib.Core.Path.{ap, _∙_}
 use borrow.Author.Needs.{needs}
-use Rattle.field.proofs.Parts.{holds, fails}
+use Rattle.field.proofs.TestParts.{holds, fails}
 use Rattle.history.specs.History.{startOf}
 use Rattle.layout.specs.Written.{historyBytes}
-use Rattle.host.proofs.Stored.{start-refused, start-stored}
+use Rattle.host.proofs.CallsOnState.{start-refused, start-stored}
 use Rattle.host.proofs.baguymo_host_start.Statement.{statement}
 use Rattle.host.proofs.baguymo_host_start.Tie as tie
 

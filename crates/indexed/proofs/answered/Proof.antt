@@ -5,13 +5,13 @@ use Prim.Native.Nat.{ℕ}
 use lib.Dec.{T, eqb}
 use borrow.Author.Tests.{eq-eqb, ne-eqb}
 use Rattle.field.specs.declared.Field.{Field}
-use Rattle.field.proofs.Tests.{if-true, if-false}
+use Rattle.field.proofs.TestLaws.{if-true, if-false}
 use Rattle.questions.specs.declared.Place.{Place}
 use Rattle.questions.specs.Find.{placeOf}
 use Rattle.bounds.specs.Bounds.{withinBounds}
 use Rattle.finder.specs.declared.Index.{Index}
 use Rattle.finder.specs.Finder.{indexOf, foundIn}
-use Rattle.finder.proofs.Theorems.{found-as-looked}
+use Rattle.finder.proofs.IndexLaws.{found-as-looked}
 use Rattle.rules.specs.declared.Answer.{Answer}
 use Rattle.rules.specs.Step.{numberAndZeros, acceptance}
 use borrow.Author.Needs.{needs}

@@ -12,26 +12,26 @@ use Rattle.leg.specs.Ticks.{Between}
 use Rattle.request.specs.Input.{firstRefused}
 use Rattle.request.specs.declared.Request.{Request}
 use Rattle.field.specs.declared.Field.{Field}
-use Rattle.field.specs.Boxes.{base, opposite}
-use Rattle.field.proofs.Parts.{is-not, holds, fails}
-use Rattle.field.proofs.Tests.{decided, pass, passed, if-true, if-false}
+use Rattle.field.specs.Airspace.{base, opposite}
+use Rattle.field.proofs.TestParts.{is-not, holds, fails}
+use Rattle.field.proofs.TestLaws.{decided, pass, passed, if-true, if-false}
 use Rattle.questions.specs.declared.Place.{Place}
 use Rattle.questions.specs.Counts.{howMany}
 use Rattle.bounds.specs.Bounds.{withinBounds}
 use Rattle.finder.specs.declared.Entry.{Entry}
 use Rattle.finder.specs.Finder.{indexOf}
-use Rattle.finder.proofs.Theorems.{indexed-as-looked}
+use Rattle.finder.proofs.IndexLaws.{indexed-as-looked}
 use Rattle.rules.specs.Kinds.{placeBefore}
 use Rattle.rules.specs.Step.{checksOf, effectOf, numberOf, numberAndZeros, acceptanceOn, alongFor, answerOf}
-use Rattle.step.proofs.Steps.{number-by, checked, effected}
+use Rattle.step.proofs.StepsByTests.{number-by, checked, effected}
 use borrow.Author.Needs.{needs}
 use Rattle.indexed.specs.declared.AnswerAndIndex.{AnswerAndIndex}
 use Rattle.indexed.specs.declared.SteppedIndexed.{SteppedIndexed}
 use Rattle.indexed.specs.Indexed.{withIndex, numberIndexed}
-use Rattle.indexed.proofs.Steps.{turned-away, let-through, number-within, field-within, asked-found, tick-leaves}
+use Rattle.indexed.proofs.StepsIndexed.{turned-away, let-through, number-within, field-within, asked-found, tick-leaves}
 use Rattle.kept_up.specs.KeptUp.{keptUp}
 use Rattle.kept_up.proofs.Leads.{of-side, leads-within}
-use Rattle.indexed.proofs.Kept.{IndexedKnown, indexed-known, length-there, length-at, few-there, fix-there, kept-up-after}
+use Rattle.indexed.proofs.IndexAfter.{IndexedKnown, indexed-known, length-there, length-at, few-there, fix-there, kept-up-after}
 use Rattle.indexed.proofs.step_by_index.Statement.{statement}
 use Rattle.indexed.proofs.step_by_index.Tie as tie
 

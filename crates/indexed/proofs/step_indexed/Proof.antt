@@ -3,10 +3,10 @@ use mathlib.Core.Path.{_≡_, sym, _∙_}
 use mathlib.Core.Bool.{true, false, true≢false}
 use native.Mathlib.Omega.{arith}
 use Rattle.request.specs.Input.{inputNumber}
-use Rattle.field.proofs.Parts.{holds, fails}
-use Rattle.field.proofs.Tests.{pass}
+use Rattle.field.proofs.TestParts.{holds, fails}
+use Rattle.field.proofs.TestLaws.{pass}
 use borrow.Author.Needs.{needs}
-use Rattle.indexed.proofs.Steps.{turned-away, number-input, number-10}
+use Rattle.indexed.proofs.StepsIndexed.{turned-away, number-input, number-10}
 use Rattle.indexed.proofs.step_indexed.Statement.{statement}
 use Rattle.indexed.proofs.step_indexed.Tie as tie
 

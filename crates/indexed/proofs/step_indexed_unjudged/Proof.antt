@@ -3,10 +3,10 @@ use mathlib.Core.Path.{_≡_, sym, _∙_}
 use mathlib.Core.Logic.{inl, inr}
 use mathlib.Core.Bool.{true}
 use Rattle.request.specs.Input.{inputNumber}
-use Rattle.field.proofs.Tests.{decided, pass}
+use Rattle.field.proofs.TestLaws.{decided, pass}
 use Rattle.finder.specs.Finder.{withinBoundsIndexed}
 use borrow.Author.Needs.{needs}
-use Rattle.indexed.proofs.Steps.{turned-away, number-input, number-10, number-within}
+use Rattle.indexed.proofs.StepsIndexed.{turned-away, number-input, number-10, number-within}
 use Rattle.indexed.proofs.step_indexed_unjudged.Statement.{statement}
 use Rattle.indexed.proofs.step_indexed_unjudged.Tie as tie
 

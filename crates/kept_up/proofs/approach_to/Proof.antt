@@ -3,9 +3,9 @@ use mathlib.Core.Path.{sym, ap, _∙_}
 use Prim.Native.Nat.{ℕ, _+_}
 use borrow.Author.Needs.{needs}
 use borrow.Author.Tests.{le-leb, lt-leb}
-use Rattle.request.proofs.Tests.{within-yes, within-below, within-above}
-use Rattle.field.proofs.Parts.{and-then, and-cut, holds, fails}
-use Rattle.field.proofs.Tests.{if-true, if-false}
+use Rattle.request.proofs.InputTests.{within-yes, within-below, within-above}
+use Rattle.field.proofs.TestParts.{and-then, and-cut, holds, fails}
+use Rattle.field.proofs.TestLaws.{if-true, if-false}
 use Rattle.kept_up.specs.KeptUp.{approachTo}
 use Rattle.kept_up.proofs.approach_to.Statement.{statement}
 use Rattle.kept_up.proofs.approach_to.Tie as tie

@@ -3,7 +3,7 @@ use mathlib.Core.Path.{sym, ap, _∙_}
 use mathlib.Core.List.{List}
 use borrow.Author.Needs.{needs}
 use borrow.Author.Tests.{eq-eqb, ne-eqb}
-use Rattle.field.proofs.Tests.{if-true, if-false}
+use Rattle.field.proofs.TestLaws.{if-true, if-false}
 use Rattle.finder.specs.declared.Entry.{Entry}
 use Rattle.kept_up.proofs.arrived_at.Statement.{statement}
 use Rattle.kept_up.proofs.arrived_at.Tie as tie

@@ -2,7 +2,7 @@
 use mathlib.Core.Path.{sym}
 use native.Mathlib.Omega.{arith}
 use borrow.Author.Tests.{eq-eqb, ne-eqb}
-use Rattle.field.proofs.Tests.{if-true, if-false}
+use Rattle.field.proofs.TestLaws.{if-true, if-false}
 use Rattle.kept_up.specs.KeptUp.{descendedEntry}
 use Rattle.kept_up.proofs.descended_entry.Statement.{statement}
 use Rattle.kept_up.proofs.descended_entry.Tie as tie

@@ -2,7 +2,7 @@
 use mathlib.Core.Path.{sym, _∙_}
 use borrow.Author.Needs.{needs}
 use borrow.Author.Tests.{eq-eqb, ne-eqb}
-use Rattle.field.proofs.Tests.{if-true, if-false}
+use Rattle.field.proofs.TestLaws.{if-true, if-false}
 use Rattle.kept_up.specs.KeptUp.{holdTo}
 use Rattle.kept_up.proofs.hold_to.Statement.{statement}
 use Rattle.kept_up.proofs.hold_to.Tie as tie

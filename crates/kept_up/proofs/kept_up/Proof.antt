@@ -3,7 +3,7 @@ use mathlib.Core.Path.{sym, ap, _∙_}
 use native.Mathlib.Omega.{arith}
 use borrow.Author.Needs.{needs}
 use borrow.Author.Tests.{eq-eqb, ne-eqb, lt-ltb, le-ltb}
-use Rattle.field.proofs.Tests.{if-true, if-false}
+use Rattle.field.proofs.TestLaws.{if-true, if-false}
 use Rattle.finder.specs.declared.Index.{Index}
 use Rattle.finder.specs.Finder.{unused}
 use Rattle.kept_up.specs.KeptUp.{movedEntries, arrivedAt, keptUp}

@@ -5,7 +5,7 @@ use Prim.Native.Nat.{ℕ, _+_}
 use lib.Dec.{eqb}
 use borrow.Author.Needs.{needs}
 use borrow.Author.Tests.{ne-eqb}
-use Rattle.field.proofs.Tests.{if-false}
+use Rattle.field.proofs.TestLaws.{if-false}
 use Rattle.kept_up.specs.KeptUp.{holdTo, leadsTo}
 use Rattle.kept_up.proofs.leads_to.Statement.{statement}
 use Rattle.kept_up.proofs.leads_to.Tie as tie

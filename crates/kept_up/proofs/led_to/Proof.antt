@@ -1,8 +1,8 @@
 -- `kept_up::led_to` meets its contract: the kind is in the range or not. Assumes nothing.
 use mathlib.Core.Path.{sym, ap, _∙_}
 use Prim.Native.Nat.{ℕ}
-use Rattle.request.proofs.Tests.{within-yes, within-below, within-above}
-use Rattle.field.proofs.Tests.{if-true, if-false}
+use Rattle.request.proofs.InputTests.{within-yes, within-below, within-above}
+use Rattle.field.proofs.TestLaws.{if-true, if-false}
 use native.Mathlib.Omega.{arith}
 use borrow.Author.Needs.{needs}
 use Rattle.kept_up.specs.KeptUp.{ledTo}

@@ -2,8 +2,8 @@
 use mathlib.Core.Path.{sym, _∙_}
 use borrow.Author.Needs.{needs}
 use borrow.Author.Tests.{eq-eqb, ne-eqb, lt-ltb, le-ltb}
-use Rattle.field.proofs.Parts.{and-then, and-cut}
-use Rattle.field.proofs.Tests.{if-true, if-false}
+use Rattle.field.proofs.TestParts.{and-then, and-cut}
+use Rattle.field.proofs.TestLaws.{if-true, if-false}
 use Rattle.kept_up.specs.KeptUp.{movedEntry}
 use Rattle.kept_up.proofs.moved_entry.Statement.{statement}
 use Rattle.kept_up.proofs.moved_entry.Tie as tie

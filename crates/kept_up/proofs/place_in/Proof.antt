@@ -1,7 +1,7 @@
 -- `kept_up::place_in` meets its contract: the definition takes the arms of the test. Assumes nothing.
 use mathlib.Core.Path.{sym}
 use borrow.Author.Tests.{lt-ltb, le-ltb}
-use Rattle.field.proofs.Tests.{if-true, if-false}
+use Rattle.field.proofs.TestLaws.{if-true, if-false}
 use Rattle.kept_up.specs.KeptUp.{placeIn}
 use Rattle.kept_up.proofs.place_in.Statement.{statement}
 use Rattle.kept_up.proofs.place_in.Tie as tie

@@ -6,11 +6,11 @@ use native.Mathlib.Omega.{arith}
 use borrow.Author.Needs.{needs}
 use borrow.Author.Tests.{eq-eqb, ne-eqb}
 use lib.ListN.{length, getD}
-use Rattle.field.proofs.Tests.{if-true, if-false}
+use Rattle.field.proofs.TestLaws.{if-true, if-false}
 use Rattle.finder.specs.declared.Entry.{Entry}
 use Rattle.finder.specs.declared.Index.{Index}
 use Rattle.finder.specs.Finder.{unused}
-use Rattle.finder.proofs.Known.{index-known}
+use Rattle.finder.proofs.IndexKnown.{index-known}
 use Rattle.kept_up.specs.KeptUp.{without}
 use Rattle.kept_up.proofs.without.Statement.{statement}
 use Rattle.kept_up.proofs.without.Tie as tie

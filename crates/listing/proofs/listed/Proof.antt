@@ -6,7 +6,7 @@ use native.Mathlib.Omega.{arith}
 use denote.Ref.{now}
 use borrow.Author.Needs.{needs}
 use borrow.Author.Tests.{eq-eqb, ne-eqb}
-use Rattle.field.proofs.Tests.{if-true, if-false}
+use Rattle.field.proofs.TestLaws.{if-true, if-false}
 use Rattle.practice.specs.File.{fileNumber}
 use Rattle.playing.specs.declared.Played.{Played}
 use Rattle.playing.specs.Playing.{playedOf, fieldOfFile}
@@ -14,8 +14,8 @@ use Rattle.indexed.specs.Indexed.{withIndex}
 use Rattle.session.specs.Report.{refusedReport}
 use Rattle.dialect.specs.Going.{listOf}
 use Rattle.listing.specs.Report.{listReport, listedOf}
-use Rattle.listing.proofs.Known.{listing-known}
-use Rattle.listing.proofs.Sizes.{ends, refused-file-short, list-short}
+use Rattle.listing.proofs.ListingKnown.{listing-known}
+use Rattle.listing.proofs.ListReportSizes.{ends, refused-file-short, list-short}
 use Rattle.listing.proofs.listed.Statement.{statement}
 use Rattle.listing.proofs.listed.Tie as tie
 

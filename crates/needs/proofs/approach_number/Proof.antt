@@ -2,9 +2,9 @@
 use mathlib.Core.Path.{refl, ap, _∙_, _≡_, sym, ap, _∙_}
 use mathlib.Core.Bool.{false}
 use Rattle.request.specs.Input.{within}
-use Rattle.field.proofs.Parts.{or-first, or-else, holds, fails}
+use Rattle.field.proofs.TestParts.{or-first, or-else, holds, fails}
 use Rattle.rules.specs.Kinds.{baseFree}
-use Rattle.field.proofs.Tests.{if-true, if-false}
+use Rattle.field.proofs.TestLaws.{if-true, if-false}
 use Rattle.needs.proofs.Unmet.{one-need}
 use borrow.Author.Needs.{needs}
 use Rattle.needs.proofs.approach_number.Statement.{statement}

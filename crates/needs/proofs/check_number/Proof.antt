@@ -8,7 +8,7 @@ use Rattle.request.specs.Input.{firstRefused}
 use Rattle.request.specs.declared.Request.{Request}
 use Rattle.field.specs.declared.Field.{Field}
 use Rattle.questions.specs.declared.Place.{Place}
-use Rattle.field.proofs.Tests.{if-true, if-false}
+use Rattle.field.proofs.TestLaws.{if-true, if-false}
 use Rattle.rules.specs.Kinds.{belongsTo, presenceChecks}
 use Rattle.rules.specs.Step.{needsFor, checksFor}
 use Rattle.rules.proofs.Checks.{refused-append, presence-refuses}

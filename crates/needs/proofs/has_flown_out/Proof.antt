@@ -1,6 +1,6 @@
 -- `needs::has_flown_out` meets its contract. Assumes nothing.
 use mathlib.Core.Path.{ap, _∙_}
-use Rattle.field.specs.Boxes.{legFlownOut}
+use Rattle.field.specs.Airspace.{legFlownOut}
 use borrow.Author.Needs.{needs}
 use Rattle.needs.proofs.has_flown_out.Statement.{statement}
 use Rattle.needs.proofs.has_flown_out.Tie as tie

@@ -3,8 +3,8 @@ use mathlib.Core.Path.{refl, _≡_, sym, ap, _∙_}
 use mathlib.Core.Bool.{true, not}
 use lib.Dec.{eqb}
 use borrow.Author.Tests.{not-true, not-false}
-use Rattle.field.proofs.Parts.{is, is-not, holds, fails}
-use Rattle.field.proofs.Tests.{if-true, if-false}
+use Rattle.field.proofs.TestParts.{is, is-not, holds, fails}
+use Rattle.field.proofs.TestLaws.{if-true, if-false}
 use borrow.Author.Needs.{needs}
 use Rattle.needs.proofs.head_number.Statement.{statement}
 use Rattle.needs.proofs.head_number.Tie as tie

@@ -1,7 +1,7 @@
 -- `needs::is_lateral` meets its contract: the zone is in the range or not. Assumes nothing.
 use mathlib.Core.Path.{sym}
 use native.Mathlib.Omega.{arith}
-use Rattle.request.proofs.Tests.{within-yes, within-below, within-above}
+use Rattle.request.proofs.InputTests.{within-yes, within-below, within-above}
 use Rattle.needs.proofs.is_lateral.Statement.{statement}
 use Rattle.needs.proofs.is_lateral.Tie as tie
 

@@ -1,7 +1,7 @@
 -- `needs::may_approach` meets its contract: the leader's zone is in the range or not. Assumes nothing.
 use mathlib.Core.Path.{sym, _∙_}
-use Rattle.request.proofs.Tests.{within-yes, within-below, within-above}
-use Rattle.field.proofs.Parts.{or-first, or-else}
+use Rattle.request.proofs.InputTests.{within-yes, within-below, within-above}
+use Rattle.field.proofs.TestParts.{or-first, or-else}
 use Rattle.rules.specs.Kinds.{mayApproach}
 use native.Mathlib.Omega.{arith}
 use borrow.Author.Needs.{needs}

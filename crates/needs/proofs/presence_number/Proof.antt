@@ -3,7 +3,7 @@ use mathlib.Core.Path.{refl, sym, ap, _∙_}
 use lib.Dec.{eqb}
 use borrow.Author.Tests.{eq-eqb, ne-eqb}
 use Rattle.request.specs.Input.{firstRefused}
-use Rattle.field.proofs.Tests.{if-true, if-false}
+use Rattle.field.proofs.TestLaws.{if-true, if-false}
 use Rattle.needs.proofs.Unmet.{one-need}
 use borrow.Author.Needs.{needs}
 use Rattle.needs.proofs.presence_number.Statement.{statement}

@@ -6,7 +6,7 @@ use native.Mathlib.Omega.{arith}
 use lib.Dec.{ltb}
 use borrow.Author.Tests.{lt-ltb, le-ltb}
 use Rattle.questions.specs.Counts.{potentialOf}
-use Rattle.field.proofs.Tests.{if-true, if-false}
+use Rattle.field.proofs.TestLaws.{if-true, if-false}
 use borrow.Author.Needs.{needs}
 use Rattle.needs.proofs.vertical_number.Statement.{statement}
 use Rattle.needs.proofs.vertical_number.Tie as tie

@@ -1,7 +1,7 @@
 -- `needs::with_need` meets its contract, test by test. Assumes nothing.
 use mathlib.Core.Path.{sym, _∙_}
 use borrow.Author.Tests.{eq-eqb, ne-eqb}
-use Rattle.field.proofs.Tests.{if-true, if-false}
+use Rattle.field.proofs.TestLaws.{if-true, if-false}
 use Rattle.needs.proofs.with_need.Statement.{statement}
 use Rattle.needs.proofs.with_need.Tie as tie
 

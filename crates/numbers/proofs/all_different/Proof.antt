@@ -6,7 +6,7 @@ use Prim.Native.Nat.{ℕ, _+_, _-_}
 use lib.ListN.{length, getD, take, drop, length-drop}
 use lib.Seq.{take-all}
 use Rattle.field.specs.Lists.{isIn, allDifferent}
-use Rattle.field.proofs.Parts.{and-then, and-cut}
+use Rattle.field.proofs.TestParts.{and-then, and-cut}
 use Rattle.field.proofs.Arrays.{Walked, next-of, walked-none, walked-more, walked-stop, walked-all}
 use borrow.Author.Needs.{needs}
 use native.Mathlib.Omega.{arith}

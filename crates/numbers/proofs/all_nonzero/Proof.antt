@@ -5,7 +5,7 @@ use Prim.Native.Nat.{ℕ, _-_}
 use lib.Dec.{eqb}
 use borrow.Author.Tests.{eq-eqb, ne-eqb}
 use Rattle.field.specs.Lists.{every}
-use Rattle.field.proofs.Parts.{each-more, each-not}
+use Rattle.field.proofs.TestParts.{each-more, each-not}
 use Rattle.field.proofs.Arrays.{Walked, next-of, walked-none, walked-all}
 use borrow.Author.Needs.{needs}
 use native.Mathlib.Omega.{arith}

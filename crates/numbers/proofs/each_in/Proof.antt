@@ -4,7 +4,7 @@ use mathlib.Core.Bool.{Bool}
 use mathlib.Core.List.{List}
 use Prim.Native.Nat.{ℕ, _-_}
 use Rattle.field.specs.Lists.{isIn, every}
-use Rattle.field.proofs.Parts.{holds, fails, each-more, each-not}
+use Rattle.field.proofs.TestParts.{holds, fails, each-more, each-not}
 use Rattle.field.proofs.Arrays.{Walked, next-of, walked-none, walked-all}
 use borrow.Author.Needs.{needs}
 use native.Mathlib.Omega.{arith}

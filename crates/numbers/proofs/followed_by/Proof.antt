@@ -8,10 +8,10 @@ use lib.ListN.{length, getD, take, set, length-set}
 use lib.Seq.{take-suc, take-suc-set, take-all}
 use Rattle.field.specs.declared.Aircraft.{Aircraft}
 use Rattle.field.specs.declared.Zone.{Zone}
-use Rattle.field.specs.Boxes.{queueOf, queueLength}
-use Rattle.field.proofs.Known.{zone-known}
+use Rattle.field.specs.Airspace.{queueOf, queueLength}
+use Rattle.field.proofs.FieldKnown.{zone-known}
 use Rattle.field.proofs.Shapes.{queue-fits, queue-read}
-use Rattle.numbers.proofs.Known.{numbers-known}
+use Rattle.numbers.proofs.NumbersKnown.{numbers-known}
 use borrow.Author.Needs.{needs}
 use native.Mathlib.Omega.{arith}
 use Rattle.numbers.proofs.followed_by.Statement.{statement}

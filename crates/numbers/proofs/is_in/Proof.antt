@@ -3,7 +3,7 @@ use mathlib.Core.Path.{sym, refl}
 use Prim.Native.Nat.{_-_}
 use borrow.Author.Tests.{eq-eqb, ne-eqb}
 use Rattle.field.specs.Lists.{isIn}
-use Rattle.field.proofs.Parts.{or-first, or-else}
+use Rattle.field.proofs.TestParts.{or-first, or-else}
 use Rattle.field.proofs.Arrays.{Walked, next-of, walked-none, walked-more, walked-stop, walked-all}
 use borrow.Author.Needs.{needs}
 use native.Mathlib.Omega.{arith}

@@ -6,8 +6,8 @@ use lib.Dec.{eqb}
 use lib.ListN.{length}
 use Rattle.field.specs.Lists.{every, allDifferent}
 use Rattle.numbers.specs.Numbers.{numbersDiffer}
-use Rattle.field.proofs.Parts.{and-then, and-cut, holds, fails}
-use Rattle.numbers.proofs.Known.{numbers-known}
+use Rattle.field.proofs.TestParts.{and-then, and-cut, holds, fails}
+use Rattle.numbers.proofs.NumbersKnown.{numbers-known}
 use Rattle.field.proofs.Arrays.{part-length}
 use borrow.Author.Needs.{needs}
 use native.Mathlib.Omega.{arith}

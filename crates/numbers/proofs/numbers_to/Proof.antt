@@ -6,11 +6,11 @@ use native.Mathlib.Numerals.{add-one}
 use lib.ListN.{length, take, getD}
 use Rattle.field.specs.declared.Zone.{Zone}
 use Rattle.field.specs.declared.Field.{Field}
-use Rattle.field.specs.Boxes.{zonesFrom, emptyZone, zoneOf, queueOf, inZone}
+use Rattle.field.specs.Airspace.{zonesFrom, emptyZone, zoneOf, queueOf, inZone}
 use Rattle.questions.specs.Find.{numbersIn}
-use Rattle.field.proofs.Known.{field-known}
+use Rattle.field.proofs.FieldKnown.{field-known}
 use Rattle.field.proofs.Shapes.{read}
-use Rattle.questions.proofs.Listed.{numberOf, one-zone-more}
+use Rattle.questions.proofs.NumbersListed.{numberOf, one-zone-more}
 use borrow.Author.Needs.{needs}
 use native.Mathlib.Omega.{arith}
 use Rattle.numbers.proofs.numbers_to.Statement.{statement}

@@ -4,11 +4,11 @@ use mathlib.Core.List.{List}
 use Prim.Native.Nat.{ℕ}
 use lib.ListN.{take}
 use Rattle.field.specs.declared.Sequence.{Sequence}
-use Rattle.field.specs.Boxes.{orderOf, orderLength}
+use Rattle.field.specs.Airspace.{orderOf, orderLength}
 use Rattle.field.specs.Lists.{isIn, every, allDifferent}
 use Rattle.numbers.specs.Numbers.{sequenceExact}
-use Rattle.field.proofs.Parts.{and-then, and-cut, holds, fails}
-use Rattle.numbers.proofs.Known.{numbers-known}
+use Rattle.field.proofs.TestParts.{and-then, and-cut, holds, fails}
+use Rattle.numbers.proofs.NumbersKnown.{numbers-known}
 use Rattle.field.proofs.Arrays.{part-length, part-of, part-fits}
 use borrow.Author.Needs.{needs}
 use native.Mathlib.Omega.{arith}

@@ -14,12 +14,12 @@ use Rattle.practice.specs.File.{legsOf, legsBody, requestsBody, fileNumber}
 use Rattle.practice.specs.Requests.{requestsOf}
 use Rattle.practice.proofs.Meaning.{Held, held}
 use Rattle.field.specs.declared.Legs.{Legs}
-use Rattle.field.specs.Boxes.{emptyField}
+use Rattle.field.specs.Airspace.{emptyField}
 use Rattle.fits.specs.Fits.{legalLegs}
 use Rattle.playing.specs.declared.Played.{Played}
 use Rattle.playing.specs.Playing.{legsInMiles, noLegs, answersFrom, presentFrom, fieldFrom}
 use Rattle.playing.specs.Log.{logOf}
-use Rattle.playing.proofs.Files.{legsHeld, requestsInside, practice-holds, answers-held, played-held, answers-none, played-none, file-legs-legal}
+use Rattle.playing.proofs.PlayedFiles.{legsHeld, requestsInside, practice-holds, answers-held, played-held, answers-none, played-none, file-legs-legal}
 use Rattle.playing.proofs.Logs.{log-written}
 use Rattle.playing.proofs.Playing.{length-answers}
 use Rattle.playing.proofs.play.Statement.{statement}

@@ -13,7 +13,7 @@ use Rattle.request.specs.declared.Request.{Request}
 use Rattle.practice.specs.declared.Reading.the-variants.{One, End}
 use Rattle.practice.specs.Requests.{requestsOf, readingAt}
 use Rattle.field.specs.declared.Field.{Field}
-use Rattle.field.specs.Boxes.{emptyField}
+use Rattle.field.specs.Airspace.{emptyField}
 use Rattle.finder.specs.declared.Indexed.{Indexed}
 use Rattle.questions.specs.Counts.{presentOn}
 use Rattle.indexed.specs.declared.SteppedIndexed.{SteppedIndexed}
@@ -23,7 +23,7 @@ use Rattle.rules.specs.Reason.{Sound}
 use Rattle.reason.proofs.Reason.{empty-sound}
 use Rattle.playing.specs.Playing.{answersFrom, presentFrom, fieldFrom}
 use Rattle.playing.specs.Log.{logOf}
-use Rattle.playing.proofs.Answers.{Short, short-step}
+use Rattle.playing.proofs.AnswerSizes.{Short, short-step}
 use Rattle.playing.proofs.Playing.{Playing, made-own, playing-none, stepped-own, neither, playing-more, playing-turn, all-logged, last-field, all-played, here}
 use Rattle.playing.proofs.play_body.Statement.{statement}
 use Rattle.playing.proofs.play_body.Tie as tie

@@ -10,10 +10,10 @@ use borrow.Author.Needs.{needs}
 use Rattle.practice.specs.File.{legsOf, legsBody, fileNumber}
 use Rattle.practice.specs.Requests.{requestsOf}
 use Rattle.practice.proofs.Meaning.{Held, held}
-use Rattle.field.specs.Boxes.{emptyField}
+use Rattle.field.specs.Airspace.{emptyField}
 use Rattle.text.specs.Buffer.{Put}
 use Rattle.playing.specs.Playing.{legsInMiles}
-use Rattle.playing.proofs.Files.{legsHeld, requestsInside, practice-holds, practice-refused}
+use Rattle.playing.proofs.PlayedFiles.{legsHeld, requestsInside, practice-holds, practice-refused}
 use Rattle.session.specs.Report.{refusedReport}
 use Rattle.positions.specs.Positions.{linesFrom, practicePositions, positionsOf}
 use Rattle.positions.proofs.Fields.{ends-within}

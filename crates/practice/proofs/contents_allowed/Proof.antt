@@ -8,7 +8,7 @@ use denote.Ref.{now}
 use borrow.Author.Needs.{needs}
 use borrow.Author.Tests.{le-leb, lt-leb}
 use Rattle.practice.specs.File.{number16, number32, entryIs, bodyLength, contentsAllowed}
-use Rattle.practice.proofs.Tests.{differs, agrees, fails, passes}
+use Rattle.practice.proofs.BranchTests.{differs, agrees, fails, passes}
 use Rattle.practice.proofs.contents_allowed.Statement.{statement}
 use Rattle.practice.proofs.contents_allowed.Tie as tie
 

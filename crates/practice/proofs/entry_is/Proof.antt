@@ -6,7 +6,7 @@ use lib.Dec.{eqb}
 use denote.Ref.{now}
 use borrow.Author.Needs.{needs}
 use Rattle.practice.specs.File.{number16, number32}
-use Rattle.practice.proofs.Tests.{differs, agrees}
+use Rattle.practice.proofs.BranchTests.{differs, agrees}
 use Rattle.practice.proofs.entry_is.Statement.{statement}
 use Rattle.practice.proofs.entry_is.Tie as tie
 

@@ -5,8 +5,8 @@ use lib.ListN.{take, drop}
 use denote.Ref.{now}
 use borrow.Author.Needs.{needs}
 use Rattle.practice.specs.File.{opens, contentsAllowed, legsOf, legsAllowed, fileNumber}
-use Rattle.practice.proofs.Tests.{fails, passes}
-use Rattle.practice.proofs.Accepted.{opened, long-enough}
+use Rattle.practice.proofs.BranchTests.{fails, passes}
+use Rattle.practice.proofs.AcceptedFile.{opened, long-enough}
 use Rattle.practice.proofs.file_number.Statement.{statement}
 use Rattle.practice.proofs.file_number.Tie as tie
 

@@ -5,7 +5,7 @@ use borrow.Author.Needs.{needs}
 use Rattle.limits.specs.Limits.{longestLeg}
 use Rattle.request.specs.Input.{within}
 use Rattle.practice.specs.File.{legsAllowed}
-use Rattle.practice.proofs.Tests.{fails, passes}
+use Rattle.practice.proofs.BranchTests.{fails, passes}
 use Rattle.practice.proofs.legs_allowed.Statement.{statement}
 use Rattle.practice.proofs.legs_allowed.Tie as tie
 

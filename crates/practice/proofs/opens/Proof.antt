@@ -2,9 +2,9 @@
 use lib.ListN.{take, length}
 use denote.Ref.{now}
 use borrow.Author.Needs.{needs}
-use Rattle.request.proofs.Tests.{within-yes, within-below, within-above}
+use Rattle.request.proofs.InputTests.{within-yes, within-below, within-above}
 use Rattle.practice.specs.File.{letters, opens}
-use Rattle.practice.proofs.Bytes.{is-same}
+use Rattle.practice.proofs.SameBytes.{is-same}
 use Rattle.practice.proofs.opens.Statement.{statement}
 use Rattle.practice.proofs.opens.Tie as tie
 

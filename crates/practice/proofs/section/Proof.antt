@@ -9,8 +9,8 @@ use denote.Ref.{now}
 use borrow.Author.Needs.{needs}
 use borrow.Author.Tests.{eq-eqb, ne-eqb}
 use Rattle.practice.specs.File.{fileNumber}
-use Rattle.practice.proofs.Tests.{differs, agrees}
-use Rattle.practice.proofs.Accepted.{accepted, long-enough}
+use Rattle.practice.proofs.BranchTests.{differs, agrees}
+use Rattle.practice.proofs.AcceptedFile.{accepted, long-enough}
 use Rattle.practice.proofs.Sections.{is-section, at-start}
 use Rattle.practice.proofs.section.Statement.{statement}
 use Rattle.practice.proofs.section.Tie as tie

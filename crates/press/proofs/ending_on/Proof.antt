@@ -1,8 +1,8 @@
 -- `press::ending_on` meets its contract. Assumes nothing.
 use mathlib.Core.Path.{sym}
 use borrow.Author.Needs.{needs}
-use Rattle.field.proofs.Parts.{is, is-not}
-use Rattle.field.proofs.Tests.{if-true, if-false}
+use Rattle.field.proofs.TestParts.{is, is-not}
+use Rattle.field.proofs.TestLaws.{if-true, if-false}
 use Rattle.press.proofs.ending_on.Statement.{statement}
 use Rattle.press.proofs.ending_on.Tie as tie
 

@@ -6,7 +6,7 @@ use native.Mathlib.Omega.{arith}
 use lib.ListN.{length}
 use denote.Ref.{now}
 use borrow.Author.Needs.{needs}
-use Rattle.field.proofs.Tests.{pass}
+use Rattle.field.proofs.TestLaws.{pass}
 use Rattle.text.specs.Buffer.{Put}
 use Rattle.text.proofs.Texts.{put-none, put-same}
 use Rattle.press.proofs.Pressing.{held-refused, no-lines}

@@ -1,8 +1,8 @@
 -- `press::press` meets its contract: a field that breaks a bound is refused, else the first candidate that is accepted is played. Assumes nothing.
 use mathlib.Core.Path.{sym, ap, _∙_}
 use borrow.Author.Needs.{needs}
-use Rattle.field.proofs.Parts.{holds, fails}
-use Rattle.field.proofs.Tests.{pass}
+use Rattle.field.proofs.TestParts.{holds, fails}
+use Rattle.field.proofs.TestLaws.{pass}
 use Rattle.press.specs.declared.Proposal.the-variants.{Refused}
 use Rattle.press.specs.Press.{pressedBy, pressOf}
 use Rattle.press.proofs.Proposals.{proposal-is, proposal-refused}

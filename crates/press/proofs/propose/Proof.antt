@@ -1,8 +1,8 @@
 -- `press::propose` meets its contract: a field that breaks a bound is refused before anything is proposed. Assumes nothing.
 use mathlib.Core.Path.{sym, ap, _∙_}
 use borrow.Author.Needs.{needs}
-use Rattle.field.proofs.Parts.{holds, fails}
-use Rattle.field.proofs.Tests.{pass}
+use Rattle.field.proofs.TestParts.{holds, fails}
+use Rattle.field.proofs.TestLaws.{pass}
 use Rattle.press.specs.declared.Pressed.{Pressed}
 use Rattle.press.proofs.Proposals.{proposal-is, proposal-refused}
 use Rattle.press.proofs.propose.Statement.{statement}

@@ -7,10 +7,10 @@ use lib.ListN.{length, getD}
 use borrow.Author.Tests.{eq-eqb, ne-eqb}
 use borrow.Author.Needs.{needs}
 use denote.Ref.{now}
-use Rattle.field.proofs.Tests.{if-true, if-false}
+use Rattle.field.proofs.TestLaws.{if-true, if-false}
 use Rattle.request.specs.declared.Request.{Request}
 use Rattle.rules.specs.declared.Answer.{Answer}
-use Rattle.text.specs.Text.{line}
+use Rattle.text.specs.Text.{lineOf}
 use Rattle.text.specs.Buffer.{Put}
 use Rattle.text.proofs.Texts.{put-none, put-same, line-short}
 use Rattle.press.specs.HeldDown.{pressLine}
@@ -19,7 +19,7 @@ use Rattle.press.proofs.put_press.Tie as tie
 
 -- a line of seven numbers of 64 bits
 seven : (a b c d e f g : ℕ) → a < 2 ^ 64 → b < 2 ^ 64 → c < 2 ^ 64 → d < 2 ^ 64 → e < 2 ^ 64 → f < 2 ^ 64 → g < 2 ^ 64
-    → length (line (a ∷ b ∷ c ∷ d ∷ e ∷ f ∷ g ∷ [])) ≤ 147
+    → length (lineOf (a ∷ b ∷ c ∷ d ∷ e ∷ f ∷ g ∷ [])) ≤ 147
 seven a b c d e f g ha hb hc hd he hf hg = line-short (a ∷ b ∷ c ∷ d ∷ e ∷ f ∷ g ∷ []) each
   where
     each : (i : ℕ) → getD (a ∷ b ∷ c ∷ d ∷ e ∷ f ∷ g ∷ []) i 0 < 2 ^ 64
@@ -45,7 +45,7 @@ no-line press r a e = if-true [] _ (eq-eqb (r .kind) 12 e)
 
 -- any other request has the line of seven numbers
 its-line : (press : ℕ) (r : Request) (a : Answer) → (r .kind ≡ 12 → ⊥)
-    → pressLine press (r, a) ≡ line (press ∷ r .kind ∷ a .aircraft ∷ a .zone ∷ a .fix ∷ a .leader ∷ a .along ∷ [])
+    → pressLine press (r, a) ≡ lineOf (press ∷ r .kind ∷ a .aircraft ∷ a .zone ∷ a .fix ∷ a .leader ∷ a .along ∷ [])
 its-line press r a h = if-false [] _ (ne-eqb (r .kind) 12 h)
 
 returns : tie.Need-returns

@@ -1,8 +1,8 @@
 -- `press_kept::ending_of` meets its contract: refused, or how the button ends on the field. Assumes nothing.
 use mathlib.Core.Path.{refl, sym, _∙_}
 use borrow.Author.Needs.{needs}
-use Rattle.field.proofs.Parts.{holds, fails}
-use Rattle.field.proofs.Tests.{if-true, if-false}
+use Rattle.field.proofs.TestParts.{holds, fails}
+use Rattle.field.proofs.TestLaws.{if-true, if-false}
 use Rattle.press_kept.proofs.ending_of.Statement.{statement}
 use Rattle.press_kept.proofs.ending_of.Tie as tie
 

@@ -16,7 +16,7 @@ use Rattle.press.proofs.Proposal as proposal
 use Rattle.history.specs.declared.History.{History}
 use Rattle.history.specs.History.{withinBoundsHistory}
 use Rattle.press_kept.specs.PressKept.{proposalKept, pressesKept, endingKept}
-use Rattle.press_kept.proofs.Pressing.{Pressing, pressing-none, pressing-more, presses-none, presses-ended, held-is}
+use Rattle.press_kept.proofs.PressingKept.{Pressing, pressing-none, pressing-more, presses-none, presses-ended, held-is}
 use Rattle.press_kept.proofs.hold_kept.Statement.{statement}
 use Rattle.press_kept.proofs.hold_kept.Tie as tie
 

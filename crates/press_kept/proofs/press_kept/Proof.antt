@@ -2,7 +2,7 @@
 use mathlib.Core.Path.{sym, _∙_}
 use borrow.Author.Needs.{needs}
 use Rattle.press.specs.declared.Proposal.the-variants.{Refused, None, Play}
-use Rattle.press_kept.proofs.Pressing.{pressed-is}
+use Rattle.press_kept.proofs.PressingKept.{pressed-is}
 use Rattle.press_kept.proofs.press_kept.Statement.{statement}
 use Rattle.press_kept.proofs.press_kept.Tie as tie
 

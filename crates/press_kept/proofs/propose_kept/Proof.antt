@@ -1,8 +1,8 @@
 -- `press_kept::propose_kept` meets its contract: what breaks a bound is refused before anything is proposed. Assumes nothing.
 use mathlib.Core.Path.{_∙_}
 use borrow.Author.Needs.{needs}
-use Rattle.field.proofs.Parts.{holds, fails}
-use Rattle.press_kept.proofs.Pressing.{kept-refused, kept-proposed}
+use Rattle.field.proofs.TestParts.{holds, fails}
+use Rattle.press_kept.proofs.PressingKept.{kept-refused, kept-proposed}
 use Rattle.press_kept.proofs.propose_kept.Statement.{statement}
 use Rattle.press_kept.proofs.propose_kept.Tie as tie
 

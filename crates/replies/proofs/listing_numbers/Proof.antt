@@ -2,7 +2,7 @@
 use mathlib.Core.Path.{ap}
 use mathlib.Core.List.{List, _∷_}
 use Prim.Native.Nat.{ℕ}
-use Rattle.replies.proofs.Numbers.{entries-places, five-entries}
+use Rattle.replies.proofs.ReplyNumbers.{entries-places, five-entries}
 use borrow.Author.Needs.{needs}
 use Rattle.replies.proofs.listing_numbers.Statement.{statement}
 use Rattle.replies.proofs.listing_numbers.Tie as tie

@@ -1,6 +1,6 @@
 -- `replies::pair_gaps` meets its contract: the gap of each of the three pairs. Assumes nothing.
-use Rattle.gaps.proofs.Known.{spacings-known}
-use Rattle.replies.proofs.Numbers.{three-gaps}
+use Rattle.gaps.proofs.SpacingsKnown.{spacings-known}
+use Rattle.replies.proofs.ReplyNumbers.{three-gaps}
 use borrow.Author.Needs.{needs}
 use Rattle.replies.proofs.pair_gaps.Statement.{statement}
 use Rattle.replies.proofs.pair_gaps.Tie as tie

@@ -2,8 +2,8 @@
 use mathlib.Core.Path.{ap}
 use mathlib.Core.List.{List, _∷_}
 use Prim.Native.Nat.{ℕ}
-use Rattle.gaps.proofs.Known.{spacings-known}
-use Rattle.replies.proofs.Numbers.{three-pairs}
+use Rattle.gaps.proofs.SpacingsKnown.{spacings-known}
+use Rattle.replies.proofs.ReplyNumbers.{three-pairs}
 use borrow.Author.Needs.{needs}
 use Rattle.replies.proofs.spacing_numbers.Statement.{statement}
 use Rattle.replies.proofs.spacing_numbers.Tie as tie

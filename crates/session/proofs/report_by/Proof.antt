@@ -10,15 +10,15 @@ use Rattle.practice.specs.File.{fileNumber}
 use Rattle.playing.specs.declared.Played.{Played}
 use Rattle.playing.specs.Playing.{playedOf, answersOf}
 use Rattle.playing.specs.Log.{logOf, HasWords}
-use Rattle.playing.proofs.Files.{answers-count, requests-few}
+use Rattle.playing.proofs.PlayedFiles.{answers-count, requests-few}
 use Rattle.playing.proofs.Logs.{log-kept}
 use Rattle.text.specs.Buffer.{room, Put, Written}
 use Rattle.text.proofs.Texts.{put-more, written, stated}
 use Rattle.session.specs.declared.tally.Tally.{Tally}
 use Rattle.session.specs.Tally.{tallyOf}
 use Rattle.session.specs.Report.{answerLines, endLine, refusedReport, reportOf}
-use Rattle.session.specs.Entries.{linesTo, countedTo}
-use Rattle.session.proofs.Entries.{lines-all, counted-all, lines-short, end-length, refused-length}
+use Rattle.session.specs.Entries.{linesTo, talliedTo}
+use Rattle.session.proofs.LogLines.{lines-all, counted-all, lines-short, end-length, refused-length}
 use Rattle.session.proofs.Reports.{report-refused, report-played, answers-short}
 use Rattle.session.proofs.report_by.Statement.{statement}
 use Rattle.session.proofs.report_by.Tie as tie
@@ -105,7 +105,7 @@ returns-2 c =
     let lines : linesTo (k .play .last .1 .1 .0) (k .play .result .requests) ≡ answerLines 1 ps =
     ap (λ (l : List ℕ). linesTo l (k .play .result .requests)) log ∙ ap (linesTo (logOf ps ++ rest)) count ∙ lines-all ps rest in
     let counts : t .tally-of .result ≡ tallyOf ps =
-    t .tally-of .ensures ∙ ap (λ (l : List ℕ). countedTo l (k .play .result .requests)) log ∙ ap (countedTo (logOf ps ++ rest)) count ∙ counted-all ps rest in
+    t .tally-of .ensures ∙ ap (λ (l : List ℕ). talliedTo l (k .play .result .requests)) log ∙ ap (talliedTo (logOf ps ++ rest)) count ∙ counted-all ps rest in
     let present = ap (λ (p : Played). p .present) (k .play .ensures .0) in
     let bytes = ap (λ (l : List ℕ). l ++ endLine (t .tally-of .result) (k .play .result .present)) lines
     ∙ ap (λ (u : Tally). answerLines 1 ps ++ endLine u (k .play .result .present)) counts

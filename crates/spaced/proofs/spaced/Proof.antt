@@ -9,18 +9,18 @@ use denote.Ref.{now}
 use borrow.Author.Needs.{needs}
 use borrow.Author.Tests.{eq-eqb, ne-eqb}
 use Rattle.field.specs.declared.Field.{Field}
-use Rattle.field.proofs.Parts.{holds, fails}
-use Rattle.field.proofs.Tests.{if-true, if-false}
+use Rattle.field.proofs.TestParts.{holds, fails}
+use Rattle.field.proofs.TestLaws.{if-true, if-false}
 use Rattle.practice.specs.File.{fileNumber}
 use Rattle.playing.specs.declared.Played.{Played}
 use Rattle.playing.specs.Playing.{playedOf, fieldOfFile}
 use Rattle.gaps.specs.Gaps.{gapsOf, legalSpacing}
-use Rattle.gaps.proofs.Known.{spacings-known}
+use Rattle.gaps.proofs.SpacingsKnown.{spacings-known}
 use Rattle.text.specs.Buffer.{Put}
 use Rattle.text.proofs.Texts.{put-whole}
 use Rattle.session.specs.Report.{refusedReport}
 use Rattle.spaced.specs.Spaced.{spacingsReport, spacedOf, spacedRoom}
-use Rattle.spaced.proofs.Sizes.{refused-spacing-short, refused-file-short, spacings-short}
+use Rattle.spaced.proofs.SpacingReportSizes.{refused-spacing-short, refused-file-short, spacings-short}
 use Rattle.spaced.proofs.spaced.Statement.{statement}
 use Rattle.spaced.proofs.spaced.Tie as tie
 

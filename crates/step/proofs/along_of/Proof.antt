@@ -4,7 +4,7 @@ use Prim.Native.Nat.{ℕ}
 use borrow.Author.Tests.{ne-eqb}
 use Rattle.rules.specs.Kinds.{shownAt3000}
 use Rattle.rules.specs.Step.{alongFor}
-use Rattle.field.proofs.Tests.{if-false}
+use Rattle.field.proofs.TestLaws.{if-false}
 use borrow.Author.Needs.{needs}
 use Rattle.step.proofs.along_of.Statement.{statement}
 use Rattle.step.proofs.along_of.Tie as tie

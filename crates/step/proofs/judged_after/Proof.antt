@@ -4,12 +4,12 @@ use mathlib.Core.Bool.{true}
 use native.Mathlib.Omega.{arith}
 use borrow.Author.Tests.{eq-eqb}
 use Rattle.request.specs.Input.{firstRefused}
-use Rattle.field.proofs.Parts.{holds, fails}
-use Rattle.field.proofs.Tests.{passed, if-true, if-false}
+use Rattle.field.proofs.TestParts.{holds, fails}
+use Rattle.field.proofs.TestLaws.{passed, if-true, if-false}
 use Rattle.bounds.specs.Bounds.{withinBounds}
 use Rattle.rules.specs.declared.Stepped.{Stepped}
 use Rattle.rules.specs.Step.{checksOf, effectOf}
-use Rattle.step.proofs.Steps.{number-by, turned-away, unjudged-number, unjudged-field, unjudged-is-step}
+use Rattle.step.proofs.StepsByTests.{number-by, turned-away, unjudged-number, unjudged-field, unjudged-is-step}
 use borrow.Author.Needs.{needs}
 use Rattle.step.proofs.judged_after.Statement.{statement}
 use Rattle.step.proofs.judged_after.Tie as tie

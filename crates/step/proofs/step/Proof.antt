@@ -4,10 +4,10 @@ use mathlib.Core.Bool.{true}
 use native.Mathlib.Omega.{arith}
 use borrow.Author.Tests.{eq-eqb}
 use Rattle.request.specs.Input.{inputNumber}
-use Rattle.field.proofs.Parts.{is-not, holds, fails}
-use Rattle.field.proofs.Tests.{pass, if-true, if-false}
+use Rattle.field.proofs.TestParts.{is-not, holds, fails}
+use Rattle.field.proofs.TestLaws.{pass, if-true, if-false}
 use Rattle.bounds.specs.Bounds.{withinBounds}
-use Rattle.step.proofs.Steps.{number-by, turned-away}
+use Rattle.step.proofs.StepsByTests.{number-by, turned-away}
 use borrow.Author.Needs.{needs}
 use Rattle.step.proofs.step.Statement.{statement}
 use Rattle.step.proofs.step.Tie as tie

@@ -1,8 +1,8 @@
 -- `step::step_unjudged` meets its contract: a number that is neither 10 nor 25 says that the bounds hold before and after. Assumes nothing.
 use mathlib.Core.Path.{sym, _∙_}
-use Rattle.field.proofs.Parts.{is-not}
-use Rattle.field.proofs.Tests.{if-false}
-use Rattle.step.proofs.Steps.{number-by, turned-away, neither-is-step}
+use Rattle.field.proofs.TestParts.{is-not}
+use Rattle.field.proofs.TestLaws.{if-false}
+use Rattle.step.proofs.StepsByTests.{number-by, turned-away, neither-is-step}
 use borrow.Author.Needs.{needs}
 use Rattle.step.proofs.step_unjudged.Statement.{statement}
 use Rattle.step.proofs.step_unjudged.Tie as tie

@@ -1,8 +1,8 @@
 -- `step::step_within` meets its contract: by the input rules, and by the step that is judged after. Assumes nothing.
 use mathlib.Core.Path.{sym, _∙_}
-use Rattle.field.proofs.Parts.{is-not}
-use Rattle.field.proofs.Tests.{if-false}
-use Rattle.step.proofs.Steps.{number-by, turned-away}
+use Rattle.field.proofs.TestParts.{is-not}
+use Rattle.field.proofs.TestLaws.{if-false}
+use Rattle.step.proofs.StepsByTests.{number-by, turned-away}
 use borrow.Author.Needs.{needs}
 use Rattle.step.proofs.step_within.Statement.{statement}
 use Rattle.step.proofs.step_within.Tie as tie

@@ -5,14 +5,14 @@ use Prim.Native.Nat.{ℕ}
 use lib.Dec.{eqb}
 use Rattle.request.specs.declared.Request.{Request}
 use Rattle.field.specs.declared.Field.{Field}
-use Rattle.field.proofs.Parts.{is, is-not}
-use Rattle.field.proofs.Tests.{if-true, if-false}
+use Rattle.field.proofs.TestParts.{is, is-not}
+use Rattle.field.proofs.TestLaws.{if-true, if-false}
 use Rattle.questions.specs.declared.Place.{Place}
 use Rattle.rules.specs.declared.Answer.{Answer}
 use Rattle.rules.specs.declared.Stepped.{Stepped}
 use Rattle.rules.specs.Kinds.{placeBefore}
 use Rattle.rules.specs.Step.{effectOf, numberAndZeros, acceptanceOn, alongFor, answerOf}
-use Rattle.step.proofs.Steps.{checked, effected}
+use Rattle.step.proofs.StepsByTests.{checked, effected}
 use borrow.Author.Needs.{needs}
 use Rattle.step.proofs.unjudged.Statement.{statement}
 use Rattle.step.proofs.unjudged.Tie as tie

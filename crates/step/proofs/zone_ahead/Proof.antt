@@ -1,7 +1,7 @@
 -- `step::zone_ahead` meets its contract: the kind is in the range or not. Assumes nothing.
 use mathlib.Core.Path.{sym, _∙_}
-use Rattle.request.proofs.Tests.{within-yes, within-below, within-above}
-use Rattle.field.proofs.Tests.{if-true, if-false}
+use Rattle.request.proofs.InputTests.{within-yes, within-below, within-above}
+use Rattle.field.proofs.TestLaws.{if-true, if-false}
 use native.Mathlib.Omega.{arith}
 use borrow.Author.Needs.{needs}
 use Rattle.step.proofs.zone_ahead.Statement.{statement}

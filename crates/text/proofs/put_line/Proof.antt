@@ -5,13 +5,13 @@ use native.Mathlib.Omega.{arith}
 use lib.ListN.{length, drop}
 use denote.Ref.{now}
 use borrow.Author.Needs.{needs}
-use Rattle.text.specs.Text.{space, newline, line}
+use Rattle.text.specs.Text.{space, newline, lineOf}
 use Rattle.text.proofs.Texts.{Left, left-all, left-none, past-all, mark-between, mark-last, line-more}
 use Rattle.text.proofs.put_line.Statement.{statement}
 use Rattle.text.proofs.put_line.Tie as tie
 
 abbrev Inv-loop : tie.InvT-loop
-Inv-loop out₀ at numbers end₀ i₀ out end i = (i ≤ length numbers) × Left out₀ at (line numbers) out end (line (drop i numbers))
+Inv-loop out₀ at numbers end₀ i₀ out end i = (i ≤ length numbers) × Left out₀ at (lineOf numbers) out end (lineOf (drop i numbers))
 
 abbrev μ-loop : tie.MeasureT-loop
 μ-loop out₀ at numbers end₀ i₀ out end i = length numbers - i
@@ -69,7 +69,7 @@ same-length c = c .before .loop .inv .1 .same
 returns : tie.Need-returns Inv-loop μ-loop
 returns c =
     let l = c .before .loop in
-    left-none (l .inv .1) (ap line (past-all (now (c .before .before .before .before .args .numbers)) (l .i) (omega arith)))
+    left-none (l .inv .1) (ap lineOf (past-all (now (c .before .before .before .before .args .numbers)) (l .i) (omega arith)))
 
 pub put-line-spec : {M : Type 1} → statement M
 put-line-spec =

@@ -7,9 +7,9 @@ use native.Mathlib.Omega.{arith}
 use lib.ListN.{length, take, drop, getD}
 use Rattle.field.specs.declared.Zone.{Zone}
 use Rattle.field.specs.declared.Field.{Field}
-use Rattle.field.specs.Boxes.{emptyZone}
+use Rattle.field.specs.Airspace.{emptyZone}
 use Rattle.field.proofs.Arrays.{filled-at, filled-more}
-use Rattle.field.proofs.Known.{field-known}
+use Rattle.field.proofs.FieldKnown.{field-known}
 use Rattle.tick.specs.Tick.{tickedZone, tickedFrom, ticked}
 use Rattle.tick.proofs.Tick.{length-ticked, getD-ticked, flown-in, six-kept, twelve-written}
 use borrow.Author.Needs.{needs}

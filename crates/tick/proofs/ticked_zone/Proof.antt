@@ -5,10 +5,10 @@ use Prim.Native.Nat.{_-_, _≤_}
 use lib.ListN.{length, take, drop, length-map}
 use Rattle.field.specs.declared.Aircraft.{Aircraft}
 use Rattle.field.specs.declared.Zone.{Zone}
-use Rattle.field.specs.Boxes.{nobody}
+use Rattle.field.specs.Airspace.{nobody}
 use Rattle.tick.specs.Tick.{tickedAircraft, tickedZone}
 use Rattle.field.proofs.Arrays.{filled-at, filled-more, filled-all, getD-map}
-use Rattle.field.proofs.Known.{zone-known}
+use Rattle.field.proofs.FieldKnown.{zone-known}
 use borrow.Author.Needs.{needs}
 use native.Mathlib.Omega.{arith}
 use Rattle.tick.proofs.ticked_zone.Statement.{statement}

@@ -5,7 +5,7 @@ use Prim.Native.Nat.{ℕ, _+_, _-_, _*_}
 use native.Mathlib.Omega.{arith}
 use borrow.Author.Tests.{lt-ltb, le-ltb}
 use Rattle.week_table.specs.Table.{rowPlace, cellOf}
-use Rattle.week_table.proofs.Cells.{row-low}
+use Rattle.week_table.proofs.KindRows.{row-low}
 use borrow.Author.Needs.{needs}
 use Rattle.week_table.proofs.cell_of.Statement.{statement}
 use Rattle.week_table.proofs.cell_of.Tie as tie

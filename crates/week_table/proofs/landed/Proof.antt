@@ -1,7 +1,7 @@
 -- `binder::counts::landed` meets its contract: an accepted kind 7, or not. Assumes nothing.
 use mathlib.Core.Path.{refl, sym, _∙_}
 use lib.Dec.{eqb}
-use Rattle.week_table.proofs.Cells.{of-accepted, of-refused}
+use Rattle.week_table.proofs.KindRows.{of-accepted, of-refused}
 use borrow.Author.Needs.{needs}
 use Rattle.week_table.proofs.landed.Statement.{statement}
 use Rattle.week_table.proofs.landed.Tie as tie

@@ -3,7 +3,7 @@ use mathlib.Core.Path.{sym, ap}
 use mathlib.Core.Bool.{Bool, cond}
 use Prim.Native.Nat.{_-_}
 use native.Mathlib.Omega.{arith}
-use Rattle.request.proofs.Tests.{within-yes, within-below, within-above}
+use Rattle.request.proofs.InputTests.{within-yes, within-below, within-above}
 use borrow.Author.Needs.{needs}
 use Rattle.week_table.proofs.row_of.Statement.{statement}
 use Rattle.week_table.proofs.row_of.Tie as tie

@@ -10,16 +10,16 @@ use Rattle.words.proofs.put_bits.Tie as tie
 bits-of-requires : tie.Need-bits-of-requires
 bits-of-requires c κs = search needs
 
-put-quad-requires : tie.Need-put-quad-requires
-put-quad-requires c κs = search needs
+put-number64-requires : tie.Need-put-number64-requires
+put-number64-requires c κs = search needs
 
 same-length : tie.Need-same-length
-same-length c = put-same (c .before .before .put-quad .ensures)
+same-length c = put-same (c .before .before .put-number64 .ensures)
 
 returns : tie.Need-returns
 returns c =
     let k = c .before .before in
-    put-as (ap bytes64 (k .before .bits-of .ensures)) (k .put-quad .ensures)
+    put-as (ap bytes64 (k .before .bits-of .ensures)) (k .put-number64 .ensures)
 
 pub put-bits-spec : {M : Type 1} → statement M
-put-bits-spec = tie.close (tie.spec bits-of-requires put-quad-requires same-length returns)
+put-bits-spec = tie.close (tie.spec bits-of-requires put-number64-requires same-length returns)

@@ -13,8 +13,8 @@ slice-aggregate-put-text c = search needs
 put-text-requires : tie.Need-put-text-requires
 put-text-requires c κs = search needs
 
-put-word-requires : tie.Need-put-word-requires
-put-word-requires c κs = search needs
+put-number16-requires : tie.Need-put-number16-requires
+put-number16-requires c κs = search needs
 
 put-entry-requires : tie.Need-put-entry-requires
 put-entry-requires c κs = search needs
@@ -36,7 +36,7 @@ same-length c =
     let first = second .before .before .before .before in
     let count = first .before .before .before .before in
     let letters = count .before .before .before .before in
-    put-same (put-more (put-more (put-more (put-more (put-more (letters .put-text .ensures) (count .put-word .ensures)) (first .put-entry .ensures)) (second .put-entry2 .ensures))
+    put-same (put-more (put-more (put-more (put-more (put-more (letters .put-text .ensures) (count .put-number16 .ensures)) (first .put-entry .ensures)) (second .put-entry2 .ensures))
     (legs .put-legs .ensures)) (k .put-text2 .ensures))
 
 returns : tie.Need-returns
@@ -47,7 +47,7 @@ returns c =
     let first = second .before .before .before .before in
     let count = first .before .before .before .before in
     let letters = count .before .before .before .before in
-    put-more (put-more (put-more (put-more (put-more (letters .put-text .ensures) (count .put-word .ensures)) (first .put-entry .ensures)) (second .put-entry2 .ensures)) (legs .put-legs .ensures))
+    put-more (put-more (put-more (put-more (put-more (letters .put-text .ensures) (count .put-number16 .ensures)) (first .put-entry .ensures)) (second .put-entry2 .ensures)) (legs .put-legs .ensures))
     (k .put-text2 .ensures)
 
 pub put-file-spec : {M : Type 1} → statement M
@@ -57,7 +57,7 @@ put-file-spec =
     cast-size
     slice-aggregate-put-text
     put-text-requires
-    put-word-requires
+    put-number16-requires
     put-entry-requires
     put-entry-requires-2
     put-legs-requires

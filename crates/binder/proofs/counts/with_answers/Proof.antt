@@ -11,7 +11,7 @@ use Rattle.request.specs.Input.{within}
 use Rattle.playing.specs.Log.{kindAt, numberAt}
 use Rattle.binder.specs.declared.counts.Counts.{Counts}
 use Rattle.binder.specs.Counts.{withAnswer, countedTo}
-use Rattle.week_table.proofs.Cells.{of-few}
+use Rattle.week_table.proofs.KindRows.{of-few}
 use Rattle.binder.proofs.Cells.{cell-low}
 use Rattle.binder.proofs.Adding.{countsWith, one-more, one-larger}
 use borrow.Author.Needs.{needs}

@@ -5,7 +5,7 @@ use Prim.Native.Nat.{ℕ, _+_, _≤_}
 use native.Mathlib.Omega.{arith}
 use lib.Dec.{eqb}
 use Rattle.binder.specs.Counts.{withNumber}
-use Rattle.week_table.proofs.Cells.{one-low}
+use Rattle.week_table.proofs.KindRows.{one-low}
 use borrow.Author.Needs.{needs}
 use Rattle.binder.proofs.counts.with_number.Statement.{statement}
 use Rattle.binder.proofs.counts.with_number.Tie as tie

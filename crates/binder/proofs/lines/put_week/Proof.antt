@@ -5,9 +5,9 @@ use lib.ListN.{length}
 use Rattle.text.specs.Text.{digitsUpTo, decimal}
 use Rattle.text.proofs.Texts.{put-more, put-same}
 use Rattle.binder.specs.Counting.{columns}
-use Rattle.binder.specs.Week.{filesLine, refusedLine, headingLine, movesLine, landingsLine}
+use Rattle.binder.specs.Week.{filesLine, refusedFilesLine, headingLine, movesLine, landingsLine}
 use Rattle.binder.specs.Counts.{weekLines}
-use Rattle.binder.proofs.Known.{table-known}
+use Rattle.binder.proofs.TableKnown.{table-known}
 use Rattle.binder.proofs.Rows.{Counted64, week-short}
 use borrow.Author.Needs.{needs}
 use Rattle.binder.proofs.lines.put_week.Statement.{statement}
@@ -81,7 +81,7 @@ same-length c =
     (heading .put-text .ensures)) (table .put-rows .ensures .0)) (p5 .put-count5 .ensures)) (p6 .put-count6 .ensures))
 
 returns : tie.Need-returns
-unfolding weekLines filesLine refusedLine headingLine movesLine landingsLine columns decimal digitsUpTo
+unfolding weekLines filesLine refusedFilesLine headingLine movesLine landingsLine columns decimal digitsUpTo
 returns c =
     let p6 = c .before .before in
     let p5 = p6 .before .before .before .before .before in

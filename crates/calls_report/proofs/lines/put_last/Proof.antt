@@ -5,11 +5,11 @@ use Prim.Native.Nat.{ℕ}
 use native.Mathlib.Omega.{arith}
 use denote.Ref.{now}
 use borrow.Author.Needs.{needs}
-use Rattle.text.specs.Text.{space, line}
+use Rattle.text.specs.Text.{space, lineOf}
 use Rattle.text.specs.Buffer.{Put}
 use Rattle.text.proofs.Texts.{put-more, put-same}
 use Rattle.calls_report.specs.CallsReport.{lastLine}
-use Rattle.calls_report.proofs.Sizes.{last-length, count-known}
+use Rattle.calls_report.proofs.CallLineSizes.{last-length, count-known}
 use Rattle.calls_report.proofs.lines.put_last.Statement.{statement}
 use Rattle.calls_report.proofs.lines.put_last.Tie as tie
 
@@ -41,7 +41,7 @@ returns c =
     let p = t .before .before .before in
     let s = p .before .before .before in
     let size = last-length (s .args .h) (omega (arith, p .present-on .ensures, p .present-on .ok)) (count-known (s .args .h) (s .good .1 .1 .0)) in (
-      subst (λ (n : ℕ). Put (now (s .args .out)) (s .args .at) (101 ∷ 110 ∷ 100 ∷ space ∷ line (n ∷ s .args .h .count ∷ [])) (k .put-line .last .0) (k .put-line .result)) (p .present-on .ensures)
+      subst (λ (n : ℕ). Put (now (s .args .out)) (s .args .at) (101 ∷ 110 ∷ 100 ∷ space ∷ lineOf (n ∷ s .args .h .count ∷ [])) (k .put-line .last .0) (k .put-line .result)) (p .present-on .ensures)
           (put-more (t .put-text .ensures) (k .put-line .ensures)),
       size,
     )

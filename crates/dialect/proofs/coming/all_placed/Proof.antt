@@ -5,9 +5,9 @@ use native.Mathlib.Omega.{arith}
 use lib.ListN.{length}
 use denote.Ref.{now}
 use borrow.Author.Needs.{needs}
-use Rattle.field.proofs.Parts.{holds, fails}
+use Rattle.field.proofs.TestParts.{holds, fails}
 use Rattle.dialect.specs.Coming.{entriesIn}
-use Rattle.dialect.proofs.Bytes.{count}
+use Rattle.dialect.proofs.EntryBytes.{count}
 use Rattle.dialect.proofs.Walks.{Placed, placed-more, placed-stop, placed-all}
 use Rattle.dialect.proofs.coming.all_placed.Statement.{statement}
 use Rattle.dialect.proofs.coming.all_placed.Tie as tie

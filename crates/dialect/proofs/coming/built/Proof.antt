@@ -7,7 +7,7 @@ use denote.Ref.{now}
 use borrow.Author.Needs.{needs}
 use Rattle.field.specs.declared.Field.{Field}
 use Rattle.dialect.specs.Coming.{entriesIn, builtOn, built}
-use Rattle.dialect.proofs.Bytes.{count}
+use Rattle.dialect.proofs.EntryBytes.{count}
 use Rattle.dialect.proofs.Walks.{Building, building-more, building-all}
 use Rattle.dialect.proofs.coming.built.Statement.{statement}
 use Rattle.dialect.proofs.coming.built.Tie as tie

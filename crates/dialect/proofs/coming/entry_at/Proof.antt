@@ -5,16 +5,16 @@ use native.Mathlib.Omega.{arith}
 use lib.ListN.{length}
 use denote.Ref.{now}
 use borrow.Author.Needs.{needs}
-use Rattle.dialect.specs.declared.Entry.{Entry}
+use Rattle.dialect.specs.declared.ListEntry.{ListEntry}
 use Rattle.dialect.specs.Going.{noEntry}
 use Rattle.dialect.specs.Coming.{entriesIn}
-use Rattle.dialect.proofs.Bytes.{count, at-index, past-end}
+use Rattle.dialect.proofs.EntryBytes.{count, at-index, past-end}
 use Rattle.dialect.proofs.coming.entry_at.Statement.{statement}
 use Rattle.dialect.proofs.coming.entry_at.Tie as tie
 
 -- the entry by its numbers
 made : {n₁ n₂ l₁ l₂ p₁ p₂ f₁ f₂ : ℕ} → n₁ ≡ n₂ → l₁ ≡ l₂ → p₁ ≡ p₂ → f₁ ≡ f₂
-    → _≡_ {A = Entry} (record { number = n₁; location = l₁; place = p₁; fix = f₁ }) (record { number = n₂; location = l₂; place = p₂; fix = f₂ })
+    → _≡_ {A = ListEntry} (record { number = n₁; location = l₁; place = p₁; fix = f₁ }) (record { number = n₂; location = l₂; place = p₂; fix = f₂ })
 made n l p f i = record { number = n i; location = l i; place = p i; fix = f i }
 
 mul-at : tie.Need-mul-at

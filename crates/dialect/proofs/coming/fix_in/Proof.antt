@@ -4,7 +4,7 @@ use mathlib.Core.Bool.{cond, _||_}
 use Prim.Native.Nat.{ℕ}
 use lib.Dec.{eqb}
 use borrow.Author.Tests.{ne-eqb}
-use Rattle.field.specs.Boxes.{isSide}
+use Rattle.field.specs.Airspace.{isSide}
 use Rattle.dialect.specs.Coming.{fixIn}
 use Rattle.dialect.proofs.coming.fix_in.Statement.{statement}
 use Rattle.dialect.proofs.coming.fix_in.Tie as tie

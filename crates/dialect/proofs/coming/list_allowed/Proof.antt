@@ -5,9 +5,9 @@ use lib.Dec.{leb}
 use denote.Ref.{now}
 use borrow.Author.Needs.{needs}
 use borrow.Author.Tests.{eq-eqb, ne-eqb, le-leb, lt-leb}
-use Rattle.field.proofs.Parts.{and-then, and-cut}
+use Rattle.field.proofs.TestParts.{and-then, and-cut}
 use Rattle.dialect.specs.Coming.{listAllowed}
-use Rattle.dialect.proofs.Bytes.{count}
+use Rattle.dialect.proofs.EntryBytes.{count}
 use Rattle.dialect.proofs.coming.list_allowed.Statement.{statement}
 use Rattle.dialect.proofs.coming.list_allowed.Tie as tie
 

@@ -1,7 +1,7 @@
 -- `dialect::coming::not_built` meets its contract, by those of its callees. Assumes nothing.
 use mathlib.Core.Path.{_≡_, ap, _∙_}
 use borrow.Author.Needs.{needs}
-use Rattle.field.specs.Boxes.{emptyField}
+use Rattle.field.specs.Airspace.{emptyField}
 use Rattle.indexed.specs.Indexed.{withIndex}
 use Rattle.dialect.specs.Coming.{notBuilt}
 use Rattle.dialect.proofs.coming.not_built.Statement.{statement}

@@ -6,15 +6,15 @@ use Rattle.field.specs.declared.Aircraft.{Aircraft}
 use Rattle.field.specs.declared.Zone.{Zone}
 use Rattle.field.specs.declared.Sequence.{Sequence}
 use Rattle.field.specs.declared.Field.{Field}
-use Rattle.field.specs.Boxes.{opposite, zoneOf, entering}
+use Rattle.field.specs.Airspace.{opposite, zoneOf, entering}
 use Rattle.field.specs.Edits.{withTail, appended, withZone, withSequence}
-use Rattle.dialect.specs.declared.Entry.{Entry}
+use Rattle.dialect.specs.declared.ListEntry.{ListEntry}
 use Rattle.dialect.specs.Coming.{fixIn, withEntry}
 use Rattle.dialect.proofs.coming.with_entry.Statement.{statement}
 use Rattle.dialect.proofs.coming.with_entry.Tie as tie
 
 -- the field by its parts
-made : (f : Field) (speed : ℕ) (e : Entry) {fix next : ℕ} {p q : Zone} {a : Aircraft} {s : Sequence} {g h : Field}
+made : (f : Field) (speed : ℕ) (e : ListEntry) {fix next : ℕ} {p q : Zone} {a : Aircraft} {s : Sequence} {g h : Field}
     → fix ≡ fixIn (e .fix) → p ≡ zoneOf f (e .location) → a ≡ entering (e .number) fix speed 1 → q ≡ withTail p a → s ≡ appended (f .sequence) (e .number)
     → g ≡ withZone f (e .location) q → next ≡ opposite fix → h ≡ withSequence g s next → h ≡ withEntry f speed e
 unfolding withEntry

@@ -5,14 +5,14 @@ use borrow.Author.Needs.{needs}
 use Rattle.field.specs.declared.Field.{Field}
 use Rattle.questions.specs.declared.Place.{Place}
 use Rattle.questions.specs.Find.{placeOf, fixOf}
-use Rattle.dialect.specs.declared.Entry.{Entry}
+use Rattle.dialect.specs.declared.ListEntry.{ListEntry}
 use Rattle.dialect.specs.Going.{listEntry}
 use Rattle.dialect.proofs.going.entry_of.Statement.{statement}
 use Rattle.dialect.proofs.going.entry_of.Tie as tie
 
 -- what the callees yield makes the entry
 made : (f : Field) (number place : ℕ) {at : Place} {fix : ℕ} → at ≡ placeOf f number → fix ≡ fixOf f number
-    → _≡_ {A = Entry} (record { number = number; location = at .zone; place = place; fix = fix }) (listEntry f number place)
+    → _≡_ {A = ListEntry} (record { number = number; location = at .zone; place = place; fix = fix }) (listEntry f number place)
 unfolding listEntry
 made f number place p q = λ i. record { number = number; location = p i .zone; place = place; fix = q i }
 

@@ -9,18 +9,18 @@ use borrow.Author.Needs.{needs}
 use Rattle.field.specs.declared.Aircraft.{Aircraft}
 use Rattle.field.specs.declared.Field.{Field}
 use Rattle.field.specs.declared.Sequence.{Sequence}
-use Rattle.field.specs.Boxes.{orderOf, orderLength}
-use Rattle.field.proofs.Known.{field-known}
+use Rattle.field.specs.Airspace.{orderOf, orderLength}
+use Rattle.field.proofs.FieldKnown.{field-known}
 use Rattle.field.proofs.Shapes.{order-fits}
-use Rattle.field.proofs.Tests.{if-true, if-false}
-use Rattle.dialect.specs.declared.Entry.{Entry}
-use Rattle.dialect.specs.Going.{listEntry, listEntries, onRunway, entriesOf, listed}
+use Rattle.field.proofs.TestLaws.{if-true, if-false}
+use Rattle.dialect.specs.declared.ListEntry.{ListEntry}
+use Rattle.dialect.specs.Going.{listEntry, listEntries, onRunway, entriesOf, entriesListed}
 use Rattle.dialect.proofs.Taken.{Taken, taken-none, taken-more, taken-all, taken-last}
 use Rattle.dialect.proofs.going.everyone.Statement.{statement}
 use Rattle.dialect.proofs.going.everyone.Tie as tie
 
 -- what holds before index i
-record Passed (f : Field) (s : Sequence) (end : ℕ) (entries : List Entry) (i : ℕ) : Type 0 where
+record Passed (f : Field) (s : Sequence) (end : ℕ) (entries : List ListEntry) (i : ℕ) : Type 0 where
   pub whole : end ≡ length (orderOf s)
   pub fits : end ≤ 4
   pub within : i ≤ end
@@ -99,8 +99,8 @@ returns c =
     let l = c .before .before .before .loop in
     let f = c .before .before .before .before .before .before .before .args .f in
     let es = listEntries f 1 (orderOf (f .sequence)) in
-    let none = ap (λ (r : List Entry). es ++ r) (if-true _ _ (sym (c .before .is-empty .ensures) ∙ c .if1 .taken)) ∙ append-nil es in
-    taken-all f (l .i) (omega (arith, l .inv .whole)) (l .inv .taken) (omega (arith, l .inv .within)) ∙ ap listed (sym none)
+    let none = ap (λ (r : List ListEntry). es ++ r) (if-true _ _ (sym (c .before .is-empty .ensures) ∙ c .if1 .taken)) ∙ append-nil es in
+    taken-all f (l .i) (omega (arith, l .inv .whole)) (l .inv .taken) (omega (arith, l .inv .within)) ∙ ap entriesListed (sym none)
 
 aircraft-at-requires : tie.Need-aircraft-at-requires Inv-loop μ-loop
 aircraft-at-requires c κs = search needs
@@ -124,9 +124,9 @@ returns-2 c =
     let l = b .before .before .before .loop in
     let f = b .before .before .before .before .before .before .before .args .f in
     let number = ap (λ (a : Aircraft). listEntry f (a .number) 0) (c .before .aircraft-at .ensures) in
-    let one = ap (λ (r : List Entry). listEntries f 1 (orderOf (f .sequence)) ++ r) (if-false _ _ (sym (b .before .is-empty .ensures) ∙ b .if1 .left)) in
+    let one = ap (λ (r : List ListEntry). listEntries f 1 (orderOf (f .sequence)) ++ r) (if-false _ _ (sym (b .before .is-empty .ensures) ∙ b .if1 .left)) in
     taken-last f (l .i) (omega (arith, l .inv .whole)) (l .inv .taken) (omega (arith, l .inv .within, l .inv .fits)) (c .entry-of2 .ensures ∙ number) (omega (arith, l .inv .within))
-    ∙ ap listed (sym one)
+    ∙ ap entriesListed (sym one)
 
 pub everyone-spec : {M : Type 1} → statement M
 everyone-spec =

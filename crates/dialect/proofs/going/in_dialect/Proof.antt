@@ -2,7 +2,7 @@
 use mathlib.Core.Path.{sym, _∙_}
 use mathlib.Core.Bool.{Bool, true, _&&_}
 use borrow.Author.Needs.{needs}
-use Rattle.field.proofs.Parts.{holds, fails, and-then, and-cut}
+use Rattle.field.proofs.TestParts.{holds, fails, and-then, and-cut}
 use Rattle.dialect.specs.Going.{inDialect}
 use Rattle.dialect.proofs.Taken.{last-part}
 use Rattle.dialect.proofs.going.in_dialect.Statement.{statement}

@@ -3,9 +3,9 @@ use mathlib.Core.Path.{_≡_, ap}
 use Prim.Native.Nat.{_+_, _-_, _≤_}
 use lib.ListN.{length, drop, drop-of-length-le}
 use borrow.Author.Tests.{eq-eqb, ne-eqb}
-use Rattle.field.specs.Boxes.{orderOf, orderLength}
+use Rattle.field.specs.Airspace.{orderOf, orderLength}
 use Rattle.field.specs.Edits.{before}
-use Rattle.field.proofs.Known.{sequence-known}
+use Rattle.field.proofs.FieldKnown.{sequence-known}
 use Rattle.field.proofs.Shapes.{order-next, order-fits}
 use borrow.Author.Needs.{needs}
 use native.Mathlib.Omega.{arith}

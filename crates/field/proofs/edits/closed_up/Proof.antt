@@ -3,7 +3,7 @@ use mathlib.Core.Path.{_≡_, sym, ap, _∙_}
 use mathlib.Core.List.{List, [], _∷_, _++_}
 use Prim.Native.Nat.{ℕ, suc}
 use lib.ListN.{length, getD, take, drop}
-use Rattle.field.proofs.Known.{numbers-known}
+use Rattle.field.proofs.FieldKnown.{numbers-known}
 use Rattle.field.proofs.Arrays.{four}
 use borrow.Author.Needs.{needs}
 use native.Mathlib.Omega.{arith}

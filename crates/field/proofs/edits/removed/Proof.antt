@@ -5,9 +5,9 @@ use Prim.Native.Nat.{ℕ, suc, _-_, _≤_, _<_}
 use lib.ListN.{length, take, drop, length-take}
 use borrow.Author.Tests.{lt-ltb, le-ltb}
 use Rattle.field.specs.declared.Sequence.{Sequence}
-use Rattle.field.specs.Boxes.{orderOf, orderLength}
+use Rattle.field.specs.Airspace.{orderOf, orderLength}
 use Rattle.field.specs.Edits.{before, removed}
-use Rattle.field.proofs.Known.{sequence-known}
+use Rattle.field.proofs.FieldKnown.{sequence-known}
 use Rattle.field.proofs.Shapes.{order-fits}
 use borrow.Author.Needs.{needs}
 use native.Mathlib.Omega.{arith}

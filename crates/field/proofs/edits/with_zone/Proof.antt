@@ -7,7 +7,7 @@ use Rattle.field.specs.Edits.{withZone}
 use Rattle.field.proofs.Arrays.{set-from-one}
 use borrow.Author.Needs.{needs}
 use native.Mathlib.Omega.{arith}
-use Rattle.field.proofs.Known.{field-known}
+use Rattle.field.proofs.FieldKnown.{field-known}
 use Rattle.field.proofs.edits.with_zone.Statement.{statement}
 use Rattle.field.proofs.edits.with_zone.Tie as tie
 

@@ -7,11 +7,11 @@ use borrow.Author.Needs.{needs}
 use borrow.Author.Tests.{eq-eqb, ne-eqb}
 use Rattle.field.specs.declared.Aircraft.{Aircraft}
 use Rattle.field.specs.declared.Zone.{Zone}
-use Rattle.field.specs.Boxes.{nobody}
+use Rattle.field.specs.Airspace.{nobody}
 use Rattle.field.specs.Edits.{withoutHead}
 use Rattle.field.proofs.Arrays.{four}
-use Rattle.field.proofs.Tests.{if-false}
-use Rattle.field.proofs.Known.{zone-known}
+use Rattle.field.proofs.TestLaws.{if-false}
+use Rattle.field.proofs.FieldKnown.{zone-known}
 use Rattle.field.proofs.edits.without_head.Statement.{statement}
 use Rattle.field.proofs.edits.without_head.Tie as tie
 

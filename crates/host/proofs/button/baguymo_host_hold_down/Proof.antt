@@ -6,12 +6,12 @@ use denote.Ref.{now}
 use borrow.Author.Needs.{needs}
 use Rattle.press_kept.specs.declared.HeldKept.{HeldKept}
 use Rattle.replies.specs.Replies.{endNumber, heldNumbers}
-use Rattle.host.proofs.Stored.{held, after-held}
+use Rattle.host.proofs.CallsOnState.{held, after-held}
 use Rattle.host.proofs.button.baguymo_host_hold_down.Statement.{statement}
 use Rattle.host.proofs.button.baguymo_host_hold_down.Tie as tie
 
-history-of-requires : tie.Need-history-of-requires
-history-of-requires c κs = search needs
+read-history-requires : tie.Need-read-history-requires
+read-history-requires c κs = search needs
 
 hold-kept-requires : tie.Need-hold-kept-requires
 hold-kept-requires c κs = search needs
@@ -30,7 +30,7 @@ returns c =
     let n = c .before .before in
     let k = n .before .before in
     let state = now (k .before .before .before .args .state) in
-    let e = held state (k .hold-kept .ensures) (k .before .history-of .ensures) in (
+    let e = held state (k .hold-kept .ensures) (k .before .read-history .ensures) in (
       n .end-number .ensures ∙ ap (λ (h : HeldKept). endNumber (h .ending)) e,
       (n .before .held-numbers .ensures ∙ ap (λ (h : HeldKept). heldNumbers (h .played) (h .ending)) e, c .store-after .ensures ∙ after-held state (n .end-number .ensures) e),
     )
@@ -39,7 +39,7 @@ pub baguymo-host-hold-down-spec : {M : Type 1} → statement M
 baguymo-host-hold-down-spec =
     tie.close
     (tie.spec
-    history-of-requires
+    read-history-requires
     hold-kept-requires
     held-numbers-requires
     end-number-requires

@@ -5,12 +5,12 @@ use borrow.Author.Needs.{needs}
 use Rattle.press_kept.specs.declared.PressedKept.{PressedKept}
 use Rattle.replies.specs.Replies.{answerNumbers, requestNumbers}
 use Rattle.layout.specs.Written.{stateAfter}
-use Rattle.host.proofs.Stored.{pressed}
+use Rattle.host.proofs.CallsOnState.{pressed}
 use Rattle.host.proofs.button.baguymo_host_press.Statement.{statement}
 use Rattle.host.proofs.button.baguymo_host_press.Tie as tie
 
-history-of-requires : tie.Need-history-of-requires
-history-of-requires c κs = search needs
+read-history-requires : tie.Need-read-history-requires
+read-history-requires c κs = search needs
 
 press-kept-requires : tie.Need-press-kept-requires
 press-kept-requires c κs = search needs
@@ -30,7 +30,7 @@ returns c =
     let q = n .before in
     let k = q .before .before .before in
     let state = now (k .before .before .before .args .state) in
-    let e = pressed state (k .press-kept .ensures) (k .before .history-of .ensures) in (
+    let e = pressed state (k .press-kept .ensures) (k .before .read-history .ensures) in (
       ap (λ (p : PressedKept). p .stepped .answer .number) e,
       (
         q .request-numbers .ensures ∙ ap (λ (p : PressedKept). requestNumbers (p .proposal)) e,
@@ -45,7 +45,7 @@ pub baguymo-host-press-spec : {M : Type 1} → statement M
 baguymo-host-press-spec =
     tie.close
     (tie.spec
-    history-of-requires
+    read-history-requires
     press-kept-requires
     request-numbers-requires
     answer-numbers-requires

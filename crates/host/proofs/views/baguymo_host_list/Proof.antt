@@ -7,8 +7,8 @@ use Rattle.host.specs.Calls.{listingOf}
 use Rattle.host.proofs.views.baguymo_host_list.Statement.{statement}
 use Rattle.host.proofs.views.baguymo_host_list.Tie as tie
 
-history-of-requires : tie.Need-history-of-requires
-history-of-requires c κs = search needs
+read-history-requires : tie.Need-read-history-requires
+read-history-requires c κs = search needs
 
 listing-of-requires : tie.Need-listing-of-requires
 listing-of-requires c κs = search needs
@@ -19,9 +19,9 @@ listing-numbers-requires c κs = search needs
 returns : tie.Need-returns
 returns c =
     let k = c .before in
-    let e = k .listing-of .ensures ∙ ap listingOf (k .before .history-of .ensures) in
+    let e = k .listing-of .ensures ∙ ap listingOf (k .before .read-history .ensures) in
     (ap (λ (l : Listing). l .number) e, c .listing-numbers .ensures ∙ ap listingNumbers e)
 
 pub baguymo-host-list-spec : {M : Type 1} → statement M
 baguymo-host-list-spec =
-    tie.close (tie.spec history-of-requires listing-of-requires listing-numbers-requires returns)
+    tie.close (tie.spec read-history-requires listing-of-requires listing-numbers-requires returns)

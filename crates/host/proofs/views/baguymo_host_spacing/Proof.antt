@@ -12,8 +12,8 @@ use Rattle.host.proofs.views.baguymo_host_spacing.Tie as tie
 spacings-on : (spacing : ℕ) {h g : History} {s : Spacings} → s ≡ spacingsOf h spacing → h ≡ g → s ≡ spacingsOf g spacing
 spacings-on spacing e f = e ∙ ap (λ (x : History). spacingsOf x spacing) f
 
-history-of-requires : tie.Need-history-of-requires
-history-of-requires c κs = search needs
+read-history-requires : tie.Need-read-history-requires
+read-history-requires c κs = search needs
 
 spacings-of-requires : tie.Need-spacings-of-requires
 spacings-of-requires c κs = search needs
@@ -27,7 +27,7 @@ pair-gaps-requires c κs = search needs
 returns : tie.Need-returns
 returns c =
     let k = c .before .before in
-    let e = spacings-on _ (k .spacings-of .ensures) (k .before .history-of .ensures) in (
+    let e = spacings-on _ (k .spacings-of .ensures) (k .before .read-history .ensures) in (
       ap (λ (s : Spacings). s .number) e,
       (c .before .spacing-numbers .ensures ∙ ap spacingNumbers e, c .pair-gaps .ensures ∙ ap (λ (s : Spacings). pairGaps (s .pairs)) e),
     )
@@ -36,7 +36,7 @@ pub baguymo-host-spacing-spec : {M : Type 1} → statement M
 baguymo-host-spacing-spec =
     tie.close
     (tie.spec
-    history-of-requires
+    read-history-requires
     spacings-of-requires
     spacing-numbers-requires
     pair-gaps-requires

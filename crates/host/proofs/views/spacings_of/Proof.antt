@@ -1,8 +1,8 @@
 -- `host::views::spacings_of` meets its contract: the spacing asked for is judged first, then the field with its kept ones. Assumes nothing.
 use mathlib.Core.Path.{sym, _∙_}
 use borrow.Author.Needs.{needs}
-use Rattle.field.proofs.Parts.{holds, fails}
-use Rattle.field.proofs.Tests.{if-true, if-false}
+use Rattle.field.proofs.TestParts.{holds, fails}
+use Rattle.field.proofs.TestLaws.{if-true, if-false}
 use Rattle.host.specs.Calls.{spacingsOf}
 use Rattle.host.proofs.views.spacings_of.Statement.{statement}
 use Rattle.host.proofs.views.spacings_of.Tie as tie
@@ -10,24 +10,24 @@ use Rattle.host.proofs.views.spacings_of.Tie as tie
 legal-spacing-requires : tie.Need-legal-spacing-requires
 legal-spacing-requires c κs = search needs
 
-refused-requires : tie.Need-refused-requires
-refused-requires c κs = search needs
+spacing-refused-requires : tie.Need-spacing-refused-requires
+spacing-refused-requires c κs = search needs
 
 returns : tie.Need-returns
 unfolding spacingsOf
-returns c = c .refused .ensures ∙ sym (if-false _ _ (fails (c .before .before .legal-spacing .ensures) (c .before .if1 .taken)))
+returns c = c .spacing-refused .ensures ∙ sym (if-false _ _ (fails (c .before .before .legal-spacing .ensures) (c .before .if1 .taken)))
 
 within-bounds-history-requires : tie.Need-within-bounds-history-requires
 within-bounds-history-requires c κs = search needs
 
-refused-requires-2 : tie.Need-refused-requires-2
-refused-requires-2 c κs = search needs
+spacing-refused-requires-2 : tie.Need-spacing-refused-requires-2
+spacing-refused-requires-2 c κs = search needs
 
 returns-2 : tie.Need-returns-2
 unfolding spacingsOf
 returns-2 c =
     let k = c .before .before in
-    c .refused2 .ensures
+    c .spacing-refused2 .ensures
     ∙ sym (if-true _ _ (holds (k .before .before .legal-spacing .ensures) (k .before .if1 .left)) ∙ if-false _ _ (fails (k .within-bounds-history .ensures) (c .before .if2 .taken)))
 
 gaps-requires : tie.Need-gaps-requires
@@ -45,10 +45,10 @@ spacings-of-spec =
     tie.close
     (tie.spec
     legal-spacing-requires
-    refused-requires
+    spacing-refused-requires
     returns
     within-bounds-history-requires
-    refused-requires-2
+    spacing-refused-requires-2
     returns-2
     gaps-requires
     returns-3)

@@ -10,9 +10,9 @@ use Rattle.text.specs.Buffer.{Put}
 use Rattle.text.proofs.Texts.{put-more, put-same}
 use Rattle.dialect.specs.declared.Listing.{Listing}
 use Rattle.listing.specs.Report.{listReport, nextLine}
-use Rattle.listing.proofs.Known.{listing-known}
-use Rattle.listing.proofs.Rows.{built-refused, built-listed}
-use Rattle.listing.proofs.Sizes.{refusal-short, both-short}
+use Rattle.listing.proofs.ListingKnown.{listing-known}
+use Rattle.listing.proofs.EntryLines.{built-refused, built-listed}
+use Rattle.listing.proofs.ListReportSizes.{refusal-short, both-short}
 use Rattle.listing.proofs.lines.put_built.Statement.{statement}
 use Rattle.listing.proofs.lines.put_built.Tie as tie
 

@@ -7,8 +7,8 @@ use denote.Ref.{now}
 use borrow.Author.Needs.{needs}
 use Rattle.text.specs.Buffer.{Put}
 use Rattle.text.proofs.Texts.{left-all, left-none, put-same}
-use Rattle.listing.proofs.Known.{listing-known}
-use Rattle.listing.proofs.Rows.{report-refused, report-listed, Lines, lines-more, lines-none, lines-past}
+use Rattle.listing.proofs.ListingKnown.{listing-known}
+use Rattle.listing.proofs.EntryLines.{report-refused, report-listed, Lines, lines-more, lines-none, lines-past}
 use Rattle.listing.proofs.lines.put_list.Statement.{statement}
 use Rattle.listing.proofs.lines.put_list.Tie as tie
 

@@ -2,11 +2,11 @@
 use Prim.Native.Nat.{_-_}
 use native.Mathlib.Omega.{arith}
 use borrow.Author.Needs.{needs}
-use Rattle.field.specs.Boxes.{queueLength}
-use Rattle.field.proofs.Known.{zone-known}
+use Rattle.field.specs.Airspace.{queueLength}
+use Rattle.field.proofs.FieldKnown.{zone-known}
 use Rattle.field.proofs.Shapes.{queue-fits}
 use Rattle.text.proofs.Texts.{left-all, left-none}
-use Rattle.positions.proofs.Placed.{Queue, queue-more, queue-past}
+use Rattle.positions.proofs.QueueLines.{Queue, queue-more, queue-past}
 use Rattle.positions.proofs.lines.put_queue.Statement.{statement}
 use Rattle.positions.proofs.lines.put_queue.Tie as tie
 

@@ -4,13 +4,13 @@ use Prim.Native.Nat.{ℕ, _-_}
 use native.Mathlib.Omega.{arith}
 use denote.Ref.{now}
 use borrow.Author.Needs.{needs}
-use Rattle.field.specs.Boxes.{orderLength}
-use Rattle.field.proofs.Known.{sequence-known}
+use Rattle.field.specs.Airspace.{orderLength}
+use Rattle.field.proofs.FieldKnown.{sequence-known}
 use Rattle.field.proofs.Shapes.{order-fits}
 use Rattle.text.specs.Buffer.{Put}
 use Rattle.text.proofs.Texts.{put-more, put-same, left-all, left-none}
 use Rattle.positions.specs.Positions.{another, sequenceText}
-use Rattle.positions.proofs.Placed.{Order, order-more, order-past}
+use Rattle.positions.proofs.QueueLines.{Order, order-more, order-past}
 use Rattle.positions.proofs.lines.put_sequence.Statement.{statement}
 use Rattle.positions.proofs.lines.put_sequence.Tie as tie
 

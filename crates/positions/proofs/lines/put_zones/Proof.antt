@@ -3,9 +3,9 @@ use Prim.Native.Nat.{_-_}
 use native.Mathlib.Omega.{arith}
 use denote.Ref.{now}
 use borrow.Author.Needs.{needs}
-use Rattle.field.proofs.Known.{field-known}
+use Rattle.field.proofs.FieldKnown.{field-known}
 use Rattle.text.proofs.Texts.{left-none}
-use Rattle.positions.proofs.Placed.{Zones, zones-none, zones-more, zones-past}
+use Rattle.positions.proofs.QueueLines.{Zones, zones-none, zones-more, zones-past}
 use Rattle.positions.proofs.lines.put_zones.Statement.{statement}
 use Rattle.positions.proofs.lines.put_zones.Tie as tie
 

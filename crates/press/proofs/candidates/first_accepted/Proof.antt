@@ -14,9 +14,9 @@ use Rattle.request.specs.declared.Request.{Request}
 use Rattle.field.specs.declared.Zone.{Zone}
 use Rattle.field.specs.declared.Aircraft.{Aircraft}
 use Rattle.field.specs.declared.Field.{Field}
-use Rattle.field.specs.Boxes.{nobody, queueOf, inZone}
-use Rattle.field.proofs.Tests.{each-from, every-from}
-use Rattle.field.proofs.Known.{field-known}
+use Rattle.field.specs.Airspace.{nobody, queueOf, inZone}
+use Rattle.field.proofs.TestLaws.{each-from, every-from}
+use Rattle.field.proofs.FieldKnown.{field-known}
 use Rattle.field.proofs.Shapes.{zone-read}
 use Rattle.questions.specs.Find.{aircraftAt}
 use Rattle.rules.specs.declared.Stepped.{Stepped}

@@ -4,7 +4,7 @@ use mathlib.Core.Bool.{Bool, cond}
 use Prim.Native.Nat.{ℕ}
 use borrow.Author.Needs.{needs}
 use Rattle.field.specs.declared.Zone.{Zone}
-use Rattle.field.specs.Boxes.{queueOf, queueLength, area}
+use Rattle.field.specs.Airspace.{queueOf, queueLength, area}
 use Rattle.field.specs.Lists.{isIn}
 use Rattle.questions.specs.Counts.{haveFix}
 use Rattle.questions.proofs.counts.counted_in.Statement.{statement}

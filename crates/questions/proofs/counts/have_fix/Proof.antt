@@ -11,8 +11,8 @@ use lib.ListN.{length, drop, getD, drop-of-length-le}
 use Rattle.field.specs.declared.Aircraft.{Aircraft}
 use Rattle.field.specs.declared.Zone.{Zone}
 use Rattle.questions.specs.Counts.{haveFix}
-use Rattle.field.specs.Boxes.{queueOf, queueLength}
-use Rattle.field.proofs.Known.{zone-known}
+use Rattle.field.specs.Airspace.{queueOf, queueLength}
+use Rattle.field.proofs.FieldKnown.{zone-known}
 use Rattle.field.proofs.Shapes.{queue-next, queue-fits}
 use Rattle.questions.proofs.counts.have_fix.Statement.{statement}
 use Rattle.questions.proofs.counts.have_fix.Tie as tie

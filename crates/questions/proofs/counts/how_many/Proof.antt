@@ -1,7 +1,7 @@
 -- `questions::counts::how_many` meets its contract, by those of `zone_of` and `queue_length`. Assumes nothing.
 use mathlib.Core.Path.{ap, _∙_}
 use borrow.Author.Needs.{needs}
-use Rattle.field.specs.Boxes.{queueLength, inZone}
+use Rattle.field.specs.Airspace.{queueLength, inZone}
 use Rattle.questions.specs.Counts.{howMany}
 use Rattle.questions.proofs.counts.how_many.Statement.{statement}
 use Rattle.questions.proofs.counts.how_many.Tie as tie

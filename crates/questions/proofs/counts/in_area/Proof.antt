@@ -3,7 +3,7 @@ use Prim.Native.Nat.{_+_}
 use native.Mathlib.Omega.{arith}
 use borrow.Author.Needs.{needs}
 use Rattle.questions.specs.Counts.{inArea}
-use Rattle.field.proofs.Known.{field-known}
+use Rattle.field.proofs.FieldKnown.{field-known}
 use Rattle.questions.proofs.Totals.{how-many-fits}
 use Rattle.questions.proofs.counts.in_area.Statement.{statement}
 use Rattle.questions.proofs.counts.in_area.Tie as tie

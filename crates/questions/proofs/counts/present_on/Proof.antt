@@ -5,7 +5,7 @@ use native.Mathlib.Omega.{arith}
 use borrow.Author.Needs.{needs}
 use Rattle.field.specs.declared.Field.{Field}
 use Rattle.questions.specs.Counts.{howMany, presentOn, inOperation}
-use Rattle.field.proofs.Known.{field-known}
+use Rattle.field.proofs.FieldKnown.{field-known}
 use Rattle.questions.proofs.Totals.{how-many-fits, total-fits}
 use Rattle.questions.proofs.counts.present_on.Statement.{statement}
 use Rattle.questions.proofs.counts.present_on.Tie as tie

@@ -4,7 +4,7 @@ use Prim.Native.Nat.{_-_, _≤_}
 use native.Mathlib.Omega.{arith}
 use borrow.Author.Needs.{needs}
 use Rattle.questions.specs.Counts.{howManyWithFix}
-use Rattle.field.proofs.Known.{field-known}
+use Rattle.field.proofs.FieldKnown.{field-known}
 use Rattle.questions.proofs.CountReads.{fixes-read}
 use Rattle.questions.proofs.Totals.{Added, added-none, added-more, added-all, with-fix-fits}
 use Rattle.questions.proofs.counts.with_fix_from.Statement.{statement}

@@ -4,7 +4,7 @@ use mathlib.Core.List.{_∷_}
 use borrow.Author.Needs.{needs}
 use lib.ListN.{getD}
 use Rattle.field.specs.declared.Zone.{Zone}
-use Rattle.field.specs.Boxes.{nobody, queueOf, inZone}
+use Rattle.field.specs.Airspace.{nobody, queueOf, inZone}
 use Rattle.questions.specs.Find.{aircraftAt}
 use Rattle.questions.proofs.find.aircraft_at.Statement.{statement}
 use Rattle.questions.proofs.find.aircraft_at.Tie as tie

@@ -5,8 +5,8 @@ use Prim.Native.Nat.{_-_, _≤_, _<_}
 use native.Mathlib.Omega.{arith}
 use borrow.Author.Needs.{needs}
 use lib.ListN.{length, List·getD-eq-default}
-use Rattle.field.specs.Boxes.{nobody, queueOf, queueLength}
-use Rattle.field.proofs.Known.{zone-known}
+use Rattle.field.specs.Airspace.{nobody, queueOf, queueLength}
+use Rattle.field.proofs.FieldKnown.{zone-known}
 use Rattle.field.proofs.Shapes.{read, from-one, queue-read, queue-fits}
 use Rattle.questions.proofs.find.aircraft_in.Statement.{statement}
 use Rattle.questions.proofs.find.aircraft_in.Tie as tie

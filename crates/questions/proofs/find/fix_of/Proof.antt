@@ -8,10 +8,10 @@ use lib.ListN.{getD}
 use Rattle.field.specs.declared.Aircraft.{Aircraft}
 use Rattle.field.specs.declared.Zone.{Zone}
 use Rattle.questions.specs.declared.Place.{Place}
-use Rattle.field.specs.Boxes.{nobody, queueOf, inZone}
+use Rattle.field.specs.Airspace.{nobody, queueOf, inZone}
 use Rattle.questions.specs.Find.{placeOf, aircraftAt, fixOf}
 use Rattle.questions.proofs.FindLaws.{place-within, nobody-nowhere}
-use Rattle.field.proofs.Known.{field-known}
+use Rattle.field.proofs.FieldKnown.{field-known}
 use Rattle.field.proofs.Shapes.{zone-read}
 use Rattle.questions.proofs.find.fix_of.Statement.{statement}
 use Rattle.questions.proofs.find.fix_of.Tie as tie

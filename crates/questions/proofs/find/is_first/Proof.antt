@@ -4,9 +4,9 @@ use Prim.Native.Nat.{ℕ, _<_}
 use native.Mathlib.Omega.{arith}
 use borrow.Author.Needs.{needs}
 use lib.ListN.{length, take, length-take}
-use Rattle.field.specs.Boxes.{orderOf}
+use Rattle.field.specs.Airspace.{orderOf}
 use Rattle.questions.specs.Find.{isHead, isFirst}
-use Rattle.field.proofs.Known.{sequence-known}
+use Rattle.field.proofs.FieldKnown.{sequence-known}
 use Rattle.field.proofs.Shapes.{order-next}
 use Rattle.questions.proofs.find.is_first.Statement.{statement}
 use Rattle.questions.proofs.find.is_first.Tie as tie

@@ -9,9 +9,9 @@ use borrow.Author.Tests.{eq-eqb, ne-eqb}
 use lib.Dec.{eqb}
 use lib.ListN.{length, drop, getD, drop-of-length-le}
 use Rattle.field.specs.declared.Sequence.{Sequence}
-use Rattle.field.specs.Boxes.{orderOf, orderLength}
+use Rattle.field.specs.Airspace.{orderOf, orderLength}
 use Rattle.questions.specs.Find.{aheadOf, leaderOf}
-use Rattle.field.proofs.Known.{sequence-known}
+use Rattle.field.proofs.FieldKnown.{sequence-known}
 use Rattle.field.proofs.Shapes.{order-next, order-fits}
 use Rattle.questions.proofs.find.leader_of.Statement.{statement}
 use Rattle.questions.proofs.find.leader_of.Tie as tie

@@ -14,10 +14,10 @@ use Rattle.field.specs.declared.Aircraft.{Aircraft}
 use Rattle.field.specs.declared.Zone.{Zone}
 use Rattle.field.specs.declared.Field.{Field}
 use Rattle.questions.specs.declared.Place.{Place}
-use Rattle.field.specs.Boxes.{zonesFrom, zoneOf, queueOf, queueLength, inZone}
+use Rattle.field.specs.Airspace.{zonesFrom, zoneOf, queueOf, queueLength, inZone}
 use Rattle.questions.specs.Counts.{howMany}
 use Rattle.questions.specs.Find.{nowhere, placeFrom, findIn, placeOf}
-use Rattle.field.proofs.Known.{field-known}
+use Rattle.field.proofs.FieldKnown.{field-known}
 use Rattle.field.proofs.Shapes.{queue-next, zone-read}
 use Rattle.questions.proofs.CountReads.{length-read}
 use Rattle.questions.proofs.Totals.{how-many-fits}

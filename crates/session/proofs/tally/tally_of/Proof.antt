@@ -7,47 +7,47 @@ use denote.Ref.{now}
 use borrow.Author.Needs.{needs}
 use Rattle.session.specs.declared.tally.Tally.{Tally}
 use Rattle.playing.specs.Log.{kindAt, numberAt}
-use Rattle.session.specs.Tally.{Under, counted}
-use Rattle.session.specs.Entries.{countedTo}
+use Rattle.session.specs.Tally.{Under, tallied}
+use Rattle.session.specs.Entries.{talliedTo}
 use Rattle.session.proofs.Tallies.{counted-few}
 use Rattle.session.proofs.tally.tally_of.Statement.{statement}
 use Rattle.session.proofs.tally.tally_of.Tie as tie
 
 abbrev Inv-loop : tie.InvT-loop
-Inv-loop log n t₀ i₀ t i = (i ≤ n) × (t ≡ countedTo log i)
+Inv-loop log n t₀ i₀ t i = (i ≤ n) × (t ≡ talliedTo log i)
 
 abbrev μ-loop : tie.MeasureT-loop
 μ-loop log n t₀ i₀ t i = n - i
 
-none-requires : tie.Need-none-requires Inv-loop μ-loop
-none-requires c κs = search needs
+empty-tally-requires : tie.Need-empty-tally-requires Inv-loop μ-loop
+empty-tally-requires c κs = search needs
 
 loop-holds : tie.Need-loop-holds Inv-loop μ-loop
-loop-holds c = (omega arith, c .none .ensures)
+loop-holds c = (omega arith, c .empty-tally .ensures)
 
-mul-counted : tie.Need-mul-counted Inv-loop μ-loop
-mul-counted c = search needs
+mul-tallied : tie.Need-mul-tallied Inv-loop μ-loop
+mul-tallied c = search needs
 
-mul-counted-2 : tie.Need-mul-counted-2 Inv-loop μ-loop
-mul-counted-2 c = search needs
+mul-tallied-2 : tie.Need-mul-tallied-2 Inv-loop μ-loop
+mul-tallied-2 c = search needs
 
-shared-slice-read-counted : tie.Need-shared-slice-read-counted Inv-loop μ-loop
-shared-slice-read-counted c = search needs
+shared-slice-read-tallied : tie.Need-shared-slice-read-tallied Inv-loop μ-loop
+shared-slice-read-tallied c = search needs
 
-mul-counted-3 : tie.Need-mul-counted-3 Inv-loop μ-loop
-mul-counted-3 c = search needs
+mul-tallied-3 : tie.Need-mul-tallied-3 Inv-loop μ-loop
+mul-tallied-3 c = search needs
 
-add-counted : tie.Need-add-counted Inv-loop μ-loop
-add-counted c = search needs
+add-tallied : tie.Need-add-tallied Inv-loop μ-loop
+add-tallied c = search needs
 
-mul-counted-4 : tie.Need-mul-counted-4 Inv-loop μ-loop
-mul-counted-4 c = search needs
+mul-tallied-4 : tie.Need-mul-tallied-4 Inv-loop μ-loop
+mul-tallied-4 c = search needs
 
-shared-slice-read-counted-2 : tie.Need-shared-slice-read-counted-2 Inv-loop μ-loop
-shared-slice-read-counted-2 c = search needs
+shared-slice-read-tallied-2 : tie.Need-shared-slice-read-tallied-2 Inv-loop μ-loop
+shared-slice-read-tallied-2 c = search needs
 
-counted-requires : tie.Need-counted-requires Inv-loop μ-loop
-counted-requires c κs =
+tallied-requires : tie.Need-tallied-requires Inv-loop μ-loop
+tallied-requires c κs =
     let l = c .before .before .before in
     let u = subst⁻¹ (Under (suc (l .loop .i))) (l .loop .inv .1) (counted-few _ _) in
     let few = l .before .before .before .pre .1 in
@@ -63,7 +63,7 @@ loop-again : tie.Need-loop-again Inv-loop μ-loop
 loop-again c =
     let l = c .before .before .before .before .loop in
     let log = now (c .before .before .before .before .before .before .before .args .log) in
-    (omega arith, rw (add-one) (c .counted .ensures ∙ ap (λ (t : Tally). counted t (kindAt log (l .i)) (numberAt log (l .i))) (l .inv .1)))
+    (omega arith, rw (add-one) (c .tallied .ensures ∙ ap (λ (t : Tally). tallied t (kindAt log (l .i)) (numberAt log (l .i))) (l .inv .1)))
 
 returns : tie.Need-returns Inv-loop μ-loop
 returns c =
@@ -77,16 +77,16 @@ tally-of-spec =
     (tie.spec
     Inv-loop
     μ-loop
-    none-requires
+    empty-tally-requires
     loop-holds
-    mul-counted
-    mul-counted-2
-    shared-slice-read-counted
-    mul-counted-3
-    add-counted
-    mul-counted-4
-    shared-slice-read-counted-2
-    counted-requires
+    mul-tallied
+    mul-tallied-2
+    shared-slice-read-tallied
+    mul-tallied-3
+    add-tallied
+    mul-tallied-4
+    shared-slice-read-tallied-2
+    tallied-requires
     add-i
     loop-less
     loop-again

@@ -5,10 +5,10 @@ use Prim.Native.Nat.{ℕ, _-_}
 use native.Mathlib.Omega.{arith}
 use denote.Ref.{now}
 use borrow.Author.Needs.{needs}
-use Rattle.gaps.proofs.Known.{spacings-known}
+use Rattle.gaps.proofs.SpacingsKnown.{spacings-known}
 use Rattle.text.specs.Buffer.{Put}
 use Rattle.text.proofs.Texts.{left-all, left-none, put-same}
-use Rattle.spaced.proofs.Listed.{report-refused, report-listed, Listing, listing-more, listing-none, listing-past}
+use Rattle.spaced.proofs.PairLines.{report-refused, report-listed, Listing, listing-more, listing-none, listing-past}
 use Rattle.spaced.proofs.lines.put_spacings.Statement.{statement}
 use Rattle.spaced.proofs.lines.put_spacings.Tie as tie
 

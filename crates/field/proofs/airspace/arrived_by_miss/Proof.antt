@@ -1,0 +1,25 @@
+-- `field::airspace::arrived_by_miss` meets its contract, by those of `progress_into`, `missed_leg` and `on_leg`. Assumes nothing.
+use mathlib.Core.Path.{_∙_}
+use borrow.Author.Needs.{needs}
+use Rattle.field.specs.Airspace.{onLeg, arrivedByMiss}
+use Rattle.field.proofs.airspace.arrived_by_miss.Statement.{statement}
+use Rattle.field.proofs.airspace.arrived_by_miss.Tie as tie
+
+progress-into-requires : tie.Need-progress-into-requires
+progress-into-requires c κs = search needs
+
+missed-leg-requires : tie.Need-missed-leg-requires
+missed-leg-requires c κs = search needs
+
+on-leg-requires : tie.Need-on-leg-requires
+on-leg-requires c κs = search needs
+
+returns : tie.Need-returns
+unfolding arrivedByMiss
+returns c =
+    let into = c .before .before in
+    let a = into .before .args .a in
+    c .on-leg .ensures ∙ (λ i. onLeg a (into .progress-into .ensures i) (c .before .missed-leg .ensures i))
+
+pub arrived-by-miss-spec : {M : Type 1} → statement M
+arrived-by-miss-spec = tie.close (tie.spec progress-into-requires missed-leg-requires on-leg-requires returns)

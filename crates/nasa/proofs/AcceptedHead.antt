@@ -1,0 +1,145 @@
+-- What an accepted request tells of the field: where its aircraft is, and the queue there. Assumes nothing.
+use mathlib.Core.Path.{_≡_, refl, sym, ap, _∙_, subst}
+use mathlib.Core.Logic.{_≢_, _⊎_, inl, inr}
+use mathlib.Core.Bool.{Bool, true, false, cond, not, _||_, true≢false}
+use mathlib.Core.List.{List, [], _∷_, _++_, map}
+use Prim.Native.Nat.{ℕ, suc, _+_, _≤_, _<_}
+use native.Mathlib.Omega.{arith}
+use borrow.Author.Tests.{eqb-true, eqb-false}
+use lib.Dec.{T, eqb, leb, leb→le}
+use lib.Ieee.Fits.{and-l}
+use lib.ListN.{length, getD, length-map}
+use Rattle.request.specs.Input.{within, isEntry, isTick, firstRefused}
+use Rattle.request.specs.declared.Request.{Request}
+use Rattle.request.proofs.InputTests as input
+use Rattle.field.specs.declared.Aircraft as field
+use Rattle.field.specs.declared.Field.{Field}
+use Rattle.questions.specs.declared.Place.{Place}
+use Rattle.field.specs.Airspace.{nobody, inZone, operation, everywhere}
+use Rattle.field.specs.Lists.{isIn}
+use Rattle.questions.specs.Counts.{total, howMany, isEmpty, inOperation}
+use Rattle.questions.specs.Find.{aircraftAt, numbersIn}
+use Rattle.bounds.specs.Bounds.{boundA, withinBounds}
+use Rattle.rules.specs.Kinds.{placeBefore, zoneBefore, absentChecks, headChecks, presenceChecks}
+use Rattle.rules.specs.Step.{numberOf}
+use Rattle.rules.specs.Reason.{hasPlaces}
+use Rattle.order.specs.Model.{Side, rightSide, leftSide}
+use Rattle.rules.proofs.Checks.{HeadPassed, besides, owned, checks-at, head-passed}
+use Rattle.rules.proofs.Refusals.{passes}
+use Rattle.field.proofs.TestLaws.{decided, pass, if-false, each-operation}
+use Rattle.questions.proofs.FindLaws.{at, found-exactly, found-there}
+use Rattle.laws.proofs.EditLaws.{Shaped}
+use Rattle.laws.proofs.BoundLaws.{within-each}
+use Rattle.descent.proofs.Descent.{shaped}
+use Rattle.nasa.specs.Definitions.{ScaAircraft, ScaZone, SCA}
+use Rattle.nasa.specs.Rules.{forFirst, nobodyIn, zoneNumber}
+use Rattle.nasa.specs.Stands.{seen, stateOf}
+
+-- ---- sums over zones
+one-in-total : (g : ℕ → ℕ) (zs : List ℕ) (z : ℕ) → isIn z zs ≡ true → g z ≤ total g zs
+one-in-total g [] z i = absurd (true≢false (sym i))
+one-in-total g (w ∷ zs) z i = go (decided (eqb w z)) (one-in-total g zs z)
+  where
+    go : (eqb w z ≡ true) ⊎ (eqb w z ≡ false) → (isIn z zs ≡ true → g z ≤ total g zs) → g z ≤ g w + total g zs
+    go (inl a) later = let e : g w ≡ g z = ap g (eqb-true w z a) in omega arith
+    go (inr a) later = let h = later (sym (ap (λ (c : Bool). c || isIn z zs) a) ∙ i) in omega arith
+
+-- those of two zones are among those of all
+two-in-total : (g : ℕ → ℕ) (zs : List ℕ) (y z : ℕ) → isIn y zs ≡ true → isIn z zs ≡ true → y ≢ z → g y + g z ≤ total g zs
+two-in-total g [] y z i j h = absurd (true≢false (sym i))
+two-in-total g (w ∷ zs) y z i j h = go (decided (eqb w y)) (decided (eqb w z)) (λ a b. two-in-total g zs y z a b h)
+  where
+    rest-y : eqb w y ≡ false → isIn y zs ≡ true
+    rest-y a = sym (ap (λ (c : Bool). c || isIn y zs) a) ∙ i
+
+    rest-z : eqb w z ≡ false → isIn z zs ≡ true
+    rest-z b = sym (ap (λ (c : Bool). c || isIn z zs) b) ∙ j
+
+    go : (eqb w y ≡ true) ⊎ (eqb w y ≡ false) → (eqb w z ≡ true) ⊎ (eqb w z ≡ false) → (isIn y zs ≡ true → isIn z zs ≡ true → g y + g z ≤ total g zs) → g y + g z ≤ g w + total g zs
+    go (inl a) (inl b) later = absurd (h (sym (eqb-true w y a) ∙ eqb-true w z b))
+    go (inl a) (inr b) later = let e : g w ≡ g y = ap g (eqb-true w y a) in let k = one-in-total g zs z (rest-z b) in omega arith
+    go (inr a) (inl b) later = let e : g w ≡ g z = ap g (eqb-true w z b) in let k = one-in-total g zs y (rest-y a) in omega arith
+    go (inr a) (inr b) later = let k = later (rest-y a) (rest-z b) in omega arith
+
+-- a zone of the operation area has room where another has somebody
+pub has-room : (f : Field) → T (withinBounds f) → (z w : ℕ) → T (within 1 12 z) → T (within 1 12 w) → z ≢ w → 1 ≤ howMany f z → howMany f w < 4
+unfolding boundA inOperation
+has-room f t z w a b h l =
+    let four = leb→le (inOperation f) 4 (and-l (leb (inOperation f) 4) (leb (howMany f 13) 1) (within-each f t .bound-a)) in
+    let both = two-in-total (howMany f) operation z w (listed z a) (listed w b) h in
+    omega arith
+  where
+    listed : (z : ℕ) → T (within 1 12 z) → isIn z operation ≡ true
+    listed = each-operation (λ z. isIn z operation ≡ true) (refl, refl, refl, refl, refl, refl, refl, refl, refl, refl, refl, refl)
+
+-- ---- one of two zones, by its side
+pub of-side : (zs : Side → ScaZone) (low : ℕ) → zoneNumber (zs rightSide) ≡ low → zoneNumber (zs leftSide) ≡ suc low → (z : ℕ) → within low (suc low) z ≡ true → (s : Side) × (z ≡ zoneNumber (zs s))
+of-side zs low p q z t =
+    let l = input.within-low low (suc low) z t in
+    let h = input.within-high low (suc low) z t in
+    elim (decided (eqb z low)) [
+      | inl e ↦ (rightSide, eqb-true z low e ∙ sym p)
+      | inr e ↦ (leftSide, (let n = eqb-false z low e in omega arith) ∙ sym q)
+    ]
+
+-- a zone that is the only one
+pub only-zone : (n z : ℕ) → within n n z ≡ true → z ≡ n
+only-zone n z t = let l = input.within-low n n z t in let h = input.within-high n n z t in omega arith
+
+-- ---- the first of a zone
+pub first-of : (f : Field) (z : ScaZone) (x : field.Aircraft) (rest : List field.Aircraft) → inZone f (zoneNumber z) ≡ x ∷ rest → (next : ScaAircraft → List ScaAircraft → List SCA)
+    → forFirst (stateOf f .queue z) next ≡ next (seen f (zoneNumber z) x) (map (seen f (zoneNumber z)) rest)
+unfolding stateOf
+first-of f z x rest e next = ap (λ (l : List field.Aircraft). forFirst (map (seen f (zoneNumber z)) l) next) e
+
+pub how-many-in : (f : Field) (z : ScaZone) → length (stateOf f .queue z) ≡ howMany f (zoneNumber z)
+unfolding stateOf howMany
+how-many-in f z = length-map (inZone f (zoneNumber z)) (seen f (zoneNumber z))
+
+pub nobody-in : (f : Field) (z : ScaZone) → nobodyIn (stateOf f) z ≡ isEmpty f (zoneNumber z)
+nobody-in f z = ap (λ (n : ℕ). eqb n 0) (how-many-in f z)
+
+-- ---- an accepted request
+
+-- its aircraft x at the head of zone z
+pub record Heads (f : Field) (r : Request) (z : ℕ) : Type 0 where
+  pub x : field.Aircraft
+  pub rest : List field.Aircraft
+  pub here : inZone f z ≡ x ∷ rest
+  pub named : x .number ≡ r .number
+
+module _ (f : Field) (h : T (hasPlaces f)) (r : Request) (e : numberOf f r ≡ 0) where
+  pub bounded : T (withinBounds f)
+  bounded = pass (passes f r e .before)
+
+  pub shape : Shaped f
+  shape = shaped f h bounded
+
+  module _ (k : ℕ) (q : r .kind ≡ k) (no-entry : isEntry k ≡ false) (no-tick : isTick k ≡ false) where
+    -- it has passed 12, 26, 13 and 14, and what its kind needs besides
+    pub heading : HeadPassed k (placeBefore f r) (owned f r) (besides f r k)
+    heading =
+        let here = placeBefore f r in
+        let heads = headChecks k here (owned f r) in
+        let all : presenceChecks k here (owned f r) ≡ heads = if-false (absentChecks here) (cond (isTick k) [] heads) no-entry ∙ if-false [] heads no-tick in
+        head-passed k here (owned f r) (besides f r k) (ap (λ (l : List (ℕ × Bool)). firstRefused (l ++ besides f r k)) (sym all) ∙ sym (ap firstRefused (checks-at f r q)) ∙ passes f r e .checks)
+
+    -- it is found, at the head
+    pub found : placeBefore f r ≡ at (zoneBefore f r) 1
+    found = ap (at (zoneBefore f r)) (eqb-true (placeBefore f r .place) 1 (heading .first))
+
+    pub heads : Heads f r (zoneBefore f r)
+    unfolding howMany aircraftAt
+    heads =
+        let present : isIn (r .number) (numbersIn f everywhere) ≡ true = is-in (isIn (r .number) (numbersIn f everywhere)) (found-exactly f (r .number)) (heading .known) in
+        let p = found-there f (r .number) present in
+        go (inZone f (zoneBefore f r)) refl (subst (λ (y : Place). y .place ≤ howMany f (zoneBefore f r)) found (p .last))
+        (subst (λ (y : Place). aircraftAt f (zoneBefore f r) (y .place) .number ≡ r .number) found (p .has))
+      where
+        is-in : (b : Bool) → eqb (zoneBefore f r) 0 ≡ not b → not (eqb (zoneBefore f r) 0) ≡ true → b ≡ true
+        is-in true a c = refl
+        is-in false a c = absurd (true≢false (sym c ∙ ap not a))
+
+        go : (l : List field.Aircraft) → inZone f (zoneBefore f r) ≡ l → 1 ≤ length l → getD (nobody ∷ l) 1 nobody .number ≡ r .number → Heads f r (zoneBefore f r)
+        go [] i a b = absurd (omega arith)
+        go (x ∷ l) i a b = record { x = x; rest = l; here = i; named = b }
