@@ -154,11 +154,17 @@ pub fn readable_field(library: &mut Library, input: &[u8]) -> String {
     format!("{how}\n{}", hexadecimal(input))
 }
 
+/// Of at most so many calls those are left out that do not matter: of more it would take minutes.
+const SHORTENED: usize = 512;
+
 /// How the two differ on legs and calls by two desks, and those as bytes, without the calls that do not matter.
 pub fn readable_desks(library: &mut Library, input: &[u8]) -> String {
     let (legs, calls) = input.split_at(input.len().min(LEGS_LENGTH));
     let with = |calls: &[&[u8]]| [legs, &calls.concat()].concat();
-    let calls = fewest(calls.chunks(CALL).collect(), |calls| same_desks(library, &with(calls)).is_err());
+    let mut calls: Vec<&[u8]> = calls.chunks(CALL).collect();
+    if calls.len() <= SHORTENED {
+        calls = fewest(calls, |calls| same_desks(library, &with(calls)).is_err());
+    }
     let how = same_desks(library, &with(&calls)).err().unwrap_or_default();
     format!("{how}\n{}", hexadecimal(&with(&calls)))
 }
