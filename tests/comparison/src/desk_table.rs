@@ -80,7 +80,7 @@ impl DeskTable {
                 }
             }
         }
-        if refused.iter().chain(kept).chain([longest]).any(|&count| count == 0) {
+        if refused.iter().chain([&kept[0], &kept[KEPT], longest]).any(|&count| count == 0) {
             faults.push(String::from("one of these never came"));
         }
         faults
