@@ -26,6 +26,7 @@ staticlib . spaced
 staticlib . writer
 staticlib . listing
 staticlib . host
+staticlib . calls_report
 cargo build --quiet --release --offline --locked --manifest-path bench/Cargo.toml
 bench=bench/target/release/bench
 longest=crates/cases/data/longest.scap

@@ -7,7 +7,7 @@ use crate::refusal::WriteRefusal;
 use crate::request::Request;
 
 /// The bytes of a call: whether it is a step back, the desk, the kind, the side, the number and the amount.
-const CALL: usize = 8;
+pub const CALL: usize = 8;
 
 /// The longest input that is played: the legs and the most calls.
 pub const LONGEST_INPUT: usize = LEGS_LENGTH + CALL * MOST_REQUESTS;

@@ -2,8 +2,10 @@
 
 use crate::lessons::Lesson;
 use crate::library::{
-    spacing_into, write_into, Library, ShortBuffer, BUTTON, FIELD, LIST, MARGIN, PLAYERS, WEEK,
+    spacing_into, write_into, Library, ShortBuffer, BUTTON, DESKS, FIELD, LIST, MARGIN, PLAYERS, WEEK,
 };
+use reference::calls::CALL;
+use reference::file::LEGS_LENGTH;
 use reference::{binder, writer, PracticeFile, Request};
 
 /// The report that both programs give of a file, the library judging the fields or not, or how they differ.
@@ -35,6 +37,11 @@ pub fn same_list(library: &mut Library, file: &[u8]) -> Result<Vec<u8>, String> 
 /// What both print of the field of legs, a speed and a list, or how they differ.
 pub fn same_field(library: &mut Library, input: &[u8]) -> Result<Vec<u8>, String> {
     same(library, &FIELD, input, reference::classroom_field(input))
+}
+
+/// What both print of legs and calls by two desks, or how they differ.
+pub fn same_desks(library: &mut Library, input: &[u8]) -> Result<Vec<u8>, String> {
+    same(library, &DESKS, input, reference::calls(input))
 }
 
 /// The number that both give of a writing, or how they differ: in the number, in the length, in a byte of the buffer, or beside
@@ -147,13 +154,33 @@ pub fn readable_field(library: &mut Library, input: &[u8]) -> String {
     format!("{how}\n{}", hexadecimal(input))
 }
 
-/// A file that plays, and differs, with fewer requests: the shortest beginning
-/// that differs; then one request after another is left out.
+/// Of at most so many calls those are left out that do not matter: of more it would take minutes.
+const SHORTENED: usize = 512;
+
+/// How the two differ on legs and calls by two desks, and those as bytes, without the calls that do not matter.
+pub fn readable_desks(library: &mut Library, input: &[u8]) -> String {
+    let (legs, calls) = input.split_at(input.len().min(LEGS_LENGTH));
+    let with = |calls: &[&[u8]]| [legs, &calls.concat()].concat();
+    let mut calls: Vec<&[u8]> = calls.chunks(CALL).collect();
+    if calls.len() <= SHORTENED {
+        calls = fewest(calls, |calls| same_desks(library, &with(calls)).is_err());
+    }
+    let how = same_desks(library, &with(&calls)).err().unwrap_or_default();
+    format!("{how}\n{}", hexadecimal(&with(&calls)))
+}
+
+/// A file that plays, and differs, with fewer requests.
 fn shortened(file: Vec<u8>, mut differs: impl FnMut(&[u8]) -> bool) -> Vec<u8> {
     let Ok(PracticeFile { legs_64ths, requests: all }) = PracticeFile::read(&file) else { return file };
     let with = |requests: &[Request]| PracticeFile { legs_64ths, requests: requests.to_vec() }.to_bytes();
-    let length = (0..=all.len()).find(|&length| differs(&with(&all[..length]))).unwrap_or(all.len());
-    with(&fewer(all[..length].to_vec(), |requests| differs(&with(requests))))
+    with(&fewest(all, |requests| differs(&with(requests))))
+}
+
+/// The shortest beginning that differs; then one after another is left out.
+fn fewest<T: Clone>(mut all: Vec<T>, mut differs: impl FnMut(&[T]) -> bool) -> Vec<T> {
+    let length = (0..=all.len()).find(|&length| differs(&all[..length])).unwrap_or(all.len());
+    all.truncate(length);
+    fewer(all, differs)
 }
 
 /// One after another is left out, where the others differ without it.

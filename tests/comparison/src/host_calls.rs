@@ -3,7 +3,7 @@
 use crate::dice::Dice;
 use crate::host_library::Call;
 use crate::lists;
-use crate::sessions::{leg, Habits};
+use crate::sessions::{legs, Habits};
 use reference::button::hold_down;
 use reference::explore::each_within_bounds;
 use reference::file::LEGS_LENGTH;
@@ -34,7 +34,7 @@ const FEW_PRESSES: usize = 4096;
 pub fn call(dice: &mut Dice, habits: &Habits, field: &Field) -> Call {
     match dice.weighted(&[280, 36, 36, 4, 16, 16, 1, 10]) {
         0 => Call::Ask(request(dice, habits, field)),
-        1 => Call::Back(dice.pick(&[1, 1, 1, 2, 2, 2, 0, 3, 255])),
+        1 => Call::Back(back(dice)),
         2 => Call::Press,
         3 if is_soon_empty(field) => Call::HoldDown,
         3 => Call::Press,
@@ -52,7 +52,7 @@ fn is_soon_empty(field: &Field) -> bool {
 }
 
 /// A request, mostly by the desk of the aircraft that it names.
-fn request(dice: &mut Dice, habits: &Habits, field: &Field) -> Request {
+pub fn request(dice: &mut Dice, habits: &Habits, field: &Field) -> Request {
     let request = habits.request(dice, field);
     let owner = field.find(request.number).map(|(_, aircraft)| aircraft.desk);
     let either = dice.pick(&[1, 2]);
@@ -63,6 +63,11 @@ fn request(dice: &mut Dice, habits: &Habits, field: &Field) -> Request {
     }
 }
 
+/// The desk that steps back.
+pub fn back(dice: &mut Dice) -> u8 {
+    dice.pick(&[1, 1, 1, 2, 2, 2, 0, 3, 255])
+}
+
 fn spacing(dice: &mut Dice) -> u16 {
     let allowed = dice.between(1, 512) as u16;
     dice.pick(&[allowed, allowed, allowed, 1, 64, 512, 0, 513, 65_535])
@@ -70,8 +75,7 @@ fn spacing(dice: &mut Dice) -> u16 {
 
 /// A start, one in four with a leg that may be refused.
 pub fn start(dice: &mut Dice) -> Call {
-    let longest = dice.pick(&[4, 64, 64, 512, 4096]);
-    let mut legs_64ths = [(); 4].map(|()| leg(dice, longest));
+    let mut legs_64ths = legs(dice);
     if dice.once_in(4) {
         legs_64ths[dice.below(4)] = dice.pick(&[0, 1, 4096, 4097, 32_768, 65_535]);
     }

@@ -1,10 +1,12 @@
 //! Practice files, binders of them, what files are written from, lists of the
-//! classroom dialect, calls of a host program, and the two programs that play,
-//! write, convert and answer them: the proved library ([`library`],
-//! [`host_library`]) and the reference.
+//! classroom dialect, calls of a host program, calls by two desks, and the two
+//! programs that play, write, convert and answer them: the proved library
+//! ([`library`], [`host_library`]) and the reference.
 
 pub mod binders;
 pub mod damaged;
+pub mod desk_lists;
+pub mod desk_table;
 pub mod dice;
 pub mod difference;
 pub mod fields;

@@ -9,6 +9,7 @@ extern "C" {
     fn baguymo_spacing(file: *const u8, length: usize, spacing: u16, out: *mut u8) -> usize;
     fn baguymo_list(file: *const u8, length: usize, out: *mut u8) -> usize;
     fn baguymo_field(input: *const u8, length: usize, out: *mut u8) -> usize;
+    fn baguymo_desks(input: *const u8, length: usize, out: *mut u8) -> usize;
     /// Two slices, and a number that is lent.
     fn baguymo_write(
         base: u16,
@@ -23,7 +24,7 @@ extern "C" {
     ) -> u16;
 }
 
-/// Bytes of the buffer that the library is lent for the report of a file, of a binder or of the button.
+/// Bytes of the buffer that the library is lent for the report of a file, of a binder, of the button or of calls by two desks.
 pub const ROOM: usize = 131_072;
 /// The same for the spacing.
 pub const SHORT_ROOM: usize = 1024;
@@ -50,6 +51,9 @@ pub const BUTTON: [(&str, Player<ROOM>); 1] = [("the library", button_into)];
 /// Its functions for the classroom dialect: the list after a file, and the field of a list.
 pub const LIST: [(&str, Player<CLASSROOM_ROOM>); 1] = [("the library", list_into)];
 pub const FIELD: [(&str, Player<CLASSROOM_ROOM>); 1] = [("the library", field_into)];
+
+/// Its function for calls by two desks.
+pub const DESKS: [(&str, Player<ROOM>); 1] = [("the library", desks_into)];
 
 pub fn report_into(file: &[u8], out: &mut Buffer) -> usize {
     // SAFETY: both pointers are valid for the lengths that the library's signature states.
@@ -84,6 +88,11 @@ pub fn list_into(file: &[u8], out: &mut ClassroomBuffer) -> usize {
 pub fn field_into(input: &[u8], out: &mut ClassroomBuffer) -> usize {
     // SAFETY: as above.
     unsafe { baguymo_field(input.as_ptr(), input.len(), out.as_mut_ptr()) }
+}
+
+pub fn desks_into(input: &[u8], out: &mut Buffer) -> usize {
+    // SAFETY: as above.
+    unsafe { baguymo_desks(input.as_ptr(), input.len(), out.as_mut_ptr()) }
 }
 
 /// Writes a practice file to the start of a buffer, and yields its number and its length.

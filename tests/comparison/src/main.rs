@@ -2,23 +2,25 @@
 //! and not, and by the reference, many binders by both, and many files after
 //! which the button is held down, and after which the spacing or a list of the
 //! classroom dialect is asked for, has both write practice files, build the
-//! fields of such lists, and answer the calls of a host program: comparison
-//! [SEED [COUNT]], COUNT random sessions, as many fields, a tenth as many random
-//! binders, a tenth as many for the button, a quarter for the spacing, for the
-//! list, and to be written, a tenth as many lists of calls. The last line says
-//! how many of them were compared, and the verdict.
+//! fields of such lists, and answer the calls of a host program, and those by
+//! two desks: comparison [SEED [COUNT]], COUNT random sessions, as many fields,
+//! a tenth as many random binders, a tenth as many for the button, a quarter for
+//! the spacing, for the list, and to be written, a tenth as many lists of calls
+//! of a host, a twentieth as many of calls by two desks. The last line says how
+//! many of them were compared, and the verdict.
 
+use comparison::desk_table::DeskTable;
 use comparison::dice::Dice;
 use comparison::difference::{
-    readable, readable_binder, readable_field, readable_lesson, same_button, same_field, same_list,
-    same_report, same_spacing, same_week, same_writing,
+    readable, readable_binder, readable_desks, readable_field, readable_lesson, same_button, same_desks,
+    same_field, same_list, same_report, same_spacing, same_week, same_writing,
 };
 use comparison::hosted::{self, Hosted};
 use comparison::lessons::Lesson;
 use comparison::library::Library;
 use comparison::list_table::{Built, Lists};
 use comparison::table::{Gaps, Presses, Table, Weeks, Writings};
-use comparison::{binders, damaged, fields, lessons, lists, sessions};
+use comparison::{binders, damaged, desk_lists, fields, lessons, lists, sessions};
 use reference::binder::to_bytes;
 use reference::PracticeFile;
 use std::path::Path;
@@ -38,8 +40,9 @@ const A_SPACED: usize = 4;
 const A_WRITTEN: usize = 4;
 /// Random sessions for each after which the list is asked for.
 const A_LISTED: usize = 4;
-/// Random sessions for each list of calls.
+/// Random sessions for each list of calls of a host, and for each list of calls by two desks.
 const A_HOSTED: usize = 10;
+const A_CALLED: usize = 20;
 /// Damaged files that play for each after which the button is held down.
 const A_DAMAGED: usize = 16;
 
@@ -69,6 +72,9 @@ struct Comparison {
     fields: Built,
     /// Calls of a host program.
     hosted: Hosted,
+    /// Lists of calls by two desks.
+    called: usize,
+    desks: DeskTable,
 }
 
 impl Comparison {
@@ -200,6 +206,21 @@ impl Comparison {
         println!("the field of {what}: {} lists", self.built - before);
         Ok(())
     }
+
+    /// Legs and calls by two desks.
+    fn called(&mut self, what: &str, inputs: impl IntoIterator<Item = Vec<u8>>) -> Result<(), String> {
+        let before = self.called;
+        for input in inputs {
+            self.called += 1;
+            let Ok(report) = same_desks(&mut self.library, &input) else {
+                let how = readable_desks(&mut self.library, &input);
+                return Err(format!("list {} of calls by two desks differs: {how}", self.called));
+            };
+            self.desks.count(&input, &report);
+        }
+        println!("calls by two desks, {what}: {} lists", self.called - before);
+        Ok(())
+    }
 }
 
 fn none_of(faults: Vec<String>) -> Result<(), String> {
@@ -241,7 +262,8 @@ fn all(comparison: &mut Comparison, seed: u64, count: usize) -> Result<(), Strin
     all_written(comparison, &mut dice, count)?;
     all_listed(comparison, &mut dice, count)?;
     all_built(comparison, &mut dice, count)?;
-    all_hosted(comparison, &mut dice, count)
+    all_hosted(comparison, &mut dice, count)?;
+    all_desks(comparison, &mut dice, count)
 }
 
 fn all_binders(comparison: &mut Comparison, dice: &mut Dice, count: usize) -> Result<(), String> {
@@ -351,6 +373,17 @@ fn all_hosted(comparison: &mut Comparison, dice: &mut Dice, count: usize) -> Res
     none_of(hosted.table.faults())
 }
 
+fn all_desks(comparison: &mut Comparison, dice: &mut Dice, count: usize) -> Result<(), String> {
+    let sessions = stored().into_iter().flat_map(|file| desk_lists::of_session(dice, &file));
+    comparison.called("stored sessions by one, the other and both", sessions)?;
+    comparison.called("edge legs, before each other fault", desk_lists::edge_legs(dice))?;
+    comparison.called("each byte of an input with each value", desk_lists::damaged(dice))?;
+    comparison.called("lengths up to 40 bytes and about 4,096 calls", desk_lists::lengths(dice))?;
+    comparison.called("random lists", (0..count / A_CALLED).map(|_| desk_lists::random(dice)))?;
+    println!("{}", comparison.desks);
+    none_of(comparison.desks.faults())
+}
+
 fn argument<T: std::str::FromStr>(place: usize, default: T) -> T {
     match env::args().nth(place) {
         Some(word) => word.parse().unwrap_or_else(|_| panic!("not a number: {word}")),
@@ -362,16 +395,17 @@ fn main() -> ExitCode {
     let (seed, count) = (argument(1, SEED), argument(2, COUNT));
     let mut comparison = Comparison::default();
     let outcome = all(&mut comparison, seed, count);
-    let Comparison { compared, binders, pressed, spaced, written, listed, built, hosted, .. } = comparison;
+    let Comparison { compared, binders, pressed, spaced, written, listed, built, hosted, called, .. } =
+        comparison;
     let calls = hosted.calls;
     match outcome {
         Ok(()) => {
-            println!("compare: {compared} files compared (seed {seed}), fields judged and not, {binders} binders, the button after {pressed} files, the spacing after {spaced} and the list after {listed}, {written} lists written or refused, {built} fields of lists, {calls} calls of a host: every report, file, number and state the same");
+            println!("compare: {compared} files compared (seed {seed}), fields judged and not, {binders} binders, the button after {pressed} files, the spacing after {spaced} and the list after {listed}, {written} lists written or refused, {built} fields of lists, {calls} calls of a host, {called} lists of calls by two desks: every report, file, number and state the same");
             ExitCode::SUCCESS
         }
         Err(fault) => {
             print!("{fault}");
-            println!("compare: FAILED after {compared} files, {binders} binders, the button after {pressed} files, the spacing after {spaced}, {written} lists to be written, the list after {listed} files, {built} fields of lists and {calls} calls of a host (seed {seed})");
+            println!("compare: FAILED after {compared} files, {binders} binders, the button after {pressed} files, the spacing after {spaced}, {written} lists to be written, the list after {listed} files, {built} fields of lists, {calls} calls of a host and {called} lists of calls by two desks (seed {seed})");
             ExitCode::FAILURE
         }
     }

@@ -152,8 +152,13 @@ fn tick_amount(dice: &mut Dice) -> u16 {
     dice.pick(&[edge, any, 64])
 }
 
-/// A leg length, short in most files.
-pub fn leg(dice: &mut Dice, longest: usize) -> u16 {
+/// Four legs, short in most files.
+pub fn legs(dice: &mut Dice) -> [u16; 4] {
+    let longest = dice.pick(&[4, 64, 64, 512, 4096]);
+    [(); 4].map(|()| leg(dice, longest))
+}
+
+fn leg(dice: &mut Dice, longest: usize) -> u16 {
     if dice.once_in(4) {
         dice.pick(&[1, 2, 63, 64, 65, 100])
     } else {
@@ -169,7 +174,7 @@ pub fn any_request(dice: &mut Dice) -> Request {
 }
 
 /// How many requests a session has: 4,096 once in 512.
-fn length(dice: &mut Dice) -> usize {
+pub fn length(dice: &mut Dice) -> usize {
     match dice.below(512) {
         0 => 4096,
         1..=32 => dice.between(0, 4),
@@ -185,8 +190,7 @@ pub fn session(dice: &mut Dice) -> Vec<u8> {
 
 /// A valid practice file with this many requests.
 pub fn session_of(dice: &mut Dice, length: usize) -> Vec<u8> {
-    let longest = dice.pick(&[4, 64, 64, 512, 4096]);
-    let legs_64ths = [(); 4].map(|()| leg(dice, longest));
+    let legs_64ths = legs(dice);
     let habits = Habits::drawn(dice);
     drawn(dice, legs_64ths, &habits, length).to_bytes()
 }

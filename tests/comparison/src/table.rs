@@ -92,7 +92,7 @@ impl Table {
 }
 
 /// One of the numbers in a line, the first at 0. In a report's line, the answer's is at 1 and `along` at 6.
-fn in_line(line: &[u8], place: usize) -> usize {
+pub fn in_line(line: &[u8], place: usize) -> usize {
     let word = line.split(|&byte| byte == b' ').nth(place).unwrap_or_default();
     word.iter().fold(0, |number, digit| 10 * number + usize::from(digit - b'0'))
 }
