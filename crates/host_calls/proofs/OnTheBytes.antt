@@ -35,7 +35,8 @@ use Rattle.layout.proofs.HistoryReadBack.{read-back}
 use Rattle.layout.proofs.CallsReadBack.{start-held, legs-in-64ths-held}
 use Rattle.replies.specs.Replies.{endNumber}
 use Rattle.host.specs.Calls.{startNumber, pressedOf, heldOnState}
-use Rattle.host_calls.specs.HostCalls.{HostCall, start, ask, back as stepBackBy, press, holdDown, spacing, list, field, replyOf, leftBy, repliesOf, leftByAll, bytesLeft, repliesOn, bytesLeftByAll, OnTheBytes}
+use Rattle.host_calls.specs.HostCalls.{HostCall, start, ask, back as stepBackBy, press, holdDown, spacing, list, field}
+use Rattle.host_calls.specs.HostCalls.{replyOf, leftBy, repliesOf, leftByAll, bytesLeft, repliesOn, bytesLeftByAll, OnTheBytes}
 use Rattle.host_calls.proofs.Held.{left-held, all-held}
 
 -- ---- one call
@@ -84,7 +85,8 @@ unfolding pressedOf heldOnState pressKept
 left-bytes h (start legs) k = begun (eqb (startNumber legs) 0) h (startOf (legsInMiles legs))
 left-bytes h (ask r) k = ap (λ (g : History). stateAfter (historyBytes h) (stepHistory g r .answer .number) (stepHistory g r .after)) (read-back h k) ∙ called-bytes h (request r)
 left-bytes h (stepBackBy desk) k = ap (λ (g : History). stateAfter (historyBytes h) (stepBack g desk .answer .number) (stepBack g desk .after)) (read-back h k) ∙ called-bytes h (back desk)
-left-bytes h press k = ap (λ (g : History). stateAfter (historyBytes h) (playedKept g (proposalKept g) .answer .number) (playedKept g (proposalKept g) .after)) (read-back h k) ∙ played-bytes h (proposalKept h)
+left-bytes h press k =
+    ap (λ (g : History). let s = playedKept g (proposalKept g) in stateAfter (historyBytes h) (s .answer .number) (s .after)) (read-back h k) ∙ played-bytes h (proposalKept h)
 left-bytes h holdDown k = ap (λ (g : History). stateAfter (historyBytes h) (endNumber (heldKept g .ending)) (heldKept g .after)) (read-back h k) ∙ held-bytes h
 left-bytes h (spacing n) k = refl
 left-bytes h list k = refl

@@ -119,7 +119,8 @@ built-within legs speed bytes =
     let x = withIndex (built (legsInMiles legs) speed (entriesIn bytes)) in
     either-way (λ (b : Built). b .number ≡ 0 → withinBoundsIndexed (b .after) ≡ true) (eqb (comingNumber legs speed bytes) 0) _ _
     (λ z e.
-    let p7 = first-passes 7 (legsAllowed legs) ((4, within 1 fastest speed) ∷ (29, listAllowed bytes) ∷ (25, withinBoundsIndexed x) ∷ []) (omega arith) (eqb-true (comingNumber legs speed bytes) 0 z) in
+    let passes = eqb-true (comingNumber legs speed bytes) 0 z in
+    let p7 = first-passes 7 (legsAllowed legs) ((4, within 1 fastest speed) ∷ (29, listAllowed bytes) ∷ (25, withinBoundsIndexed x) ∷ []) (omega arith) passes in
     let p4 = first-passes 4 (within 1 fastest speed) ((29, listAllowed bytes) ∷ (25, withinBoundsIndexed x) ∷ []) (omega arith) (p7 .1) in
     let p29 = first-passes 29 (listAllowed bytes) ((25, withinBoundsIndexed x) ∷ []) (omega arith) (p4 .1) in
     first-passes 25 (withinBoundsIndexed x) [] (omega arith) (p29 .1) .0)
@@ -133,7 +134,9 @@ played-within h (Play r) k w = step-within h w k r
 
 left-within : (h : History) (c : HostCall) → HistoryHeld h → withinBoundsHistory h ≡ true → withinBoundsHistory (leftBy h c) ≡ true
 unfolding pressKept heldKept
-left-within h (start legs) k w = either-way (λ (g : History). withinBoundsHistory g ≡ true) (eqb (startNumber legs) 0) _ h (λ e. started-within legs (allowed legs (eqb-true (startNumber legs) 0 e))) (λ e. w)
+left-within h (start legs) k w =
+    either-way (λ (g : History). withinBoundsHistory g ≡ true) (eqb (startNumber legs) 0) _ h
+    (λ e. started-within legs (allowed legs (eqb-true (startNumber legs) 0 e))) (λ e. w)
 left-within h (ask r) k w = step-within h w k r
 left-within h (back desk) k w = back-within h desk w
 left-within h press k w = played-within h (proposalKept h) k w
