@@ -15,16 +15,18 @@ use Rattle.playing.specs.Playing.{legsInMiles}
 use Rattle.press_kept.specs.declared.PressedKept.{PressedKept}
 use Rattle.press_kept.specs.declared.HeldKept.{HeldKept}
 use Rattle.press_kept.specs.PressKept.{pressKept, heldKept}
-use Rattle.host.specs.Calls.{startNumber, startedState, pressedOf, heldOnState}
+use Rattle.host.specs.Calls.{startNumber, startedState, askedOf, steppedBackOf, pressedOf, heldOnState}
 use Rattle.replies.specs.Replies.{endNumber}
 use Rattle.layout.specs.Read.{readHistory}
 use Rattle.layout.specs.Written.{historyBytes, stateAfter}
 
 -- ---- a call on the history that the bytes are read as
-pub asked : (state : List ℕ) (r : Request) {h : History} {s : SteppedHistory} → s ≡ stepHistory h r → h ≡ readHistory state → s ≡ stepHistory (readHistory state) r
+pub asked : (state : List ℕ) (r : Request) {h : History} {s : SteppedHistory} → s ≡ stepHistory h r → h ≡ readHistory state → s ≡ askedOf state r
+unfolding askedOf
 asked state r e g = e ∙ ap (λ (x : History). stepHistory x r) g
 
-pub stepped-back : (state : List ℕ) (desk : ℕ) {h : History} {s : SteppedHistory} → s ≡ stepBack h desk → h ≡ readHistory state → s ≡ stepBack (readHistory state) desk
+pub stepped-back : (state : List ℕ) (desk : ℕ) {h : History} {s : SteppedHistory} → s ≡ stepBack h desk → h ≡ readHistory state → s ≡ steppedBackOf state desk
+unfolding steppedBackOf
 stepped-back state desk e g = e ∙ ap (λ (x : History). stepBack x desk) g
 
 -- the state after a step that is known

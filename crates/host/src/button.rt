@@ -9,9 +9,7 @@ use replies::end_number;
 use replies::held_numbers;
 use replies::request_numbers;
 ghost use mathlib.Core.Path.{_≡_};
-ghost use Rattle.layout.specs.Written.{stateAfter};
-ghost use Rattle.replies.specs.Replies.{answerNumbers, requestNumbers, endNumber, heldNumbers};
-ghost use Rattle.host.specs.Calls.{pressedOf, pressedState, heldOnState};
+ghost use Rattle.host.specs.Calls.{press, holdDown, replyOn, bytesLeft};
 
 // One press of the button on the state: its number, the request that it plays, and the answer.
 #[no_mangle]
@@ -20,10 +18,10 @@ pub extern "C" fn baguymo_host_press(
     request: &mut [usize; 5],
     answer: &mut [usize; 6],
 ) -> u16
-    ensures { λ r. ⌜ r ≡ pressedOf (now (state .entry)) .stepped .answer .number ⌝ }
-    ensures { λ _. ⌜ now (request .exit) ≡ requestNumbers (pressedOf (now (state .entry)) .proposal) ⌝ }
-    ensures { λ _. ⌜ now (answer .exit) ≡ answerNumbers (pressedOf (now (state .entry)) .stepped .answer) ⌝ }
-    ensures { λ _. ⌜ now (state .exit) ≡ pressedState (now (state .entry)) ⌝ }
+    ensures { λ r. ⌜ r ≡ replyOn (now (state .entry)) press .number ⌝ }
+    ensures { λ _. ⌜ now (request .exit) ≡ replyOn (now (state .entry)) press .request ⌝ }
+    ensures { λ _. ⌜ now (answer .exit) ≡ replyOn (now (state .entry)) press .numbers ⌝ }
+    ensures { λ _. ⌜ now (state .exit) ≡ bytesLeft (now (state .entry)) press ⌝ }
 {
     let p = press_kept(read_history(state));
     let proposal = p.proposal;
@@ -38,9 +36,9 @@ pub extern "C" fn baguymo_host_press(
 // The button held down on the state: its number, how many requests it played, and whether its presses are spent.
 #[no_mangle]
 pub extern "C" fn baguymo_host_hold_down(state: &mut State, report: &mut [usize; 2]) -> u16
-    ensures { λ r. ⌜ r ≡ endNumber (heldOnState (now (state .entry)) .ending) ⌝ }
-    ensures { λ _. ⌜ now (report .exit) ≡ heldNumbers (heldOnState (now (state .entry)) .played) (heldOnState (now (state .entry)) .ending) ⌝ }
-    ensures { λ _. ⌜ now (state .exit) ≡ stateAfter (now (state .entry)) (endNumber (heldOnState (now (state .entry)) .ending)) (heldOnState (now (state .entry)) .after) ⌝ }
+    ensures { λ r. ⌜ r ≡ replyOn (now (state .entry)) holdDown .number ⌝ }
+    ensures { λ _. ⌜ now (report .exit) ≡ replyOn (now (state .entry)) holdDown .numbers ⌝ }
+    ensures { λ _. ⌜ now (state .exit) ≡ bytesLeft (now (state .entry)) holdDown ⌝ }
 {
     let h = hold_kept(read_history(state));
     let e = h.ending;

@@ -17,11 +17,7 @@ use practice::legs_allowed;
 use replies::answer_numbers;
 use request::Request;
 ghost use mathlib.Core.Path.{_≡_};
-ghost use Rattle.dialect.specs.Coming.{fieldOfList};
-ghost use Rattle.history.specs.History.{stepHistory, stepBack};
-ghost use Rattle.layout.specs.Read.{readHistory};
-ghost use Rattle.replies.specs.Replies.{answerNumbers};
-ghost use Rattle.host.specs.Calls.{startNumber, startedState, askedState, steppedBackState, builtState};
+ghost use Rattle.host.specs.Calls.{start, ask, back, builtFrom, replyOn, bytesLeft};
 
 // Writes the state of the empty field with these legs, or refuses them.
 #[no_mangle]
@@ -32,8 +28,8 @@ pub extern "C" fn baguymo_host_start(
     missed: u16,
     state: &mut State,
 ) -> u16
-    ensures { λ r. ⌜ r ≡ startNumber (record { base = base; intermediate = intermediate; last = last; missed = missed }) ⌝ }
-    ensures { λ _. ⌜ now (state .exit) ≡ startedState (now (state .entry)) (record { base = base; intermediate = intermediate; last = last; missed = missed }) ⌝ }
+    ensures { λ r. ⌜ r ≡ replyOn (now (state .entry)) (start (record { base = base; intermediate = intermediate; last = last; missed = missed })) .number ⌝ }
+    ensures { λ _. ⌜ now (state .exit) ≡ bytesLeft (now (state .entry)) (start (record { base = base; intermediate = intermediate; last = last; missed = missed })) ⌝ }
 {
     let legs = FileLegs {
         base: base,
@@ -59,9 +55,9 @@ pub extern "C" fn baguymo_host_ask(
     amount: u16,
     answer: &mut [usize; 6],
 ) -> u16
-    ensures { λ r. ⌜ r ≡ stepHistory (readHistory (now (state .entry))) (record { kind = kind; side = side; number = number; amount = amount; desk = desk }) .answer .number ⌝ }
-    ensures { λ _. ⌜ now (answer .exit) ≡ answerNumbers (stepHistory (readHistory (now (state .entry))) (record { kind = kind; side = side; number = number; amount = amount; desk = desk }) .answer) ⌝ }
-    ensures { λ _. ⌜ now (state .exit) ≡ askedState (now (state .entry)) (record { kind = kind; side = side; number = number; amount = amount; desk = desk }) ⌝ }
+    ensures { λ r. ⌜ r ≡ replyOn (now (state .entry)) (ask (record { kind = kind; side = side; number = number; amount = amount; desk = desk })) .number ⌝ }
+    ensures { λ _. ⌜ now (answer .exit) ≡ replyOn (now (state .entry)) (ask (record { kind = kind; side = side; number = number; amount = amount; desk = desk })) .numbers ⌝ }
+    ensures { λ _. ⌜ now (state .exit) ≡ bytesLeft (now (state .entry)) (ask (record { kind = kind; side = side; number = number; amount = amount; desk = desk })) ⌝ }
 {
     let r = Request {
         kind: kind,
@@ -80,8 +76,8 @@ pub extern "C" fn baguymo_host_ask(
 // One step back of the state by a desk: its number.
 #[no_mangle]
 pub extern "C" fn baguymo_host_back(state: &mut State, desk: u8) -> u16
-    ensures { λ r. ⌜ r ≡ stepBack (readHistory (now (state .entry))) desk .answer .number ⌝ }
-    ensures { λ _. ⌜ now (state .exit) ≡ steppedBackState (now (state .entry)) desk ⌝ }
+    ensures { λ r. ⌜ r ≡ replyOn (now (state .entry)) (back desk) .number ⌝ }
+    ensures { λ _. ⌜ now (state .exit) ≡ bytesLeft (now (state .entry)) (back desk) ⌝ }
 {
     let stepped = step_back(read_history(state), desk);
     let a = stepped.answer;
@@ -100,8 +96,8 @@ pub extern "C" fn baguymo_host_field(
     list: &[u8],
     state: &mut State,
 ) -> u16
-    ensures { λ r. ⌜ r ≡ fieldOfList (record { base = base; intermediate = intermediate; last = last; missed = missed }) speed (now (list .entry)) .number ⌝ }
-    ensures { λ _. ⌜ now (state .exit) ≡ builtState (now (state .entry)) (fieldOfList (record { base = base; intermediate = intermediate; last = last; missed = missed }) speed (now (list .entry))) ⌝ }
+    ensures { λ r. ⌜ r ≡ replyOn (now (state .entry)) (builtFrom (record { base = base; intermediate = intermediate; last = last; missed = missed }) speed (now (list .entry))) .number ⌝ }
+    ensures { λ _. ⌜ now (state .exit) ≡ bytesLeft (now (state .entry)) (builtFrom (record { base = base; intermediate = intermediate; last = last; missed = missed }) speed (now (list .entry))) ⌝ }
 {
     let legs = FileLegs {
         base: base,

@@ -14,9 +14,7 @@ use replies::listing_numbers;
 use replies::pair_gaps;
 use replies::spacing_numbers;
 ghost use mathlib.Core.Path.{_≡_};
-ghost use Rattle.layout.specs.Read.{readHistory};
-ghost use Rattle.replies.specs.Replies.{pairGaps, spacingNumbers, listingNumbers};
-ghost use Rattle.host.specs.Calls.{spacingsOf, listingOf};
+ghost use Rattle.host.specs.Calls.{spacingsOf, listingOf, spaced, listed, replyOn};
 
 // The spacing of the pairs on the approach of a field with its kept ones.
 fn spacings_of(h: History, spacing: u16) -> Spacings
@@ -40,9 +38,9 @@ pub extern "C" fn baguymo_host_spacing(
     pairs: &mut [usize; 10],
     miles: &mut [f64; 3],
 ) -> u16
-    ensures { λ r. ⌜ r ≡ spacingsOf (readHistory (now (state .entry))) spacing .number ⌝ }
-    ensures { λ _. ⌜ now (pairs .exit) ≡ spacingNumbers (spacingsOf (readHistory (now (state .entry))) spacing) ⌝ }
-    ensures { λ _. ⌜ now (miles .exit) ≡ pairGaps (spacingsOf (readHistory (now (state .entry))) spacing .pairs) ⌝ }
+    ensures { λ r. ⌜ r ≡ replyOn (now (state .entry)) (spaced spacing) .number ⌝ }
+    ensures { λ _. ⌜ now (pairs .exit) ≡ replyOn (now (state .entry)) (spaced spacing) .numbers ⌝ }
+    ensures { λ _. ⌜ now (miles .exit) ≡ replyOn (now (state .entry)) (spaced spacing) .gaps ⌝ }
 {
     let s = spacings_of(read_history(state), spacing);
     *pairs = spacing_numbers(s);
@@ -63,8 +61,8 @@ fn listing_of(h: History) -> Listing
 // The field of the state as a list of the classroom dialect: its number, the count and the entries.
 #[no_mangle]
 pub extern "C" fn baguymo_host_list(state: &State, entries: &mut [usize; 21]) -> u16
-    ensures { λ r. ⌜ r ≡ listingOf (readHistory (now (state .entry))) .number ⌝ }
-    ensures { λ _. ⌜ now (entries .exit) ≡ listingNumbers (listingOf (readHistory (now (state .entry)))) ⌝ }
+    ensures { λ r. ⌜ r ≡ replyOn (now (state .entry)) listed .number ⌝ }
+    ensures { λ _. ⌜ now (entries .exit) ≡ replyOn (now (state .entry)) listed .numbers ⌝ }
 {
     let l = listing_of(read_history(state));
     *entries = listing_numbers(l);

@@ -1,7 +1,7 @@
 -- From the start with legal legs, any list of a host's calls that go on amounts to a list of requests and steps back, and what holds of those holds of it: with
 -- demand 3, no 25, and a button that empties the field. Assumes nothing.
 use mathlib.Core.Path.{_≡_, refl, sym, ap, subst, subst⁻¹, _∙_}
-use mathlib.Core.Bool.{true, not}
+use mathlib.Core.Bool.{Bool, true, cond, not, _||_}
 use mathlib.Core.List.{List, [], _∷_, _++_, map}
 use Prim.Native.Nat.{ℕ, _≤_}
 use native.Mathlib.Omega.{arith}
@@ -16,7 +16,7 @@ use Rattle.playing.specs.Playing.{legsInMiles}
 use Rattle.playing.proofs.PlayedFiles.{file-legs-legal}
 use Rattle.field.specs.declared.Legs.{Legs}
 use Rattle.field.specs.Lists.{every}
-use Rattle.field.proofs.TestLaws.{passed, fail, either-way}
+use Rattle.field.proofs.TestLaws.{passed, fail, failed, either-way, if-false}
 use Rattle.questions.specs.Counts.{presentOn}
 use Rattle.fits.specs.Fits.{legalLegs}
 use Rattle.bounds.specs.Bounds.{withinBounds}
@@ -37,6 +37,7 @@ use Rattle.gaps.specs.Gaps.{legalSpacing, gapsOf}
 use Rattle.dialect.specs.declared.Listing.{Listing}
 use Rattle.dialect.specs.Going as going
 use Rattle.dialect.specs.Going.{inDialect, listOf}
+use Rattle.dialect.specs.Coming.{fieldOfList}
 use Rattle.finder.specs.Finder.{withinBoundsIndexed}
 use Rattle.taken_back.specs.Calls as calls
 use Rattle.taken_back.specs.Calls.{Call, called, afterCalls, historyOf}
@@ -46,8 +47,9 @@ use Rattle.taken_back.proofs.Follows.{field-now}
 use Rattle.layout.proofs.CallsReadBack.{start-held, legs-in-64ths-held}
 use Rattle.replies.specs.Replies.{endNumber}
 use Rattle.host.specs.Calls.{spacingsOf, listingOf}
-use Rattle.host_calls.specs.HostCalls.{HostCall, start, ask, back, press, holdDown, spacing, list, field, replyOf, leftBy, repliesOf, leftByAll}
-use Rattle.host_calls.specs.FromStart.{goesOn, callsOf, allCallsOf, neverReplied, FromStart}
+use Rattle.host.specs.Calls.{HostCall, start, ask, back, press, holdDown, spaced, listed, builtFrom}
+use Rattle.host_calls.specs.HostCalls.{replyOf, leftBy, leftByAll}
+use Rattle.host_calls.specs.FromStart.{goesOn, callsOf, allCallsOf, buildsField, neverAnswered, FromStart}
 use Rattle.host_calls.proofs.Held.{all-held}
 use Rattle.host_calls.proofs.Button.{asked-calls, held-same}
 use Rattle.host_calls.proofs.WithinAfterCalls.{stays-within-from-start}
@@ -61,12 +63,14 @@ played-calls h (Play r) = refl
 
 left-calls : (h : History) (c : HostCall) → T (goesOn c) → leftBy h c ≡ afterCalls h (callsOf h c)
 unfolding pressKept pressesKept heldKept
+left-calls h (start legs) t = ap (λ (b : Bool). cond (eqb (cond b 0 7) 0) (startOf (legsInMiles legs)) h) (failed {b = legsAllowed legs} t)
 left-calls h (ask r) t = refl
 left-calls h (back desk) t = refl
 left-calls h press t = played-calls h (proposalKept h)
 left-calls h holdDown t = asked-calls h (pressesKept mostPresses h)
-left-calls h (spacing n) t = refl
-left-calls h list t = refl
+left-calls h (spaced n) t = refl
+left-calls h listed t = refl
+left-calls h (builtFrom legs speed bytes) t = if-false _ _ (failed {b = eqb (fieldOfList legs speed bytes .number) 0} t)
 
 calls-behind : (h : History) (cs ds : List Call) → afterCalls h (cs ++ ds) ≡ afterCalls (afterCalls h cs) ds
 calls-behind h [] ds = refl
@@ -105,6 +109,9 @@ list-not-25 h =
     (λ e. either-way Not (withinBoundsIndexed (h .now)) _ _ (λ e. either-way Not (inDialect (h .now .field)) _ _ (λ e q. omega (arith, q)) (λ e q. omega (arith, q))) (λ e q. omega (arith, q)))
     (λ e q. omega (arith, q))
 
+not-25 : {n : ℕ} → (n ≡ 25 → ⊥) → T (not (eqb n 25))
+not-25 e = fail (ne-eqb _ _ e)
+
 module _ (legs : Legs) (l : T (legalLegs legs)) where
   -- on a history that follows
   played-not-25 : (h : History) (rs : List Request) → Follows legs h rs → (p : Proposal) → playedKept h p .answer .number ≡ 25 → ⊥
@@ -113,24 +120,26 @@ module _ (legs : Legs) (l : T (legalLegs legs)) where
   played-not-25 h rs q None e = omega (arith, e)
   played-not-25 h rs q (Play r) e = one-call legs l h rs q (calls.request r) .not-25 e
 
-  reply-not-25 : (h : History) (rs : List Request) → Follows legs h rs → (c : HostCall) → T (goesOn c) → replyOf h c .number ≡ 25 → ⊥
+  answer-not-25 : (h : History) (rs : List Request) → Follows legs h rs → (c : HostCall) → T (buildsField c || not (eqb (replyOf h c .number) 25))
   unfolding pressKept
-  reply-not-25 h rs q (ask r) t = one-call legs l h rs q (calls.request r) .not-25
-  reply-not-25 h rs q (back desk) t = one-call legs l h rs q (calls.back desk) .not-25
-  reply-not-25 h rs q press t = played-not-25 h rs q (proposalKept h)
-  reply-not-25 h rs q holdDown t = end-not-25 (heldKept h .ending)
-  reply-not-25 h rs q (spacing n) t = spacing-not-25 h n
-  reply-not-25 h rs q list t = list-not-25 h
+  answer-not-25 h rs q (start other) = not-25 (either-way (λ (n : ℕ). n ≡ 25 → ⊥) (legsAllowed other) 0 7 (λ e z. omega (arith, z)) (λ e z. omega (arith, z)))
+  answer-not-25 h rs q (ask r) = not-25 (one-call legs l h rs q (calls.request r) .not-25)
+  answer-not-25 h rs q (back desk) = not-25 (one-call legs l h rs q (calls.back desk) .not-25)
+  answer-not-25 h rs q press = not-25 (played-not-25 h rs q (proposalKept h))
+  answer-not-25 h rs q holdDown = not-25 (end-not-25 (heldKept h .ending))
+  answer-not-25 h rs q (spaced n) = not-25 (spacing-not-25 h n)
+  answer-not-25 h rs q listed = not-25 (list-not-25 h)
+  answer-not-25 h rs q (builtFrom other speed bytes) = tt
 
   -- the requests and steps back that have gone before
-  never-25 : (before : List Call) (h : History) → h ≡ afterCalls (startOf legs) before → (cs : List HostCall) → T (every goesOn cs) → T (neverReplied 25 (repliesOf h cs))
+  never-25 : (before : List Call) (h : History) → h ≡ afterCalls (startOf legs) before → (cs : List HostCall) → T (every goesOn cs) → T (neverAnswered 25 h cs)
   never-25 before h e [] t = tt
   never-25 before h e (c ∷ cs) t =
       let on = and-l (goesOn c) (every goesOn cs) t in
       let follows = subst⁻¹ (λ (g : History). Follows legs g (historyOf legs before)) e (taken-back legs l before .follows) in
       let next : leftBy h c ≡ afterCalls (startOf legs) (before ++ callsOf h c) =
       left-calls h c on ∙ ap (λ (g : History). afterCalls g (callsOf h c)) e ∙ sym (calls-behind (startOf legs) before (callsOf h c)) in
-      and-i (not (eqb (replyOf h c .number) 25)) (neverReplied 25 (repliesOf (leftBy h c) cs)) (fail (ne-eqb _ _ (reply-not-25 h (historyOf legs before) follows c on)))
+      and-i (buildsField c || not (eqb (replyOf h c .number) 25)) (neverAnswered 25 (leftBy h c) cs) (answer-not-25 h (historyOf legs before) follows c)
       (never-25 (before ++ callsOf h c) (leftBy h c) next cs (and-r (goesOn c) (every goesOn cs) t))
 
 -- ---- what holds from the start

@@ -25,7 +25,8 @@ use Rattle.layout.specs.Held.{MilesHeld, FieldWith, IndexedWith, HistoryHeld}
 use Rattle.layout.proofs.StaysHeld.{zone-held, with-tail-held, with-zone-held, appended-held, with-sequence-held, empty-field-held}
 use Rattle.layout.proofs.CallsReadBack.{with-index-held, start-with-held, start-held, legs-in-64ths-held, step-history-held, step-back-held}
 use Rattle.host.specs.Calls.{startNumber}
-use Rattle.host_calls.specs.HostCalls.{HostCall, start, ask, back, press, holdDown, spacing, list, field, leftBy, leftByAll}
+use Rattle.host.specs.Calls.{HostCall, start, ask, back, press, holdDown, spaced, listed, builtFrom}
+use Rattle.host_calls.specs.HostCalls.{leftBy, leftByAll}
 
 -- ---- the field that a classroom list builds
 
@@ -78,9 +79,9 @@ left-held h (ask r) k = step-history-held h r k
 left-held h (back desk) k = step-back-held h desk k
 left-held h press k = played-held h (proposalKept h) k
 left-held h holdDown k = asked-held h (pressesKept mostPresses h) k
-left-held h (spacing n) k = k
-left-held h list k = k
-left-held h (field legs speed bytes) k =
+left-held h (spaced n) k = k
+left-held h listed k = k
+left-held h (builtFrom legs speed bytes) k =
     either-way HistoryHeld (eqb (fieldOfList legs speed bytes .number) 0) _ h (λ e. start-with-held (fieldOfList legs speed bytes .after) (field-of-held legs speed bytes)) (λ e. k)
 
 pub all-held : (h : History) (cs : List HostCall) → HistoryHeld h → HistoryHeld (leftByAll h cs)

@@ -34,9 +34,9 @@ use Rattle.layout.proofs.PartSizes.{state-size}
 use Rattle.layout.proofs.HistoryReadBack.{read-back}
 use Rattle.layout.proofs.CallsReadBack.{start-held, legs-in-64ths-held}
 use Rattle.replies.specs.Replies.{endNumber}
-use Rattle.host.specs.Calls.{startNumber, pressedOf, heldOnState}
-use Rattle.host_calls.specs.HostCalls.{HostCall, start, ask, back as stepBackBy, press, holdDown, spacing, list, field}
-use Rattle.host_calls.specs.HostCalls.{replyOf, leftBy, repliesOf, leftByAll, bytesLeft, repliesOn, bytesLeftByAll, OnTheBytes}
+use Rattle.host.specs.Calls.{startNumber, askedOf, steppedBackOf, pressedOf, heldOnState, Reply, replyOn, bytesLeft}
+use Rattle.host.specs.Calls.{HostCall, start, ask, back as stepBackBy, press, holdDown, spaced, listed, builtFrom}
+use Rattle.host_calls.specs.HostCalls.{replyOf, leftBy, repliesOf, leftByAll, repliesOn, bytesLeftByAll, OnTheBytes}
 use Rattle.host_calls.proofs.Held.{left-held, all-held}
 
 -- ---- one call
@@ -81,16 +81,31 @@ held-bytes h =
     ]
 
 left-bytes : (h : History) (c : HostCall) → HistoryHeld h → bytesLeft (historyBytes h) c ≡ historyBytes (leftBy h c)
-unfolding pressedOf heldOnState pressKept
+unfolding askedOf steppedBackOf pressedOf heldOnState pressKept
 left-bytes h (start legs) k = begun (eqb (startNumber legs) 0) h (startOf (legsInMiles legs))
 left-bytes h (ask r) k = ap (λ (g : History). stateAfter (historyBytes h) (stepHistory g r .answer .number) (stepHistory g r .after)) (read-back h k) ∙ called-bytes h (request r)
 left-bytes h (stepBackBy desk) k = ap (λ (g : History). stateAfter (historyBytes h) (stepBack g desk .answer .number) (stepBack g desk .after)) (read-back h k) ∙ called-bytes h (back desk)
 left-bytes h press k =
     ap (λ (g : History). let s = playedKept g (proposalKept g) in stateAfter (historyBytes h) (s .answer .number) (s .after)) (read-back h k) ∙ played-bytes h (proposalKept h)
 left-bytes h holdDown k = ap (λ (g : History). stateAfter (historyBytes h) (endNumber (heldKept g .ending)) (heldKept g .after)) (read-back h k) ∙ held-bytes h
-left-bytes h (spacing n) k = refl
-left-bytes h list k = refl
-left-bytes h (field legs speed bytes) k = begun (eqb (fieldOfList legs speed bytes .number) 0) h (startWith (fieldOfList legs speed bytes .after))
+left-bytes h (spaced n) k = refl
+left-bytes h listed k = refl
+left-bytes h (builtFrom legs speed bytes) k = begun (eqb (fieldOfList legs speed bytes .number) 0) h (startWith (fieldOfList legs speed bytes .after))
+
+-- what it replies is read off the history that the bytes are
+reply-read : (b : List ℕ) (c : HostCall) → replyOn b c ≡ replyOf (readHistory b) c
+unfolding askedOf steppedBackOf pressedOf heldOnState
+reply-read b (start legs) = refl
+reply-read b (ask r) = refl
+reply-read b (stepBackBy desk) = refl
+reply-read b press = refl
+reply-read b holdDown = refl
+reply-read b (spaced n) = refl
+reply-read b listed = refl
+reply-read b (builtFrom legs speed bytes) = refl
+
+reply-same : (h : History) (c : HostCall) → HistoryHeld h → replyOn (historyBytes h) c ≡ replyOf h c
+reply-same h c k = reply-read (historyBytes h) c ∙ ap (λ (g : History). replyOf g c) (read-back h k)
 
 -- ---- any list
 
@@ -98,7 +113,7 @@ replies-same : (h : History) (cs : List HostCall) → HistoryHeld h → repliesO
 replies-same h [] k = refl
 replies-same h (c ∷ cs) k =
     let rest = ap (λ (b : List ℕ). repliesOn b cs) (left-bytes h c k) ∙ replies-same (leftBy h c) cs (left-held h c k) in
-    λ i. replyOf (read-back h k i) c ∷ rest i
+    λ i. reply-same h c k i ∷ rest i
 
 bytes-same : (h : History) (cs : List HostCall) → HistoryHeld h → bytesLeftByAll (historyBytes h) cs ≡ historyBytes (leftByAll h cs)
 bytes-same h [] k = refl

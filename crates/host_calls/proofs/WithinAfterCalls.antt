@@ -53,7 +53,8 @@ use Rattle.layout.specs.Held.{HistoryHeld}
 use Rattle.layout.proofs.CallsReadBack.{start-held, legs-in-64ths-held}
 use Rattle.replies.specs.Replies.{endNumber}
 use Rattle.host.specs.Calls.{startNumber, spacingsOf, listingOf}
-use Rattle.host_calls.specs.HostCalls.{HostCall, start, ask, back, press, holdDown, spacing, list, field, replyOf, leftBy, repliesOf}
+use Rattle.host.specs.Calls.{HostCall, start, ask, back, press, holdDown, spaced, listed, builtFrom}
+use Rattle.host_calls.specs.HostCalls.{replyOf, leftBy, repliesOf}
 use Rattle.host_calls.specs.FromStart.{neverReplied, StaysWithin}
 use Rattle.host_calls.proofs.Held.{left-held}
 use Rattle.host_calls.proofs.Button.{now-within, field-within, answered-same, proposed-same, step-within, asked-within}
@@ -141,9 +142,9 @@ left-within h (ask r) k w = step-within h w k r
 left-within h (back desk) k w = back-within h desk w
 left-within h press k w = played-within h (proposalKept h) k w
 left-within h holdDown k w = asked-within h k w (pressesKept mostPresses h)
-left-within h (spacing n) k w = w
-left-within h list k w = w
-left-within h (field legs speed bytes) k w =
+left-within h (spaced n) k w = w
+left-within h listed k w = w
+left-within h (builtFrom legs speed bytes) k w =
     either-way (λ (g : History). withinBoundsHistory g ≡ true) (eqb (fieldOfList legs speed bytes .number) 0) _ h
     (λ e. begun-within (fieldOfList legs speed bytes .after) (built-within legs speed bytes (eqb-true (fieldOfList legs speed bytes .number) 0 e))) (λ e. w)
 
@@ -243,9 +244,9 @@ reply-not-10 h holdDown w = λ e.
     let after = afterAsked h (pressesKept mostPresses h) .now .field in
     let n = sym (ap (λ (b : Bool). endNumber (endingKept b after)) w ∙ ended-0 after) ∙ e in
     omega (arith, n)
-reply-not-10 h (spacing n) w = spacing-not-10 h w n
-reply-not-10 h list w = list-not-10 h w
-reply-not-10 h (field legs speed bytes) w = field-not-10 legs speed bytes
+reply-not-10 h (spaced n) w = spacing-not-10 h w n
+reply-not-10 h listed w = list-not-10 h w
+reply-not-10 h (builtFrom legs speed bytes) w = field-not-10 legs speed bytes
 
 -- ---- any list
 

@@ -1,45 +1,58 @@
 -- A host's calls as requests and steps back (02, 2.13), so that what is proved of any list of those holds of any list of a host's calls. Definitions only.
 use mathlib.Core.Path.{_≡_}
-use mathlib.Core.Bool.{Bool, true, false, not}
+use mathlib.Core.Bool.{Bool, true, false, not, _&&_, _||_}
 use mathlib.Core.List.{List, [], _∷_, _++_, map}
 use Prim.Native.Nat.{ℕ, _≤_}
 use lib.Dec.{T, eqb}
 use Rattle.limits.specs.Limits.{mostPresses}
+use Rattle.request.specs.declared.Request.{Request}
+use Rattle.practice.specs.declared.FileLegs.{FileLegs}
+use Rattle.practice.specs.File.{legsAllowed}
+use Rattle.playing.specs.Playing.{legsInMiles}
 use Rattle.field.specs.declared.Legs.{Legs}
+use Rattle.field.specs.Airspace.{emptyField}
 use Rattle.field.specs.Lists.{every}
 use Rattle.questions.specs.Counts.{presentOn}
+use Rattle.rules.specs.declared.Answer.{Answer}
+use Rattle.rules.specs.Play.{played}
+use Rattle.demand.specs.Exact.{WholeLegs, inMiles, ExactOf}
+use Rattle.gaps.specs.Gaps.{legalSpacing, gapsOf}
+use Rattle.exact_gaps.specs.ExactGaps.{reached, ExactGaps}
+use Rattle.dialect.specs.Coming.{fieldOfList}
 use Rattle.history.specs.declared.History.{History}
 use Rattle.history.specs.History.{startOf, withinBoundsHistory}
 use Rattle.press.specs.declared.Ending.the-variants as ending
 use Rattle.press_kept.specs.PressKept.{pressesKept, heldKept}
 use Rattle.taken_back.specs.Calls as calls
-use Rattle.taken_back.specs.Calls.{Call, afterCalls}
+use Rattle.taken_back.specs.Calls.{Call, playedCalls, afterCalls, historyOf}
 use Rattle.taken_back.specs.TakenBack.{TakenBack}
-use Rattle.host_calls.specs.HostCalls.{HostCall, start, ask, back, press, holdDown, spacing, list, field, Reply, leftBy, repliesOf, leftByAll}
+use Rattle.replies.specs.Replies.{answerNumbers}
+use Rattle.host.specs.Calls.{HostCall, start, ask, back, press, holdDown, spaced, listed, builtFrom, Reply, numberAlone, spacingsOf}
+use Rattle.host_calls.specs.HostCalls.{replyOf, leftBy, repliesOf, leftByAll}
 
 -- ---- a call as requests and steps back
 
--- whether a call goes on from the state as it is: all but start and field, which begin anew
+-- whether a call goes on from the state as it is: all but an accepted start and an accepted field, which begin anew
 abbrev pub goesOn : HostCall → Bool
-goesOn (start legs) = false
+goesOn (start legs) = not (legsAllowed legs)
 goesOn (ask r) = true
 goesOn (back desk) = true
 goesOn press = true
 goesOn holdDown = true
-goesOn (spacing n) = true
-goesOn list = true
-goesOn (field legs speed bytes) = false
+goesOn (spaced n) = true
+goesOn listed = true
+goesOn (builtFrom legs speed bytes) = not (eqb (fieldOfList legs speed bytes .number) 0)
 
--- the requests and steps back that a call on a history is: of the button those that it plays (02, 2.6), of a call that only reads none
+-- the requests and steps back that a call on a history is: of the button those that it plays (02, 2.6), of a call that only reads or is refused none
 abbrev pub callsOf : History → HostCall → List Call
 callsOf h (start legs) = []
 callsOf h (ask r) = calls.request r ∷ []
 callsOf h (back desk) = calls.back desk ∷ []
 callsOf h press = map calls.request (pressesKept 1 h)
 callsOf h holdDown = map calls.request (pressesKept mostPresses h)
-callsOf h (spacing n) = []
-callsOf h list = []
-callsOf h (field legs speed bytes) = []
+callsOf h (spaced n) = []
+callsOf h listed = []
+callsOf h (builtFrom legs speed bytes) = []
 
 -- those of a list of calls
 abbrev pub allCallsOf : History → List HostCall → List Call
@@ -57,15 +70,65 @@ pub record StaysWithin (h : History) (cs : List HostCall) : Type 0 where
   pub bounds : T (withinBoundsHistory (leftByAll h cs))
   pub no-10 : T (neverReplied 10 (repliesOf h cs))
 
+-- whether a call builds the field of a list, which may be refused 25 (02, 2.12)
+abbrev pub buildsField : HostCall → Bool
+buildsField (start legs) = false
+buildsField (ask r) = false
+buildsField (back desk) = false
+buildsField press = false
+buildsField holdDown = false
+buildsField (spaced n) = false
+buildsField listed = false
+buildsField (builtFrom legs speed bytes) = true
+
+-- no call but one that builds a field replies the number
+abbrev pub neverAnswered : ℕ → History → List HostCall → Bool
+neverAnswered number h [] = true
+neverAnswered number h (c ∷ cs) = (buildsField c || not (eqb (replyOf h c .number) number)) && neverAnswered number (leftBy h c) cs
+
 -- from the start with these legs, any list of calls that go on
 pub record FromStart (legs : Legs) (cs : List HostCall) : Type 0 where
   -- the history is that after a list of requests and steps back, ..
   pub same : leftByAll (startOf legs) cs ≡ afterCalls (startOf legs) (allCallsOf (startOf legs) cs)
   -- .. of which everything holds that holds of any such list, demand 3 with it (02, 2.13)
   pub taken-back : TakenBack legs (allCallsOf (startOf legs) cs)
-  -- 25 never comes
-  pub no-25 : T (neverReplied 25 (repliesOf (startOf legs) cs))
+  -- 25 never comes, but where a field is to be built
+  pub no-25 : T (neverAnswered 25 (startOf legs) cs)
   -- held down then, the button empties the field within its bound, and says none (02, 2.6)
   pub ending : heldKept (leftByAll (startOf legs) cs) .ending ≡ ending.None
   pub nobody : presentOn (heldKept (leftByAll (startOf legs) cs) .after .now .field) ≡ 0
   pub few : heldKept (leftByAll (startOf legs) cs) .played ≤ mostPresses
+
+-- the requests that are left of those calls, from the start with legs in whole 64ths
+abbrev pub requestsLeft : WholeLegs → List HostCall → List Request
+requestsLeft w cs = historyOf (inMiles w) (allCallsOf (startOf (inMiles w)) cs)
+
+-- from that start, any list of calls that go on: distances and gaps are exact
+pub record FromStartExactly (w : WholeLegs) (cs : List HostCall) : Type 0 where
+  -- of everyone on the field that is left: miles, own legs and miles waited (01; 02, 2.2 and 2.7)
+  pub exact : ExactOf w (played (emptyField (inMiles w)) (requestsLeft w cs)) (leftByAll (startOf (inMiles w)) cs .now .field)
+  -- of each pair that a legal spacing asked then tells of (02, 2.8)
+  pub spacing : (n : ℕ) → T (legalSpacing n) → spacingsOf (leftByAll (startOf (inMiles w)) cs) n ≡ gapsOf (reached w (requestsLeft w cs)) n
+  pub gaps : (n : ℕ) → T (legalSpacing n) → ExactGaps w (requestsLeft w cs) n
+
+-- ---- requests and steps back alone, and a start among other calls
+
+-- a request or a step back as a host's call, ..
+abbrev pub asHostCall : Call → HostCall
+asHostCall (calls.request r) = ask r
+asHostCall (calls.back desk) = back desk
+
+-- .. and its answer as a reply
+abbrev pub replyTo : Call × Answer → Reply
+replyTo (calls.request r, a) = record { number = a .number; request = []; numbers = answerNumbers a; gaps = [] }
+replyTo (calls.back desk, a) = numberAlone (a .number)
+
+-- on any history, a list of them has the answers that it has as requests and steps back, and leaves the same
+pub record AsCalled (h : History) (cs : List Call) : Type 0 where
+  pub replies : repliesOf h (map asHostCall cs) ≡ map replyTo (playedCalls h cs)
+  pub left : leftByAll h (map asHostCall cs) ≡ afterCalls h cs
+
+-- an accepted start among other calls: those behind it are what they are from the start
+pub record BegunAnew (h : History) (cs : List HostCall) (legs : FileLegs) (ds : List HostCall) : Type 0 where
+  pub replies : repliesOf h (cs ++ (start legs ∷ ds)) ≡ repliesOf h cs ++ (numberAlone 0 ∷ repliesOf (startOf (legsInMiles legs)) ds)
+  pub left : leftByAll h (cs ++ (start legs ∷ ds)) ≡ leftByAll (startOf (legsInMiles legs)) ds

@@ -2,55 +2,38 @@
 -- Definitions only.
 use mathlib.Core.Path.{_≡_}
 use mathlib.Core.Bool.{cond}
-use mathlib.Core.List.{List, [], _∷_, _++_}
+use mathlib.Core.List.{List, [], _∷_}
 use Prim.Native.Nat.{ℕ}
 use lib.Dec.{eqb}
 use lib.ListN.{length}
-use lib.Ieee.{Float}
-use Rattle.request.specs.declared.Request.{Request}
-use Rattle.practice.specs.declared.FileLegs.{FileLegs}
 use Rattle.playing.specs.Playing.{legsInMiles}
 use Rattle.history.specs.declared.History.{History}
 use Rattle.history.specs.History.{startWith, startOf, stepHistory, stepBack}
 use Rattle.press_kept.specs.PressKept.{pressKept, heldKept}
 use Rattle.dialect.specs.Coming.{fieldOfList}
 use Rattle.layout.specs.Read.{stateSize, readHistory}
-use Rattle.layout.specs.Written.{historyBytes, stateAfter}
+use Rattle.layout.specs.Written.{historyBytes}
 use Rattle.replies.specs.Replies.{answerNumbers, requestNumbers, endNumber, heldNumbers, pairGaps, spacingNumbers, listingNumbers}
-use Rattle.host.specs.Calls.{startNumber, startedState, askedState, steppedBackState, builtState, pressedState, spacingsOf, listingOf, heldOnState}
-
--- a start with four legs, a request, a step back by a desk, a press, the button held down, the spacing with its 64ths of a mile, the list of the field, and
--- the field of a list with four legs and a speed
-pub data HostCall : Type 0 where
-  start : FileLegs → HostCall
-  ask : Request → HostCall
-  back : ℕ → HostCall
-  press : HostCall
-  holdDown : HostCall
-  spacing : ℕ → HostCall
-  list : HostCall
-  field : FileLegs → ℕ → List ℕ → HostCall
-
--- what a call returns, and what it puts beside the state: numbers, of a press the request and then the answer, and gaps in miles
-pub record Reply : Type 0 where
-  pub number : ℕ
-  pub numbers : List ℕ
-  pub gaps : List Float
+use Rattle.host.specs.Calls.{HostCall, start, ask, back, press, holdDown, spaced, listed, builtFrom, Reply, numberAlone}
+use Rattle.host.specs.Calls.{startNumber, spacingsOf, listingOf, replyOn, bytesLeft}
 
 -- ---- on a history
 
 -- what a call replies
 abbrev pub replyOf : History → HostCall → Reply
-replyOf h (start legs) = record { number = startNumber legs; numbers = []; gaps = [] }
-replyOf h (ask r) = let a = stepHistory h r .answer in record { number = a .number; numbers = answerNumbers a; gaps = [] }
-replyOf h (back desk) = record { number = stepBack h desk .answer .number; numbers = []; gaps = [] }
+replyOf h (start legs) = numberAlone (startNumber legs)
+replyOf h (ask r) = let a = stepHistory h r .answer in record { number = a .number; request = []; numbers = answerNumbers a; gaps = [] }
+replyOf h (back desk) = numberAlone (stepBack h desk .answer .number)
 replyOf h press =
     let p = pressKept h in
-    record { number = p .stepped .answer .number; numbers = requestNumbers (p .proposal) ++ answerNumbers (p .stepped .answer); gaps = [] }
-replyOf h holdDown = record { number = endNumber (heldKept h .ending); numbers = heldNumbers (heldKept h .played) (heldKept h .ending); gaps = [] }
-replyOf h (spacing n) = let s = spacingsOf h n in record { number = s .number; numbers = spacingNumbers s; gaps = pairGaps (s .pairs) }
-replyOf h list = let l = listingOf h in record { number = l .number; numbers = listingNumbers l; gaps = [] }
-replyOf h (field legs speed bytes) = record { number = fieldOfList legs speed bytes .number; numbers = []; gaps = [] }
+    let a = p .stepped .answer in
+    record { number = a .number; request = requestNumbers (p .proposal); numbers = answerNumbers a; gaps = [] }
+replyOf h holdDown =
+    let k = heldKept h in
+    record { number = endNumber (k .ending); request = []; numbers = heldNumbers (k .played) (k .ending); gaps = [] }
+replyOf h (spaced n) = let s = spacingsOf h n in record { number = s .number; request = []; numbers = spacingNumbers s; gaps = pairGaps (s .pairs) }
+replyOf h listed = let l = listingOf h in record { number = l .number; request = []; numbers = listingNumbers l; gaps = [] }
+replyOf h (builtFrom legs speed bytes) = numberAlone (fieldOfList legs speed bytes .number)
 
 -- what it leaves: an accepted start or field begins anew, the spacing and the list only read, and of the others each is what it is on the history
 abbrev pub leftBy : History → HostCall → History
@@ -59,9 +42,9 @@ leftBy h (ask r) = stepHistory h r .after
 leftBy h (back desk) = stepBack h desk .after
 leftBy h press = pressKept h .stepped .after
 leftBy h holdDown = heldKept h .after
-leftBy h (spacing n) = h
-leftBy h list = h
-leftBy h (field legs speed bytes) = cond (eqb (fieldOfList legs speed bytes .number) 0) (startWith (fieldOfList legs speed bytes .after)) h
+leftBy h (spaced n) = h
+leftBy h listed = h
+leftBy h (builtFrom legs speed bytes) = cond (eqb (fieldOfList legs speed bytes .number) 0) (startWith (fieldOfList legs speed bytes .after)) h
 
 -- a list of calls, each on what the one before left: what each replies, ..
 abbrev pub repliesOf : History → List HostCall → List Reply
@@ -73,23 +56,12 @@ abbrev pub leftByAll : History → List HostCall → History
 leftByAll h [] = h
 leftByAll h (c ∷ cs) = leftByAll (leftBy h c) cs
 
--- ---- on the bytes that are lent, as the contracts of crates/host say
+-- ---- on the bytes that are lent: what the contracts of crates/host say of each call
 
--- the bytes after a call
-abbrev pub bytesLeft : List ℕ → HostCall → List ℕ
-bytesLeft b (start legs) = startedState b legs
-bytesLeft b (ask r) = askedState b r
-bytesLeft b (back desk) = steppedBackState b desk
-bytesLeft b press = pressedState b
-bytesLeft b holdDown = stateAfter b (endNumber (heldOnState b .ending)) (heldOnState b .after)
-bytesLeft b (spacing n) = b
-bytesLeft b list = b
-bytesLeft b (field legs speed bytes) = builtState b (fieldOfList legs speed bytes)
-
--- a list of calls: what each replies, read from the bytes that the one before left, ..
+-- a list of calls: what each replies on the bytes that the one before left, ..
 abbrev pub repliesOn : List ℕ → List HostCall → List Reply
 repliesOn b [] = []
-repliesOn b (c ∷ cs) = replyOf (readHistory b) c ∷ repliesOn (bytesLeft b c) cs
+repliesOn b (c ∷ cs) = replyOn b c ∷ repliesOn (bytesLeft b c) cs
 
 -- .. and the bytes that the last left
 abbrev pub bytesLeftByAll : List ℕ → List HostCall → List ℕ
