@@ -1,7 +1,7 @@
 -- What a host's program calls on a state that it lends as bytes (include/host.h): the start, a request, a step back, the button, the spacing and the
 -- classroom dialect; and of each call what it replies and the bytes that it leaves. Definitions only.
 use mathlib.Core.Bool.{cond}
-use mathlib.Core.List.{List, [], _∷_}
+use mathlib.Core.List.{List, []}
 use Prim.Native.Nat.{ℕ}
 use lib.Ieee.{Float}
 use Rattle.request.specs.declared.Request.{Request}
