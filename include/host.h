@@ -55,7 +55,7 @@ extern "C" {
 uint16_t baguymo_host_start(uint16_t base, uint16_t intermediate, uint16_t final_approach, uint16_t missed, uint8_t *state);
 
 /* Asks a request of the state: a desk, a kind, a side, an aircraft's number, and a speed or a tick's 64ths of a minute. Puts the answer's
-   six numbers into `answer`: its number, the aircraft, its zone, fix and leader after the step, and who moved along. Leader and who moved
+   six numbers into `answer`: its number, the aircraft, where that is then (zone), its fix and its leader, and who moved along. Leader and who moved
    along are 0 where that one is the other desk's. An accepted request keeps the field before it. Refused by 31, 1 to 4, 10, and the others
    in the order of the rules. */
 uint16_t baguymo_host_ask(uint8_t *state, uint8_t desk, uint8_t kind, uint8_t side, uint16_t number, uint16_t amount, size_t answer[6]);
@@ -75,16 +75,17 @@ uint16_t baguymo_host_hold_down(uint8_t *state, size_t report[2]);
 
 /* The spacing of the pairs on the approach. `spacing` is in 64ths of a mile, 1 to 512. Puts into `pairs` how many pairs there are, and for
    each of the three places the leader's number, the follower's and 1 where it is close, else 0; and into `gaps` the gap of each in miles.
-   Places past the count are zeros. 4 for a spacing outside its range, then 10. The state is only read. */
+   Places past the count are zeros. Refused by 4 where the spacing is not 1 to 512, and then by 10. The state is only read. */
 uint16_t baguymo_host_spacing(const uint8_t *state, uint16_t spacing, size_t pairs[10], double gaps[3]);
 
 /* The field as a list of the classroom dialect. Puts into `entries` how many entries there are, and for each of the five places number,
-   location, place and fix; places past the count are zeros. 10, then 29 for anyone in zones 5, 6 or 11. The state is only read. */
+   location, place and fix; places past the count are zeros. Refused by 10, and then by 29 where somebody is in zone 5, 6 or 11. The state
+   is only read. */
 uint16_t baguymo_host_list(const uint8_t *state, size_t entries[21]);
 
 /* Writes the state of the field that a list of the classroom dialect builds, with nothing kept: four legs and a speed, and the list in the
-   `length` bytes at `list`, eight for each entry (number, location, place, fix, 16 bits each). 7 for a leg, 4 for the speed, 29 for the
-   list, 25 where the field built breaks a bound. What stood in the buffer does not matter; a refused call leaves it. */
+   `length` bytes at `list`, eight for each entry (number, location, place, fix, 16 bits each). Refused, in this order, by 7 (a leg), 4 (the
+   speed), 29 (the list) and 25 (the field that it builds breaks a bound). What stood in the buffer does not matter; a refused call leaves it. */
 uint16_t baguymo_host_field(uint16_t base, uint16_t intermediate, uint16_t final_approach, uint16_t missed, uint16_t speed,
                             const uint8_t *list, size_t length, uint8_t *state);
 
