@@ -55,17 +55,18 @@ extern "C" {
 uint16_t baguymo_host_start(uint16_t base, uint16_t intermediate, uint16_t final_approach, uint16_t missed, uint8_t *state);
 
 /* Asks a request of the state: a desk, a kind, a side, an aircraft's number, and a speed or a tick's 64ths of a minute. Puts the answer's
-   six numbers into `answer`: its number, the aircraft, where that is then (zone), its fix and its leader, and who moved along. Leader and who moved
-   along are 0 where that one is the other desk's. An accepted request keeps the field before it. Refused by 31, 1 to 4, 10, and the others
-   in the order of the rules. */
+   six numbers into `answer`: its number, the aircraft, where that is then (zone), its fix and its leader, and who moved along. The last two
+   are 0 where that one is the other desk's. An accepted request keeps the field before it. Refused by 31, 1 to 4, 10, and the others in the
+   order of the rules. */
 uint16_t baguymo_host_ask(uint8_t *state, uint8_t desk, uint8_t kind, uint8_t side, uint16_t number, uint16_t amount, size_t answer[6]);
 
 /* Takes back the last accepted request, for a desk: 31 for a desk that is not 1 or 2, then 10, then 27 where nothing is kept. */
 uint16_t baguymo_host_back(uint8_t *state, uint8_t desk);
 
 /* Presses the button: plays the one request that it proposes, as if it had been asked. Puts that request into `request` (desk, kind, side,
-   number, amount) and its answer into `answer`. The button has no desk: it asks for each aircraft as its own desk, and shows whom it
-   moves, whichever desk's. Where nobody is on the field it plays nothing, and all are zeros. 10 for a state that breaks the bounds. */
+   number, amount) and its answer into `answer`. The button has no desk: it asks for each aircraft as its own desk, ticks as desk 1,
+   and shows whom it moves, whichever desk's. Where nobody is on the field it plays nothing, and all are zeros. 10 for a state that breaks
+   the bounds. */
 uint16_t baguymo_host_press(uint8_t *state, size_t request[5], size_t answer[6]);
 
 /* Holds the button down until it says none, or until its presses are spent. Puts into `report` how many requests were played, and 1 where
@@ -85,7 +86,8 @@ uint16_t baguymo_host_list(const uint8_t *state, size_t entries[21]);
 
 /* Writes the state of the field that a list of the classroom dialect builds, with nothing kept: four legs and a speed, and the list in the
    `length` bytes at `list`, eight for each entry (number, location, place, fix, 16 bits each). Refused, in this order, by 7 (a leg), 4 (the
-   speed), 29 (the list) and 25 (the field that it builds breaks a bound). What stood in the buffer does not matter; a refused call leaves it. */
+   speed), 29 (the list) and 25 (the field that it builds breaks a bound). What stood in the buffer does not matter; a refused call leaves
+   it. */
 uint16_t baguymo_host_field(uint16_t base, uint16_t intermediate, uint16_t final_approach, uint16_t missed, uint16_t speed,
                             const uint8_t *list, size_t length, uint8_t *state);
 
