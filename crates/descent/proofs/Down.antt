@@ -14,7 +14,7 @@ use Rattle.field.specs.declared.Zone.{Zone}
 use Rattle.field.specs.declared.Field.{Field}
 use Rattle.field.specs.Airspace.{at3000, at2000, area, approach, operation, everywhere, nobody, zoneOf, queueOf, inZone, arrived}
 use Rattle.field.specs.Lists.{isIn, allDifferent}
-use Rattle.field.specs.Edits.{withoutHead, withTail, withZone}
+use Rattle.edits.specs.Edits.{withoutHead, withTail, withZone}
 use Rattle.questions.specs.Counts.{total, haveFix, howMany, howManyWithFix, inOperation, inArea, perFix, countedFor, approachHolds, potentialOf}
 use Rattle.questions.specs.Find.{aircraftAt}
 use Rattle.rules.specs.Kinds.{headGone, tailPut, moved}

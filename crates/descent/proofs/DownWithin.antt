@@ -17,7 +17,7 @@ use Rattle.field.specs.declared.Field.{Field}
 use Rattle.questions.specs.declared.Place.{Place}
 use Rattle.field.specs.Airspace.{right, left, isSide, at3000, at2000, lateral, missed, finalApproach, runway, zonesFrom, operation, everywhere, nobody, zoneOf, inZone, orderOf}
 use Rattle.field.specs.Lists.{isIn, every, allDifferent}
-use Rattle.field.specs.Edits.{withoutHead, withTail, withZone}
+use Rattle.edits.specs.Edits.{withoutHead, withTail, withZone}
 use Rattle.questions.specs.Counts.{howMany, isEmpty, inOperation, inArea, perFix}
 use Rattle.questions.specs.Find.{placeOf, aircraftAt, fixOf, isFirst, numbersIn}
 use Rattle.numbers.specs.Numbers.{numbersDiffer, sequenceExact}

@@ -1,11 +1,11 @@
 // Requests on fields on which somebody has no desk, or nobody has one.
 use crate::by;
 use crate::stepped;
+use edits::with_zone;
 use field::Aircraft;
 use field::Field;
 use field::Zone;
 use field::airspace::nobody;
-use field::edits::with_zone;
 use finder::Index;
 use finder::Indexed;
 use indexed::step_indexed;

@@ -1,4 +1,10 @@
 // Document 01, "The requests": what each kind does to the field (rules' specs/Kinds.antt).
+use edits::appended;
+use edits::removed;
+use edits::with_sequence;
+use edits::with_tail;
+use edits::with_zone;
+use edits::without_head;
 use field::Aircraft;
 use field::Field;
 use field::airspace::arrived;
@@ -9,12 +15,6 @@ use field::airspace::order_length;
 use field::airspace::side_of;
 use field::airspace::with_fix;
 use field::airspace::zone_of;
-use field::edits::appended;
-use field::edits::removed;
-use field::edits::with_sequence;
-use field::edits::with_tail;
-use field::edits::with_zone;
-use field::edits::without_head;
 use field::zones::AT_2000;
 use field::zones::BASE;
 use field::zones::FINAL;

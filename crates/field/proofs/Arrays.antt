@@ -6,7 +6,7 @@ use Prim.Native.Nat.{ℕ, zero, suc, _+_, _-_, _≤_, _<_}
 use native.Mathlib.Numerals.{add-one}
 use native.Mathlib.Omega.{arith}
 use lib.ListN.{length, getD, take, drop, set, length-take, drop-of-length-le}
-use Rattle.field.specs.Edits.{setFromOne}
+use Rattle.field.specs.Lists.{setFromOne}
 use lib.Seq.{drop-cons, take-suc, set-at, getD-at, take-all, length-take-le}
 
 module _ {ℓ} {A : Type ℓ} where

@@ -1,3 +1,2 @@
 pub mod Lists
 pub mod Airspace
-pub mod Edits

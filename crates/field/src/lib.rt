@@ -2,7 +2,6 @@
 use leg::Progress;
 
 pub mod airspace;
-pub mod edits;
 pub mod zones;
 
 // An aircraft (01, "The boxes"): a number that is not 0; the side to which a miss leads it, its fix; its speed in 64ths of a mile a minute; and its progress.

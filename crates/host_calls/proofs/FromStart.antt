@@ -76,7 +76,7 @@ calls-behind : (h : History) (cs ds : List Call) → afterCalls h (cs ++ ds) ≡
 calls-behind h [] ds = refl
 calls-behind h (c ∷ cs) ds = calls-behind (called h c .after) cs ds
 
-all-calls : (h : History) (cs : List HostCall) → T (every goesOn cs) → leftByAll h cs ≡ afterCalls h (allCallsOf h cs)
+pub all-calls : (h : History) (cs : List HostCall) → T (every goesOn cs) → leftByAll h cs ≡ afterCalls h (allCallsOf h cs)
 all-calls h [] t = refl
 all-calls h (c ∷ cs) t =
     let rest = allCallsOf (leftBy h c) cs in

@@ -9,7 +9,7 @@ use Rattle.request.specs.declared.Request.{Request}
 use Rattle.practice.specs.declared.FileLegs.{FileLegs}
 use Rattle.field.specs.declared.Field.{Field}
 use Rattle.field.specs.Airspace.{opposite, zoneOf, entering, emptyField}
-use Rattle.field.specs.Edits.{withTail, appended, withZone}
+use Rattle.edits.specs.Edits.{withTail, appended, withZone}
 use Rattle.field.proofs.TestLaws.{either-way}
 use Rattle.playing.specs.Playing.{legsInMiles, noLegs}
 use Rattle.history.specs.declared.History.{History}

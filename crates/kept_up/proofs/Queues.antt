@@ -14,7 +14,7 @@ use Rattle.request.specs.Input.{within}
 use Rattle.field.specs.declared.Aircraft.{Aircraft}
 use Rattle.field.specs.declared.Field.{Field}
 use Rattle.field.specs.Airspace.{right, left, nobody, operation, everywhere, zonesFrom, inZone, zoneOf, arrived}
-use Rattle.field.specs.Edits.{withoutHead, withTail}
+use Rattle.edits.specs.Edits.{withoutHead, withTail}
 use Rattle.field.specs.Lists.{isIn, every}
 use Rattle.field.proofs.ArrivalLaws.{into-arrived}
 use Rattle.field.proofs.TestParts.{and-cut}

@@ -17,7 +17,7 @@ use Rattle.request.proofs.ByKind.{kind-known, entry-known}
 use Rattle.field.specs.declared.Aircraft.{Aircraft}
 use Rattle.field.specs.declared.Field.{Field}
 use Rattle.field.specs.Airspace.{right, left, nobody, sideOf, isSide, opposite, at3000, at2000, base, missed, finalApproach, inZone, zoneOf, entering, withFix, arrivedByMiss}
-use Rattle.field.specs.Edits.{withSequence}
+use Rattle.edits.specs.Edits.{withSequence}
 use Rattle.field.specs.Lists.{every}
 use Rattle.field.proofs.ArrivalLaws.{into-arrived-by-miss}
 use Rattle.field.proofs.TestParts.{or-else}

@@ -16,7 +16,7 @@ use Rattle.field.specs.declared.Field.{Field}
 use Rattle.field.specs.Airspace.{queueOf, inZone}
 use Rattle.field.specs.Lists.{isIn, allDifferent}
 use Rattle.questions.specs.Counts.{total}
-use Rattle.field.specs.Edits.{withZone}
+use Rattle.edits.specs.Edits.{withZone}
 use Rattle.field.proofs.TestLaws.{failed, decided, if-true, if-false}
 use Rattle.laws.proofs.EditLaws.{queue-replaced, queue-kept}
 

@@ -17,7 +17,7 @@ use Rattle.field.specs.declared.Sequence.{Sequence}
 use Rattle.field.specs.declared.Field.{Field}
 use Rattle.field.specs.Airspace.{nobody, emptyZone, zoneOf, queueOf, inZone}
 use Rattle.questions.specs.Counts.{howMany}
-use Rattle.field.specs.Edits.{withoutHead, withTail, withZone}
+use Rattle.edits.specs.Edits.{withoutHead, withTail, withZone}
 use Rattle.field.proofs.Arrays.{set-from-one}
 use Rattle.field.proofs.TestLaws.{decided, if-true, if-false, either-way}
 

@@ -18,7 +18,7 @@ use Rattle.field.specs.declared.Legs.{Legs}
 use Rattle.field.specs.declared.Sequence.{Sequence}
 use Rattle.field.specs.declared.Field.{Field}
 use Rattle.field.specs.Airspace.{nobody, emptyZone, isSide, everywhere, zoneOf, queueOf, inZone}
-use Rattle.field.specs.Edits.{withoutHead, withTail, withZone, withSequence}
+use Rattle.edits.specs.Edits.{withoutHead, withTail, withZone, withSequence}
 use Rattle.field.specs.Lists.{every}
 use Rattle.bounds.specs.Bounds.{isNobody, zoneKept, sequenceKept, boundE, withinBounds}
 use Rattle.fits.specs.Fits.{fitsZone, legalLegs, boundG}

@@ -24,7 +24,7 @@ use Rattle.field.specs.declared.Sequence.{Sequence}
 use Rattle.field.specs.declared.Legs.{Legs}
 use Rattle.field.specs.declared.Field.{Field}
 use Rattle.field.specs.Airspace.{right, left, opposite, sideOf, at3000, at2000, lateral, missed, base, intermediate, finalApproach, runway, isFlyingZone, nobody, emptyZone, emptyField, zoneOf, queueOf, orderOf, inZone, legOf, progressInto, entering, onLeg, arrived, arrivedByMiss, withFix}
-use Rattle.field.specs.Edits.{withoutHead, withTail, appended, before, removed, setFromOne, withZone, withSequence}
+use Rattle.edits.specs.Edits.{withoutHead, withTail, appended, before, removed, withZone, withSequence}
 use Rattle.field.proofs.TestLaws.{decided, either-way}
 use Rattle.field.proofs.Shapes.{order-fits}
 use Rattle.questions.specs.Counts.{isEmpty}
@@ -34,7 +34,7 @@ use Rattle.rules.specs.Kinds.{zoneBefore, zoneAhead, headGone, tailPut, moved, 
 use Rattle.rules.specs.Step.{effectFor, effectOf, numberOf, stepOf}
 use Rattle.rules.proofs.Checks.{by-kind}
 use Rattle.rules.proofs.StepLaws.{field-accepted, field-refused}
-use Rattle.field.specs.Lists.{Each}
+use Rattle.field.specs.Lists.{Each, setFromOne}
 use Rattle.owners.proofs.EachOfList.{each-drop, each-take, each-append, each-set, each-set-one, each-at, each-map}
 use Rattle.history.proofs.MovedUp.{moved-length}
 use Rattle.layout.specs.Held.{MilesHeld, ProgressWith, AircraftWith, ZoneWith, LegsWith, FieldWith}

@@ -16,7 +16,7 @@ use Rattle.field.specs.declared.Sequence.{Sequence}
 use Rattle.field.specs.declared.Legs.{Legs}
 use Rattle.field.specs.declared.Field.{Field}
 use Rattle.field.specs.Airspace.{everywhere, nobody, zoneOf, queueOf, orderOf, emptyField}
-use Rattle.field.specs.Edits.{withoutHead, withTail, appended, removed, withZone}
+use Rattle.edits.specs.Edits.{withoutHead, withTail, appended, removed, withZone}
 use Rattle.order.specs.Model.{Side, rightSide, num, nextFix}
 use Rattle.field.proofs.TestLaws.{same, each-zone}
 

@@ -15,7 +15,7 @@ use Rattle.field.specs.declared.Field.{Field}
 use Rattle.field.specs.Airspace.{opposite, missed, zoneOf, entering, arrivedByMiss, withFix}
 use Rattle.questions.specs.Find.{aircraftAt}
 use Rattle.field.specs.Lists.{allDifferent}
-use Rattle.field.specs.Edits.{withTail, withZone, withSequence, appended, removed}
+use Rattle.edits.specs.Edits.{withTail, withZone, withSequence, appended, removed}
 use Rattle.request.specs.declared.Request.{Request}
 use Rattle.order.specs.Model.{Side, opp, num, nextFix, firstFix}
 use Rattle.rules.specs.Kinds.{headGone, tailPut, fixTaken, entered, fixAfterMiss, missedApproach}

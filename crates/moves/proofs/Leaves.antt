@@ -15,7 +15,7 @@ use Rattle.field.specs.declared.Field.{Field}
 use Rattle.field.specs.Airspace.{zoneOf, arrived}
 use Rattle.questions.specs.Find.{aircraftAt}
 use Rattle.field.specs.Lists.{allDifferent}
-use Rattle.field.specs.Edits.{withoutHead, withTail, withZone, withSequence, removed}
+use Rattle.edits.specs.Edits.{withoutHead, withTail, withZone, withSequence, removed}
 use Rattle.request.specs.declared.Request.{Request}
 use Rattle.order.specs.Model.{Side, opp, num, nextFix}
 use Rattle.rules.specs.Kinds.{headGone, tailPut, moved, outOfSequence, landed, exited}

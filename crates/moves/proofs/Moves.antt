@@ -18,7 +18,7 @@ use Rattle.field.specs.declared.Field.{Field}
 use Rattle.field.specs.Airspace.{zoneOf, arrived}
 use Rattle.questions.specs.Find.{aircraftAt}
 use Rattle.field.specs.Lists.{allDifferent}
-use Rattle.field.specs.Edits.{withoutHead, withTail, withZone}
+use Rattle.edits.specs.Edits.{withoutHead, withTail, withZone}
 use Rattle.order.specs.Model.{Side, opp, num, nextFix}
 use Rattle.rules.specs.Kinds.{headGone, tailPut, moved}
 use Rattle.field.proofs.TestLaws.{if-true, if-false, decided}

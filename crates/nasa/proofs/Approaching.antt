@@ -16,7 +16,7 @@ use Rattle.field.specs.declared.Field.{Field}
 use Rattle.field.specs.Airspace.{opposite, sideOf, at2000, inZone, orderOf}
 use Rattle.field.specs.Airspace as airspace
 use Rattle.field.specs.Lists.{isIn}
-use Rattle.field.specs.Edits.{before}
+use Rattle.edits.specs.Edits.{before}
 use Rattle.questions.specs.Counts.{howMany}
 use Rattle.questions.specs.Find.{leaderZone}
 use Rattle.questions.specs.Find as find

@@ -16,7 +16,7 @@ use Rattle.field.specs.declared.Field.{Field}
 use Rattle.questions.specs.declared.Place.{Place}
 use Rattle.field.specs.Airspace.{inZone, orderOf, operation, everywhere, nobody}
 use Rattle.field.specs.Lists.{isIn, every, allDifferent}
-use Rattle.field.specs.Edits.{before}
+use Rattle.edits.specs.Edits.{before}
 use Rattle.questions.specs.Counts.{howMany}
 use Rattle.questions.specs.Find.{placeOf, aircraftAt, numbersIn, isFirst, leaderOf, leaderZone}
 use Rattle.numbers.specs.Numbers.{numbersDiffer, sequenceExact}

@@ -16,7 +16,7 @@ use Rattle.field.specs.declared.Sequence.{Sequence}
 use Rattle.field.specs.declared.Field.{Field}
 use Rattle.field.specs.Airspace.{isSide, operation, everywhere, zoneOf, inZone, orderOf, orderLength, entering}
 use Rattle.field.specs.Lists.{isIn, every, allDifferent}
-use Rattle.field.specs.Edits.{before, appended, withTail, withSequence}
+use Rattle.edits.specs.Edits.{before, appended, withTail, withSequence}
 use Rattle.questions.specs.Counts.{howMany}
 use Rattle.questions.specs.Find.{numbersIn}
 use Rattle.numbers.specs.Numbers.{sequenceExact}

@@ -14,7 +14,7 @@ use Rattle.request.specs.declared.Request.{Request}
 use Rattle.field.specs.declared.Aircraft as field
 use Rattle.field.specs.declared.Field.{Field}
 use Rattle.field.specs.Airspace.{sideOf, at3000, at2000, inZone, arrived}
-use Rattle.field.specs.Edits.{withZone}
+use Rattle.edits.specs.Edits.{withZone}
 use Rattle.questions.specs.Counts.{howMany, isEmpty}
 use Rattle.questions.specs.Find.{aircraftAt}
 use Rattle.rules.specs.Kinds.{zoneBefore, startsFrom, headGone, tailPut, moved, descended, held}

@@ -15,7 +15,7 @@ use Rattle.field.specs.declared.Aircraft as field
 use Rattle.field.specs.declared.Field.{Field}
 use Rattle.field.specs.Airspace.{zoneOf, inZone, orderOf, orderLength, arrived, onLeg}
 use Rattle.field.specs.Lists.{isIn}
-use Rattle.field.specs.Edits.{before, removed, withZone, withSequence}
+use Rattle.edits.specs.Edits.{before, removed, withZone, withSequence}
 use Rattle.questions.specs.Counts.{howMany, isEmpty}
 use Rattle.questions.specs.Find.{aircraftAt, isFirst}
 use Rattle.rules.specs.Kinds.{zoneBefore, startsFrom, flownOutCheck, headGone, tailPut, moved, outOfSequence, landed, exited}

@@ -10,7 +10,7 @@ use borrow.Author.Tests.{eq-eqb, ne-eqb, eqb-true, eqb-false}
 use lib.Dec.{T, eqb}
 use lib.Ieee.Fits.{and-l, and-r}
 use Rattle.field.specs.Lists.{isIn, allDifferent}
-use Rattle.field.specs.Edits.{before}
+use Rattle.edits.specs.Edits.{before}
 use Rattle.questions.specs.Find.{isHead, aheadOf}
 use Rattle.field.proofs.TestLaws.{decided, failed, if-true, if-false, same, flip-eqb}
 

@@ -18,7 +18,7 @@ use Rattle.field.specs.declared.Field.{Field}
 use Rattle.questions.specs.declared.Place.{Place}
 use Rattle.field.specs.Airspace.{nobody, inZone, orderOf, everywhere}
 use Rattle.field.specs.Lists.{isIn, allDifferent}
-use Rattle.field.specs.Edits.{before}
+use Rattle.edits.specs.Edits.{before}
 use Rattle.questions.specs.Counts.{howMany}
 use Rattle.questions.specs.Find.{placeOf, aircraftAt, numbersIn, isHead, isFirst}
 use Rattle.bounds.specs.Bounds.{finalFirst, withinBounds}

@@ -17,7 +17,7 @@ use Rattle.field.specs.declared.Aircraft as field
 use Rattle.field.specs.declared.Field.{Field}
 use Rattle.field.specs.Airspace.{isSide, opposite, missed, everywhere, zoneOf, inZone, orderOf, orderLength, arrivedByMiss, onLeg, withFix}
 use Rattle.field.specs.Lists.{isIn, every, allDifferent}
-use Rattle.field.specs.Edits.{before, appended, removed, withSequence}
+use Rattle.edits.specs.Edits.{before, appended, removed, withSequence}
 use Rattle.questions.specs.Counts.{howMany}
 use Rattle.bounds.specs.Bounds.{withinBounds}
 use Rattle.fits.specs.Fits.{fitsZone}

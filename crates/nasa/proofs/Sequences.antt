@@ -14,7 +14,7 @@ use Rattle.field.specs.declared.Aircraft as field
 use Rattle.field.specs.declared.Sequence.{Sequence}
 use Rattle.field.specs.declared.Field.{Field}
 use Rattle.field.specs.Airspace.{orderOf}
-use Rattle.field.specs.Edits.{before, appended, removed}
+use Rattle.edits.specs.Edits.{before, appended, removed}
 use Rattle.field.specs.Lists.{isIn}
 use Rattle.field.proofs.TestLaws.{decided, if-true, if-false, same, flip-eqb}
 use Rattle.field.proofs.NumberLists.{or-false-left, or-false-right}

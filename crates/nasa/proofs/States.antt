@@ -13,7 +13,7 @@ use Rattle.leg.specs.Ticks.{Between}
 use Rattle.field.specs.declared.Aircraft as field
 use Rattle.field.specs.declared.Field.{Field}
 use Rattle.field.specs.Airspace.{nobody, zoneOf, inZone, orderOf, arrived, onLeg}
-use Rattle.field.specs.Edits.{before, withoutHead, withTail, withZone}
+use Rattle.edits.specs.Edits.{before, withoutHead, withTail, withZone}
 use Rattle.questions.specs.Counts.{howMany}
 use Rattle.questions.specs.Find.{aircraftAt}
 use Rattle.rules.specs.Kinds.{headGone, tailPut, moved}

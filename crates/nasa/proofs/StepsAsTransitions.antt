@@ -11,7 +11,7 @@ use Rattle.request.proofs.ByKind.{kind-known}
 use Rattle.field.specs.declared.Aircraft as field
 use Rattle.field.specs.declared.Field.{Field}
 use Rattle.field.specs.Airspace.{inZone, orderOf}
-use Rattle.field.specs.Edits.{before}
+use Rattle.edits.specs.Edits.{before}
 use Rattle.tick.specs.Tick.{ticked}
 use Rattle.rules.specs.Step.{numberOf}
 use Rattle.rules.specs.Reason.{hasPlaces}

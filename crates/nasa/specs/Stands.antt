@@ -10,7 +10,7 @@ use Rattle.field.specs.declared.Aircraft as field
 use Rattle.field.specs.declared.Field.{Field}
 use Rattle.field.specs.Airspace.{inZone, orderOf, orderLength}
 use Rattle.field.specs.Airspace as airspace
-use Rattle.field.specs.Edits.{before}
+use Rattle.edits.specs.Edits.{before}
 use Rattle.order.specs.Model.{Side, rightSide, leftSide}
 use Rattle.rules.specs.Kinds.{zoneBefore}
 use Rattle.rules.specs.Step.{stepOf}

@@ -4,8 +4,7 @@ use mathlib.Core.List.{List, [], _∷_, _++_, map}
 use Prim.Native.Nat.{ℕ, zero, suc, _<_}
 use native.Mathlib.Omega.{arith}
 use lib.ListN.{length, getD, take, drop, set}
-use Rattle.field.specs.Edits.{setFromOne}
-use Rattle.field.specs.Lists.{Each}
+use Rattle.field.specs.Lists.{Each, setFromOne}
 
 module _ {A : Type 0} (P : A → Type 0) where
   pub each-drop : (n : ℕ) (l : List A) → Each P l → Each P (drop n l)

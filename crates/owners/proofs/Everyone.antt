@@ -16,7 +16,7 @@ use Rattle.field.specs.declared.Sequence.{Sequence}
 use Rattle.field.specs.declared.Field.{Field}
 use Rattle.field.specs.Airspace.{opposite, sideOf, at3000, at2000, lateral, missed, base, intermediate, finalApproach, runway, isFlyingZone}
 use Rattle.field.specs.Airspace.{nobody, emptyZone, zoneOf, queueOf, inZone, entering, onLeg, arrived, arrivedByMiss, withFix}
-use Rattle.field.specs.Edits.{withoutHead, withTail, appended, removed, withZone, withSequence}
+use Rattle.edits.specs.Edits.{withoutHead, withTail, appended, removed, withZone, withSequence}
 use Rattle.field.specs.Lists.{Each}
 use Rattle.field.proofs.TestLaws.{decided, either-way}
 use Rattle.questions.specs.Counts.{isEmpty}

@@ -1,5 +1,9 @@
 // Writes a line for each of some fields, most of which no session reaches: what the field is, what the button proposes on it, how the button
 // ends when it is held down, and how many requests it plays.
+use edits::appended;
+use edits::with_sequence;
+use edits::with_tail;
+use edits::with_zone;
 use field::Aircraft;
 use field::Field;
 use field::Legs;
@@ -8,10 +12,6 @@ use field::airspace::entering;
 use field::airspace::on_leg;
 use field::airspace::opposite;
 use field::airspace::zone_of;
-use field::edits::appended;
-use field::edits::with_sequence;
-use field::edits::with_tail;
-use field::edits::with_zone;
 use leg::Progress;
 use libc::STDOUT_FILENO;
 use press::Ending;

@@ -17,7 +17,7 @@ use Rattle.field.specs.declared.Sequence.{Sequence}
 use Rattle.field.specs.declared.Field.{Field}
 use Rattle.field.specs.Airspace.{right, left, opposite, sideOf, at3000, at2000, lateral, missed, base, intermediate, finalApproach, runway, area}
 use Rattle.field.specs.Airspace.{approach, operation, everywhere, nobody, zoneOf, inZone, orderOf, entering, arrived, arrivedByMiss, withFix, legFlownOut}
-use Rattle.field.specs.Edits.{appended, removed}
+use Rattle.edits.specs.Edits.{appended, removed}
 use Rattle.field.specs.Lists.{isIn, every}
 use Rattle.questions.specs.declared.Place.{Place}
 use Rattle.questions.specs.Counts.{total, haveFix, howMany, howManyWithFix, isEmpty, approachHolds, countedFor, potentialOf}

@@ -10,7 +10,7 @@ use Rattle.field.specs.declared.Zone.{Zone}
 use Rattle.field.specs.declared.Sequence.{Sequence}
 use Rattle.field.specs.declared.Field.{Field}
 use Rattle.field.specs.Airspace.{opposite, sideOf, at3000, at2000, lateral, missed, base, intermediate, finalApproach, runway, zoneOf, entering, onLeg, arrived, arrivedByMiss, withFix}
-use Rattle.field.specs.Edits.{withoutHead, withTail, appended, removed, withZone, withSequence}
+use Rattle.edits.specs.Edits.{withoutHead, withTail, appended, removed, withZone, withSequence}
 use Rattle.questions.specs.declared.Place.{Place}
 use Rattle.questions.specs.Find.{aircraftAt}
 use Rattle.rules.specs.Kinds.{zoneBefore, zoneAhead, headGone, tailPut, moved, descended, outOfSequence, fixTaken, entered, madeRoom}

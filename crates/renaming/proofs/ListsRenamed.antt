@@ -7,8 +7,8 @@ use Prim.Native.Nat.{ℕ, zero, suc}
 use lib.Dec.{eqb}
 use lib.ListN.{take, drop, set}
 use borrow.Author.Tests.{eqb-true, eqb-false, eq-eqb, ne-eqb}
-use Rattle.field.specs.Lists.{every, isIn, allDifferent}
-use Rattle.field.specs.Edits.{before, setFromOne}
+use Rattle.field.specs.Lists.{every, isIn, allDifferent, setFromOne}
+use Rattle.edits.specs.Edits.{before}
 use Rattle.field.proofs.TestLaws.{decided}
 use Rattle.questions.specs.Find.{isHead, aheadOf}
 use Rattle.renaming.specs.Renaming.{Renaming}

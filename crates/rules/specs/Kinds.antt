@@ -13,7 +13,7 @@ use Rattle.field.specs.Airspace.{opposite, sideOf, at3000, at2000, lateral, mis
 use Rattle.questions.specs.declared.Place.{Place}
 use Rattle.questions.specs.Counts.{howMany, approachHolds, potentialOf, isEmpty}
 use Rattle.questions.specs.Find.{placeOf, aircraftAt, isFirst, leaderZone}
-use Rattle.field.specs.Edits.{withoutHead, withTail, appended, removed, withZone, withSequence}
+use Rattle.edits.specs.Edits.{withoutHead, withTail, appended, removed, withZone, withSequence}
 
 -- ---- where an aircraft is
 

@@ -1,4 +1,8 @@
 // Fields that no session reaches, made by hand.
+use edits::appended;
+use edits::with_sequence;
+use edits::with_tail;
+use edits::with_zone;
 use field::Aircraft;
 use field::Field;
 use field::Legs;
@@ -12,10 +16,6 @@ use field::airspace::nobody;
 use field::airspace::on_leg;
 use field::airspace::opposite;
 use field::airspace::zone_of;
-use field::edits::appended;
-use field::edits::with_sequence;
-use field::edits::with_tail;
-use field::edits::with_zone;
 use leg::Progress;
 use leg::of_sixty_fourths;
 

@@ -8,7 +8,7 @@ use Rattle.practice.specs.declared.FileLegs.{FileLegs}
 use Rattle.field.specs.declared.Legs.{Legs}
 use Rattle.field.specs.declared.Field.{Field}
 use Rattle.field.specs.Airspace.{emptyField}
-use Rattle.field.specs.Edits.{withZone, withSequence}
+use Rattle.edits.specs.Edits.{withZone, withSequence}
 use Rattle.field.proofs.TestLaws.{pass, passed}
 use Rattle.finder.specs.declared.Indexed.{Indexed}
 use Rattle.finder.specs.Finder.{withinBoundsIndexed}

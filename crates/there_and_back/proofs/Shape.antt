@@ -17,7 +17,7 @@ use Rattle.field.specs.declared.Sequence.{Sequence}
 use Rattle.field.specs.declared.Legs.{Legs}
 use Rattle.field.specs.declared.Field.{Field}
 use Rattle.field.specs.Airspace.{right, opposite, zoneOf, entering, emptyField}
-use Rattle.field.specs.Edits.{withTail, appended, withZone, withSequence}
+use Rattle.edits.specs.Edits.{withTail, appended, withZone, withSequence}
 use Rattle.field.specs.Lists.{every}
 use Rattle.field.proofs.TestLaws.{decided, if-true, if-false}
 use Rattle.line.proofs.Line.{zoneFor, tail-for, sequenceFor, appended-for, fieldBy, zone-by, with-by, by-zones}

@@ -6,7 +6,7 @@ use Rattle.field.specs.declared.Aircraft.{Aircraft}
 use Rattle.field.specs.declared.Sequence.{Sequence}
 use Rattle.field.specs.declared.Field.{Field}
 use Rattle.field.specs.Airspace.{opposite, entering}
-use Rattle.field.specs.Edits.{appended, withSequence}
+use Rattle.edits.specs.Edits.{appended, withSequence}
 use Rattle.rules.specs.Kinds.{fixTaken, tailPut, entered}
 use borrow.Author.Needs.{needs}
 use Rattle.effects.proofs.entered.Statement.{statement}

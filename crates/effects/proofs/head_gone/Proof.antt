@@ -1,6 +1,6 @@
 -- `effects::head_gone` meets its contract. Assumes nothing.
 use mathlib.Core.Path.{ap, _∙_}
-use Rattle.field.specs.Edits.{withoutHead, withZone}
+use Rattle.edits.specs.Edits.{withoutHead, withZone}
 use Rattle.rules.specs.Kinds.{headGone}
 use borrow.Author.Needs.{needs}
 use Rattle.effects.proofs.head_gone.Statement.{statement}

@@ -6,7 +6,7 @@ use Rattle.field.specs.declared.Aircraft.{Aircraft}
 use Rattle.field.specs.declared.Sequence.{Sequence}
 use Rattle.field.specs.declared.Field.{Field}
 use Rattle.field.specs.Airspace.{opposite, arrivedByMiss, withFix}
-use Rattle.field.specs.Edits.{appended, removed, withSequence}
+use Rattle.edits.specs.Edits.{appended, removed, withSequence}
 use Rattle.questions.specs.Find.{aircraftAt}
 use Rattle.rules.specs.Kinds.{headGone, tailPut, fixAfterMiss, missedApproach}
 use borrow.Author.Needs.{needs}

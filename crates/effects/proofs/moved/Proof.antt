@@ -9,7 +9,7 @@ use Rattle.field.specs.declared.Aircraft.{Aircraft}
 use Rattle.field.specs.declared.Zone.{Zone}
 use Rattle.field.specs.declared.Field.{Field}
 use Rattle.field.specs.Airspace.{arrived}
-use Rattle.field.specs.Edits.{withoutHead, withTail, withZone}
+use Rattle.edits.specs.Edits.{withoutHead, withTail, withZone}
 use Rattle.field.proofs.Arrays.{set-from-one}
 use Rattle.field.proofs.Shapes.{zone-read}
 use Rattle.field.proofs.FieldKnown.{field-known}

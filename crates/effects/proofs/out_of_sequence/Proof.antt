@@ -1,7 +1,7 @@
 -- `effects::out_of_sequence` meets its contract. Assumes nothing.
 use mathlib.Core.Path.{ap, _∙_}
 use Rattle.field.specs.declared.Sequence.{Sequence}
-use Rattle.field.specs.Edits.{withSequence}
+use Rattle.edits.specs.Edits.{withSequence}
 use Rattle.rules.specs.Kinds.{outOfSequence}
 use borrow.Author.Needs.{needs}
 use Rattle.effects.proofs.out_of_sequence.Statement.{statement}

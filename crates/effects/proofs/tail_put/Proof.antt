@@ -1,7 +1,7 @@
 -- `effects::tail_put` meets its contract. Assumes nothing.
 use mathlib.Core.Path.{ap, _∙_}
 use Rattle.field.specs.declared.Zone.{Zone}
-use Rattle.field.specs.Edits.{withTail, withZone}
+use Rattle.edits.specs.Edits.{withTail, withZone}
 use Rattle.rules.specs.Kinds.{tailPut}
 use borrow.Author.Needs.{needs}
 use Rattle.effects.proofs.tail_put.Statement.{statement}

@@ -7,7 +7,7 @@ use Rattle.field.specs.declared.Zone.{Zone}
 use Rattle.field.specs.declared.Sequence.{Sequence}
 use Rattle.field.specs.declared.Field.{Field}
 use Rattle.field.specs.Airspace.{opposite, zoneOf, entering}
-use Rattle.field.specs.Edits.{withTail, appended, withZone, withSequence}
+use Rattle.edits.specs.Edits.{withTail, appended, withZone, withSequence}
 use Rattle.dialect.specs.declared.ListEntry.{ListEntry}
 use Rattle.dialect.specs.Coming.{fixIn, withEntry}
 use Rattle.dialect.proofs.coming.with_entry.Statement.{statement}

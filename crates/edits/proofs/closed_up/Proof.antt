@@ -1,14 +1,14 @@
--- `field::edits::closed_up` meets its contract: an array of four is its elements in a row. Assumes nothing.
+-- `edits::closed_up` meets its contract: an array of four is its elements in a row. Assumes nothing.
 use mathlib.Core.Path.{_≡_, sym, ap, _∙_}
 use mathlib.Core.List.{List, [], _∷_, _++_}
 use Prim.Native.Nat.{ℕ, suc}
 use lib.ListN.{length, getD, take, drop}
 use Rattle.field.proofs.FieldKnown.{numbers-known}
 use Rattle.field.proofs.Arrays.{four}
 use borrow.Author.Needs.{needs}
 use native.Mathlib.Omega.{arith}
-use Rattle.field.proofs.edits.closed_up.Statement.{statement}
-use Rattle.field.proofs.edits.closed_up.Tie as tie
+use Rattle.edits.proofs.closed_up.Statement.{statement}
+use Rattle.edits.proofs.closed_up.Tie as tie
 
 -- a list without the one at index k, and 0 at its end
 abbrev without : ℕ → List ℕ → List ℕ

@@ -1,16 +1,16 @@
--- `field::edits::before` meets its contract: what stands before the number is what the loop has passed. Assumes nothing.
+-- `edits::before` meets its contract: what stands before the number is what the loop has passed. Assumes nothing.
 use mathlib.Core.Path.{_≡_, ap}
 use Prim.Native.Nat.{_+_, _-_, _≤_}
 use lib.ListN.{length, drop, drop-of-length-le}
 use borrow.Author.Tests.{eq-eqb, ne-eqb}
 use Rattle.field.specs.Airspace.{orderOf, orderLength}
-use Rattle.field.specs.Edits.{before}
+use Rattle.edits.specs.Edits.{before}
 use Rattle.field.proofs.FieldKnown.{sequence-known}
 use Rattle.field.proofs.Shapes.{order-next, order-fits}
 use borrow.Author.Needs.{needs}
 use native.Mathlib.Omega.{arith}
-use Rattle.field.proofs.edits.before.Statement.{statement}
-use Rattle.field.proofs.edits.before.Tie as tie
+use Rattle.edits.proofs.before.Statement.{statement}
+use Rattle.edits.proofs.before.Tie as tie
 
 abbrev Inv-loop : tie.InvT-loop
 Inv-loop number s end i₀ i = (i ≤ end) × ((end ≤ 4) × ((end ≡ length (orderOf s)) × (before number (orderOf s) ≡ i + before number (drop i (orderOf s)))))

@@ -1,19 +1,19 @@
--- `field::edits::without_head` meets its contract: the definition takes the arm of the test. Assumes nothing.
+-- `edits::without_head` meets its contract: the definition takes the arm of the test. Assumes nothing.
 use mathlib.Core.Path.{_≡_, sym, ap, _∙_}
 use mathlib.Core.List.{List, [], _∷_, _++_}
 use Prim.Native.Nat.{ℕ, _-_}
 use lib.ListN.{length, getD, drop}
 use borrow.Author.Needs.{needs}
 use borrow.Author.Tests.{eq-eqb, ne-eqb}
 use Rattle.field.specs.declared.Aircraft.{Aircraft}
 use Rattle.field.specs.declared.Zone.{Zone}
 use Rattle.field.specs.Airspace.{nobody}
-use Rattle.field.specs.Edits.{withoutHead}
+use Rattle.edits.specs.Edits.{withoutHead}
 use Rattle.field.proofs.Arrays.{four}
 use Rattle.field.proofs.TestLaws.{if-false}
 use Rattle.field.proofs.FieldKnown.{zone-known}
-use Rattle.field.proofs.edits.without_head.Statement.{statement}
-use Rattle.field.proofs.edits.without_head.Tie as tie
+use Rattle.edits.proofs.without_head.Statement.{statement}
+use Rattle.edits.proofs.without_head.Tie as tie
 
 -- a zone of an array of four without its first, and with x at its end, whatever an element past the array is read as
 shifted : (xs : List Aircraft) (d x y : Aircraft) (n : ℕ) → length xs ≡ 4 → y ≡ x

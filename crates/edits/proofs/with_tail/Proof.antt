@@ -1,9 +1,9 @@
--- `field::edits::with_tail` meets its contract: the definition takes the arm of the test. Assumes nothing.
+-- `edits::with_tail` meets its contract: the definition takes the arm of the test. Assumes nothing.
 use borrow.Author.Needs.{needs}
 use borrow.Author.Tests.{lt-ltb, le-ltb}
-use Rattle.field.specs.Edits.{withTail}
-use Rattle.field.proofs.edits.with_tail.Statement.{statement}
-use Rattle.field.proofs.edits.with_tail.Tie as tie
+use Rattle.edits.specs.Edits.{withTail}
+use Rattle.edits.proofs.with_tail.Statement.{statement}
+use Rattle.edits.proofs.with_tail.Tie as tie
 
 mul-aircraft : tie.Need-mul-aircraft
 mul-aircraft c = search needs

@@ -1,17 +1,17 @@
 // The few changes of a queue, of the sequence and of the field that requests are made of (specs/Edits.antt).
-use crate::Aircraft;
-use crate::Field;
-use crate::Sequence;
-use crate::Zone;
-use crate::airspace::nobody;
-use crate::airspace::order_length;
-use crate::zones::RUNWAY;
+use field::Aircraft;
+use field::Field;
+use field::Sequence;
+use field::Zone;
+use field::airspace::nobody;
+use field::airspace::order_length;
+use field::zones::RUNWAY;
 ghost use mathlib.Core.Path.{_≡_};
 ghost use mathlib.Core.List.{[], _∷_, _++_};
 ghost use Prim.Native.Nat.{suc, _<_};
 ghost use lib.ListN.{take, drop};
 ghost use Rattle.field.specs.Airspace.{orderOf};
-ghost use Rattle.field.specs.Edits.{withoutHead, withTail, appended, before, removed, withZone, withSequence};
+ghost use Rattle.edits.specs.Edits.{withoutHead, withTail, appended, before, removed, withZone, withSequence};
 
 // The zone with its head taken off; an empty one as it is.
 pub fn without_head(q: Zone) -> Zone

@@ -1,18 +1,18 @@
--- `field::edits::removed` meets its contract: the definition takes the arm of the test. Assumes nothing.
+-- `edits::removed` meets its contract: the definition takes the arm of the test. Assumes nothing.
 use mathlib.Core.Path.{_≡_}
 use mathlib.Core.List.{List, [], _∷_, _++_}
 use Prim.Native.Nat.{ℕ, suc, _-_, _≤_, _<_}
 use lib.ListN.{length, take, drop, length-take}
 use borrow.Author.Tests.{lt-ltb, le-ltb}
 use Rattle.field.specs.declared.Sequence.{Sequence}
 use Rattle.field.specs.Airspace.{orderOf, orderLength}
-use Rattle.field.specs.Edits.{before, removed}
+use Rattle.edits.specs.Edits.{before, removed}
 use Rattle.field.proofs.FieldKnown.{sequence-known}
 use Rattle.field.proofs.Shapes.{order-fits}
 use borrow.Author.Needs.{needs}
 use native.Mathlib.Omega.{arith}
-use Rattle.field.proofs.edits.removed.Statement.{statement}
-use Rattle.field.proofs.edits.removed.Tie as tie
+use Rattle.edits.proofs.removed.Statement.{statement}
+use Rattle.edits.proofs.removed.Tie as tie
 
 -- the definition where the number is present, at index k
 moved : (s : Sequence) (number k : ℕ) (r : List ℕ) → k ≡ before number (orderOf s) → k < length (orderOf s)

@@ -1,15 +1,15 @@
--- `field::edits::with_zone` meets its contract: the definition takes the arm of the tests. Assumes nothing.
+-- `edits::with_zone` meets its contract: the definition takes the arm of the tests. Assumes nothing.
 use mathlib.Core.Path.{_≡_}
 use Prim.Native.Nat.{_-_, _≤_}
 use lib.ListN.{length}
 use lib.Seq.{set-out}
-use Rattle.field.specs.Edits.{withZone}
+use Rattle.edits.specs.Edits.{withZone}
 use Rattle.field.proofs.Arrays.{set-from-one}
 use borrow.Author.Needs.{needs}
 use native.Mathlib.Omega.{arith}
 use Rattle.field.proofs.FieldKnown.{field-known}
-use Rattle.field.proofs.edits.with_zone.Statement.{statement}
-use Rattle.field.proofs.edits.with_zone.Tie as tie
+use Rattle.edits.proofs.with_zone.Statement.{statement}
+use Rattle.edits.proofs.with_zone.Tie as tie
 
 returns : tie.Need-returns
 unfolding withZone

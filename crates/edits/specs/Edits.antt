@@ -1,14 +1,15 @@
 -- Document 01, "The requests": the few changes of a queue, of the sequence and of the field that requests are made of.
 use mathlib.Core.Bool.{cond}
 use mathlib.Core.List.{List, [], _∷_, _++_}
-use Prim.Native.Nat.{ℕ, zero, suc, _+_, _-_}
+use Prim.Native.Nat.{ℕ, suc, _+_, _-_}
 use lib.Dec.{eqb, ltb}
 use lib.ListN.{length, drop, take, set}
 use Rattle.field.specs.declared.Aircraft.{Aircraft}
 use Rattle.field.specs.declared.Zone.{Zone}
 use Rattle.field.specs.declared.Sequence.{Sequence}
 use Rattle.field.specs.declared.Field.{Field}
 use Rattle.field.specs.Airspace.{nobody, orderOf}
+use Rattle.field.specs.Lists.{setFromOne}
 
 -- ---- a queue
 
@@ -49,11 +50,6 @@ removed s number =
     s
 
 -- ---- the field
-
--- the list with x at place z, from 1; what is no place leaves it as it is
-abbrev pub setFromOne {ℓ} : {A : Type ℓ} → List A → ℕ → A → List A
-setFromOne xs zero x = xs
-setFromOne xs (suc i) x = set xs i x
 
 -- the field with another zone z; what is no zone leaves it as it is
 unfoldable pub withZone : Field → ℕ → Zone → Field

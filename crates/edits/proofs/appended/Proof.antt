@@ -1,9 +1,9 @@
--- `field::edits::appended` meets its contract: the definition takes the arm of the test. Assumes nothing.
+-- `edits::appended` meets its contract: the definition takes the arm of the test. Assumes nothing.
 use borrow.Author.Tests.{lt-ltb, le-ltb}
-use Rattle.field.specs.Edits.{appended}
+use Rattle.edits.specs.Edits.{appended}
 use borrow.Author.Needs.{needs}
-use Rattle.field.proofs.edits.appended.Statement.{statement}
-use Rattle.field.proofs.edits.appended.Tie as tie
+use Rattle.edits.proofs.appended.Statement.{statement}
+use Rattle.edits.proofs.appended.Tie as tie
 
 mul-numbers : tie.Need-mul-numbers
 mul-numbers c = search needs
