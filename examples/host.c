@@ -5,9 +5,6 @@
 
 #include "host.h"
 
-/* The field with its index stands first in the state. */
-#define FIELD_SIZE 1733
-
 static uint8_t state[BAGUYMO_STATE_SIZE], saved[BAGUYMO_STATE_SIZE];
 
 /* Prints a call, its number, and what it put out. */
@@ -53,9 +50,9 @@ int main(void) {
     compare("every byte", sizeof state);
     /* A minute, taken back by the other desk: the field with its index is as it was. */
     ask(2, 12, 0, 0, 64);
-    compare("the field", FIELD_SIZE);
+    compare("the field", BAGUYMO_FIELD_SIZE);
     print("back 1", baguymo_host_back(state, 1), NULL, 0);
-    compare("the field", FIELD_SIZE);
+    compare("the field", BAGUYMO_FIELD_SIZE);
 
     /* Half a minute: 9 is faster, and is a quarter of a mile nearer than its leader; 7 has not flown its leg out. */
     ask(1, 12, 0, 0, 32);

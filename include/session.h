@@ -1,4 +1,5 @@
-/* The report of a practice file (document 01, "The practice file"). Link target/staticlib/libsession.a, which `rt staticlib session` makes. */
+/* The report of a practice file (document 01, "The practice file"). Link target/staticlib/libsession.a, which `rt staticlib session`
+   makes. */
 #ifndef BAGUYMO_SESSION_H
 #define BAGUYMO_SESSION_H
 
@@ -17,9 +18,9 @@ extern "C" {
    an empty one. A log of 57,344 bytes is kept on the stack. */
 size_t baguymo_report(const uint8_t *file, size_t length, uint8_t *out);
 
-/* The same report, byte for byte, and slower: the field and its index are judged before every request, and the field after it, as the papers have it
-   for any field. baguymo_report leaves that out, since it is proved that no field of a session breaks a bound. This one is for tests of
-   the compiled library. */
+/* The same report, byte for byte, and slower: the field and its index are judged before every request, and the field after it, as the
+   papers have it for any field. baguymo_report leaves that out, since it is proved that no field of a session breaks a bound. This one is
+   for tests of the compiled library. */
 size_t baguymo_report_judged(const uint8_t *file, size_t length, uint8_t *out);
 
 #ifdef __cplusplus

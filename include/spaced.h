@@ -1,4 +1,5 @@
-/* The spacing on the approach after a practice file (document 02, 2.8). Link target/staticlib/libspaced.a, which `rt staticlib spaced` makes. */
+/* The spacing on the approach after a practice file (document 02, 2.8). Link target/staticlib/libspaced.a, which `rt staticlib spaced`
+   makes. */
 #ifndef BAGUYMO_SPACED_H
 #define BAGUYMO_SPACED_H
 

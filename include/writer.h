@@ -1,4 +1,5 @@
-/* A practice file written from four legs and requests (document 02, 2.11). Link target/staticlib/libwriter.a, which `rt staticlib writer` makes. */
+/* A practice file written from four legs and requests (document 02, 2.11). Link target/staticlib/libwriter.a, which `rt staticlib writer`
+   makes. */
 #ifndef BAGUYMO_WRITER_H
 #define BAGUYMO_WRITER_H
 
@@ -18,7 +19,8 @@ extern "C" {
    changed: 7 for a leg; 5 for a length that is no multiple of 6, or more than 4,096 requests; 1 to 4 for the first request that breaks
    the input rules; 28 for a buffer that is shorter than the file. Any legs, bytes and lengths are allowed. The three stretches do not
    overlap, and no pointer is null, also where its length is 0. */
-uint16_t baguymo_write(uint16_t base, uint16_t intermediate, uint16_t final_approach, uint16_t missed, const uint8_t *requests, size_t length, uint8_t *out, size_t room, size_t *size);
+uint16_t baguymo_write(uint16_t base, uint16_t intermediate, uint16_t final_approach, uint16_t missed, const uint8_t *requests,
+                       size_t length, uint8_t *out, size_t room, size_t *size);
 
 #ifdef __cplusplus
 }
