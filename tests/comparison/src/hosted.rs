@@ -179,7 +179,9 @@ fn changed(hosted: &mut Hosted, dice: &mut Dice, fields: &[Field]) -> Result<(),
     })
 }
 
-/// Each bit of a state's field, of a kept one that counts, of the first past the count, and of the count; with calls that ask for the state.
+/// Each bit of a state's field, of a kept one that counts, of the first past the count, and of the count; with calls that come to the state: no
+/// start or field, which build another, and none that is refused by its own numbers. The button is pressed and not held down, since on a
+/// field that no calls reach that may be as often as its bound allows.
 fn flipped(hosted: &mut Hosted, dice: &mut Dice) -> Result<(), String> {
     let state = reached(hosted, dice, COUNTED)?;
     let (habits, field) = (Habits::drawn(dice), field_of(&state));
@@ -192,6 +194,7 @@ fn flipped(hosted: &mut Hosted, dice: &mut Dice) -> Result<(), String> {
         let call = loop {
             match call(dice, &habits, &field) {
                 Call::HoldDown | Call::Start(_) | Call::Field(..) => {}
+                call if matches!(by_reference(&mut { other }, &call).number, 1..=4 | 31) => {}
                 call => break call,
             }
         };
