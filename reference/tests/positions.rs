@@ -7,7 +7,8 @@ use std::path::Path;
 
 /// A line of `track`: index, next fix, how many stand in the sequence and their numbers, then zone, number and miles waited of each.
 fn line(index: usize, field: &Field) -> String {
-    let mut words = vec![index.to_string(), field.next_fix.number().to_string(), field.sequence.len().to_string()];
+    let mut words =
+        vec![index.to_string(), field.next_fix.number().to_string(), field.sequence.len().to_string()];
     words.extend(field.sequence.iter().map(u16::to_string));
     for (zone, aircraft) in field.everyone() {
         words.extend([zone.number().to_string(), aircraft.number.to_string(), decimal(aircraft.waited)]);
