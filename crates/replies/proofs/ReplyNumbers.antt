@@ -13,7 +13,8 @@ use Rattle.dialect.specs.declared.ListEntry.{ListEntry}
 use Rattle.dialect.specs.declared.Listing.{Listing}
 use Rattle.dialect.proofs.ListEntry as entry
 use Rattle.dialect.proofs.Listing as listing
-use Rattle.replies.specs.Replies.{closeMark, gapMiles, pairNumbers, pairGaps, entryNumbers}
+use Rattle.replies.specs.declared.WideEntry.{WideEntry}
+use Rattle.replies.specs.Replies.{closeMark, gapMiles, pairNumbers, pairGaps, entryNumbers, wideEntry}
 
 -- ---- three pairs
 pub three-pairs : (ps : List Pair) (d : Pair) → length ps ≡ 3 → {x y z : ℕ}
@@ -37,14 +38,16 @@ three-gaps (p ∷ q ∷ r ∷ s ∷ ps) d h e f g = absurd (omega arith)
 pub entries-places : (l : Listing) {vs : List Val} → Is listing.the-row l vs → length (l .entries) ≡ 5
 entries-places l p = array-known entry.the-field 5 (l .entries) (p .1 .1 .1 .1 .0)
 
-abbrev numbersAt : List ListEntry → ListEntry → ℕ → List ℕ → List ℕ
-numbersAt es d i ns = getD es i d .number ∷ getD es i d .location ∷ getD es i d .place ∷ getD es i d .fix ∷ ns
+abbrev thenEntry : WideEntry → List ℕ → List ℕ
+thenEntry w ns = w .number ∷ w .location ∷ w .place ∷ w .fix ∷ ns
 
-pub five-entries : (es : List ListEntry) (d : ListEntry) → length es ≡ 5 → numbersAt es d 0 (numbersAt es d 1 (numbersAt es d 2 (numbersAt es d 3 (numbersAt es d 4 [])))) ≡ entryNumbers es
-five-entries [] d h = absurd (omega arith)
-five-entries (a ∷ []) d h = absurd (omega arith)
-five-entries (a ∷ b ∷ []) d h = absurd (omega arith)
-five-entries (a ∷ b ∷ c ∷ []) d h = absurd (omega arith)
-five-entries (a ∷ b ∷ c ∷ e ∷ []) d h = absurd (omega arith)
-five-entries (a ∷ b ∷ c ∷ e ∷ f ∷ []) d h = refl
-five-entries (a ∷ b ∷ c ∷ e ∷ f ∷ g ∷ es) d h = absurd (omega arith)
+pub five-entries : (es : List ListEntry) (d : ListEntry) → length es ≡ 5 → {v w x y z : WideEntry}
+    → v ≡ wideEntry (getD es 0 d) → w ≡ wideEntry (getD es 1 d) → x ≡ wideEntry (getD es 2 d) → y ≡ wideEntry (getD es 3 d) → z ≡ wideEntry (getD es 4 d)
+    → thenEntry v (thenEntry w (thenEntry x (thenEntry y (thenEntry z [])))) ≡ entryNumbers es
+five-entries [] d h p q r s t = absurd (omega arith)
+five-entries (a ∷ []) d h p q r s t = absurd (omega arith)
+five-entries (a ∷ b ∷ []) d h p q r s t = absurd (omega arith)
+five-entries (a ∷ b ∷ c ∷ []) d h p q r s t = absurd (omega arith)
+five-entries (a ∷ b ∷ c ∷ e ∷ []) d h p q r s t = absurd (omega arith)
+five-entries (a ∷ b ∷ c ∷ e ∷ f ∷ []) d h p q r s t = λ i. thenEntry (p i) (thenEntry (q i) (thenEntry (r i) (thenEntry (s i) (thenEntry (t i) []))))
+five-entries (a ∷ b ∷ c ∷ e ∷ f ∷ g ∷ es) d h p q r s t = absurd (omega arith)

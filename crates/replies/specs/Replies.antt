@@ -14,6 +14,7 @@ use Rattle.gaps.specs.declared.Pair.{Pair}
 use Rattle.gaps.specs.declared.Spacings.{Spacings}
 use Rattle.dialect.specs.declared.ListEntry.{ListEntry}
 use Rattle.dialect.specs.declared.Listing.{Listing}
+use Rattle.replies.specs.declared.WideEntry.{WideEntry}
 
 -- ---- an answer
 
@@ -77,6 +78,10 @@ spacingNumbers s = s .count ∷ pairNumbers (s .pairs)
 abbrev pub entryNumbers : List ListEntry → List ℕ
 entryNumbers [] = []
 entryNumbers (e ∷ es) = e .number ∷ e .location ∷ e .place ∷ e .fix ∷ entryNumbers es
+
+-- the same four of one entry, as the code has them
+abbrev pub wideEntry : ListEntry → WideEntry
+wideEntry e = record { number = e .number; location = e .location; place = e .place; fix = e .fix }
 
 -- how many entries, and their numbers
 abbrev pub listingNumbers : Listing → List ℕ

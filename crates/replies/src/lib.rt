@@ -9,7 +9,7 @@ use press::Proposal;
 use request::Request;
 use rules::Answer;
 ghost use mathlib.Core.Path.{_≡_};
-ghost use Rattle.replies.specs.Replies.{answerNumbers, requestNumbers, endNumber, spentMark, heldNumbers, closeMark, gapMiles, pairGaps, spacingNumbers, listingNumbers};
+ghost use Rattle.replies.specs.Replies.{answerNumbers, requestNumbers, endNumber, spentMark, heldNumbers, closeMark, gapMiles, pairGaps, spacingNumbers, wideEntry, listingNumbers};
 
 // The six numbers of an answer.
 pub fn answer_numbers(a: Answer) -> [usize; 6]
@@ -128,36 +128,56 @@ pub fn pair_gaps(s: Spacings) -> [f64; 3]
     [gap_miles(near), gap_miles(next), gap_miles(far)]
 }
 
+// The four numbers of an entry of a list, each as wide as a reply has it.
+struct WideEntry {
+    number: usize,
+    location: usize,
+    place: usize,
+    fix: usize,
+}
+
+// The four numbers of an entry.
+fn wide_entry(e: ListEntry) -> WideEntry
+    ensures { λ r. ⌜ r ≡ wideEntry e ⌝ }
+{
+    WideEntry {
+        number: e.number as usize,
+        location: e.location as usize,
+        place: e.place as usize,
+        fix: e.fix as usize,
+    }
+}
+
 // The count and the numbers of five entries.
 pub fn listing_numbers(l: Listing) -> [usize; 21]
     ensures { λ r. ⌜ r ≡ listingNumbers l ⌝ }
 {
-    let first = l.entries[0];
-    let second = l.entries[1];
-    let third = l.entries[2];
-    let fourth = l.entries[3];
-    let fifth = l.entries[4];
+    let first = wide_entry(l.entries[0]);
+    let second = wide_entry(l.entries[1]);
+    let third = wide_entry(l.entries[2]);
+    let fourth = wide_entry(l.entries[3]);
+    let fifth = wide_entry(l.entries[4]);
     [
         l.count,
-        first.number as usize,
-        first.location as usize,
-        first.place as usize,
-        first.fix as usize,
-        second.number as usize,
-        second.location as usize,
-        second.place as usize,
-        second.fix as usize,
-        third.number as usize,
-        third.location as usize,
-        third.place as usize,
-        third.fix as usize,
-        fourth.number as usize,
-        fourth.location as usize,
-        fourth.place as usize,
-        fourth.fix as usize,
-        fifth.number as usize,
-        fifth.location as usize,
-        fifth.place as usize,
-        fifth.fix as usize,
+        first.number,
+        first.location,
+        first.place,
+        first.fix,
+        second.number,
+        second.location,
+        second.place,
+        second.fix,
+        third.number,
+        third.location,
+        third.place,
+        third.fix,
+        fourth.number,
+        fourth.location,
+        fourth.place,
+        fourth.fix,
+        fifth.number,
+        fifth.location,
+        fifth.place,
+        fifth.fix,
     ]
 }
