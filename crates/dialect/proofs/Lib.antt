@@ -1,4 +1,1 @@
 pub mod Taken
-pub mod EntryBytes
-pub mod Walks
-pub mod FirstFailing

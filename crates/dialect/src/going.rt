@@ -30,7 +30,7 @@ fn entry_of(f: Field, number: u16, place: u16) -> ListEntry
 }
 
 // A place past the count: all zero.
-pub(crate) fn no_entry() -> ListEntry
+pub fn no_entry() -> ListEntry
     ensures { λ r. ⌜ r ≡ noEntry ⌝ }
 {
     ListEntry {

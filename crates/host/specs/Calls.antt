@@ -18,10 +18,10 @@ use Rattle.gaps.specs.declared.Spacings.{Spacings}
 use Rattle.gaps.specs.Gaps as gaps
 use Rattle.gaps.specs.Gaps.{legalSpacing, gapsOf}
 use Rattle.dialect.specs.declared.Listing.{Listing}
-use Rattle.dialect.specs.declared.Built.{Built}
+use Rattle.dialect_field.specs.declared.Built.{Built}
 use Rattle.dialect.specs.Going as going
 use Rattle.dialect.specs.Going.{listOf}
-use Rattle.dialect.specs.Coming.{fieldOfList}
+use Rattle.dialect_field.specs.Coming.{fieldOfList}
 use Rattle.layout.specs.Read.{readHistory}
 use Rattle.layout.specs.Written.{stateAfter}
 use Rattle.replies.specs.Replies.{answerNumbers, requestNumbers, endNumber, heldNumbers, pairGaps, spacingNumbers, listingNumbers}

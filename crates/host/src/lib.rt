@@ -3,7 +3,7 @@ pub mod button;
 pub mod views;
 
 use decoding::read_history;
-use dialect::coming::field_of_list;
+use dialect_field::coming::field_of_list;
 use encoding::store;
 use encoding::store_after;
 use history::start;

@@ -37,7 +37,7 @@ use Rattle.gaps.specs.Gaps.{legalSpacing, gapsOf}
 use Rattle.dialect.specs.declared.Listing.{Listing}
 use Rattle.dialect.specs.Going as going
 use Rattle.dialect.specs.Going.{inDialect, listOf}
-use Rattle.dialect.specs.Coming.{fieldOfList}
+use Rattle.dialect_field.specs.Coming.{fieldOfList}
 use Rattle.finder.specs.Finder.{withinBoundsIndexed}
 use Rattle.taken_back.specs.Calls as calls
 use Rattle.taken_back.specs.Calls.{Call, called, afterCalls, historyOf}

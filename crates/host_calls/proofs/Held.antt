@@ -15,8 +15,8 @@ use Rattle.playing.specs.Playing.{legsInMiles, noLegs}
 use Rattle.history.specs.declared.History.{History}
 use Rattle.history.specs.History.{stepHistory}
 use Rattle.dialect.specs.declared.ListEntry.{ListEntry}
-use Rattle.dialect.specs.declared.Built.{Built}
-use Rattle.dialect.specs.Coming.{entriesIn, fixIn, withEntry, builtOn, built, comingNumber, notBuilt, fieldOfList}
+use Rattle.dialect_field.specs.declared.Built.{Built}
+use Rattle.dialect_field.specs.Coming.{entriesIn, fixIn, withEntry, builtOn, built, comingNumber, notBuilt, fieldOfList}
 use Rattle.press.specs.declared.Proposal.{Proposal}
 use Rattle.press.specs.declared.Proposal.the-variants.{Refused, None, Play}
 use Rattle.press_kept.specs.PressKept.{proposalKept, playedKept, pressKept, pressesKept, afterAsked, heldKept}

@@ -24,7 +24,7 @@ use Rattle.press.specs.declared.Ending.the-variants as ending
 use Rattle.press.specs.HeldDown.{thenPressed, endingOn}
 use Rattle.press_kept.specs.PressKept.{proposalKept, playedKept, pressKept, pressesKept, afterAsked, endingKept, heldKept}
 use Rattle.press_kept.proofs.PressingKept.{kept-refused, asked-none, presses-ended}
-use Rattle.dialect.specs.Coming.{fieldOfList}
+use Rattle.dialect_field.specs.Coming.{fieldOfList}
 use Rattle.taken_back.specs.Calls.{Call, request, back, called}
 use Rattle.taken_back.proofs.GivenBack.{nothing-changed}
 use Rattle.layout.specs.Read.{readHistory}

@@ -45,10 +45,10 @@ use Rattle.gaps.specs.declared.Spacings.{Spacings}
 use Rattle.gaps.specs.Gaps as gaps
 use Rattle.gaps.specs.Gaps.{legalSpacing, pairsIn, gapsOf}
 use Rattle.dialect.specs.declared.Listing.{Listing}
-use Rattle.dialect.specs.declared.Built.{Built}
+use Rattle.dialect_field.specs.declared.Built.{Built}
 use Rattle.dialect.specs.Going as going
 use Rattle.dialect.specs.Going.{inDialect, entriesOf, listOf}
-use Rattle.dialect.specs.Coming.{listAllowed, entriesIn, built, comingNumber, notBuilt, fieldOfList}
+use Rattle.dialect_field.specs.Coming.{listAllowed, entriesIn, built, comingNumber, notBuilt, fieldOfList}
 use Rattle.layout.specs.Held.{HistoryHeld}
 use Rattle.layout.proofs.CallsReadBack.{start-held, legs-in-64ths-held}
 use Rattle.replies.specs.Replies.{endNumber}

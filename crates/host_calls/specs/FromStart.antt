@@ -18,7 +18,7 @@ use Rattle.rules.specs.Play.{played}
 use Rattle.demand.specs.Exact.{WholeLegs, inMiles, ExactOf}
 use Rattle.gaps.specs.Gaps.{legalSpacing, gapsOf}
 use Rattle.exact_gaps.specs.ExactGaps.{reached, ExactGaps}
-use Rattle.dialect.specs.Coming.{fieldOfList}
+use Rattle.dialect_field.specs.Coming.{fieldOfList}
 use Rattle.history.specs.declared.History.{History}
 use Rattle.history.specs.History.{startOf, withinBoundsHistory}
 use Rattle.press.specs.declared.Ending.the-variants as ending

@@ -10,7 +10,7 @@ use Rattle.playing.specs.Playing.{legsInMiles}
 use Rattle.history.specs.declared.History.{History}
 use Rattle.history.specs.History.{startWith, startOf, stepHistory, stepBack}
 use Rattle.press_kept.specs.PressKept.{pressKept, heldKept}
-use Rattle.dialect.specs.Coming.{fieldOfList}
+use Rattle.dialect_field.specs.Coming.{fieldOfList}
 use Rattle.layout.specs.Read.{stateSize, readHistory}
 use Rattle.layout.specs.Written.{historyBytes}
 use Rattle.replies.specs.Replies.{answerNumbers, requestNumbers, endNumber, heldNumbers, pairGaps, spacingNumbers, listingNumbers}

@@ -10,7 +10,7 @@ use Rattle.field.proofs.Shapes.{next}
 use Rattle.field.proofs.TestLaws.{if-true, if-false}
 use Rattle.dialect.specs.declared.ListEntry.{ListEntry}
 use Rattle.dialect.specs.declared.Listing.{Listing}
-use Rattle.dialect.specs.declared.Built.{Built}
+use Rattle.dialect_field.specs.declared.Built.{Built}
 use Rattle.dialect.specs.Going.{listOf}
 use Rattle.text.specs.Buffer.{Put}
 use Rattle.text.proofs.Texts.{Left, left-more}

@@ -11,9 +11,9 @@ use Rattle.session.specs.Report.{refusedReport}
 use Rattle.indexed.specs.Indexed.{withIndex}
 use Rattle.dialect.specs.declared.ListEntry.{ListEntry}
 use Rattle.dialect.specs.declared.Listing.{Listing}
-use Rattle.dialect.specs.declared.Built.{Built}
+use Rattle.dialect_field.specs.declared.Built.{Built}
 use Rattle.dialect.specs.Going.{listOf}
-use Rattle.dialect.specs.Coming.{fieldOfList}
+use Rattle.dialect_field.specs.Coming.{fieldOfList}
 
 -- a line for each of a list: number, location, place, fix
 unfoldable pub entryLine : ListEntry → List ℕ

@@ -1,8 +1,8 @@
 // The lines of a classroom report, put into the caller's buffer (specs/Report.antt). Each function yields the place after what it put.
-use dialect::Built;
 use dialect::ListEntry;
 use dialect::Listing;
 use dialect::going::list_of;
+use dialect_field::Built;
 use text::put_line;
 use text::put_text;
 ghost use Prim.Native.Nat.{_≤_};

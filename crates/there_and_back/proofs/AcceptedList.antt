@@ -19,9 +19,9 @@ use Rattle.indexed.specs.Indexed.{withIndex}
 use Rattle.indexed.proofs.Own.{within-own}
 use Rattle.playing.specs.Playing.{legsInMiles}
 use Rattle.request.proofs.InputTests.{passed}
-use Rattle.dialect.specs.declared.Built.{Built}
-use Rattle.dialect.specs.Coming.{entriesIn, placedFrom, listAllowed, built, comingNumber, notBuilt, fieldOfList}
-use Rattle.dialect.proofs.FirstFailing.{onList}
+use Rattle.dialect_field.specs.declared.Built.{Built}
+use Rattle.dialect_field.specs.Coming.{entriesIn, placedFrom, listAllowed, built, comingNumber, notBuilt, fieldOfList}
+use Rattle.dialect_field.proofs.FirstFailing.{onList}
 
 -- what is known where the list's number is 0
 pub record Accepted (legs : FileLegs) (speed : ℕ) (bytes : List ℕ) : Type 0 where

@@ -38,7 +38,7 @@ use Rattle.reason.proofs.Invariant.{parts}
 use Rattle.playing.specs.Playing.{legsInMiles}
 use Rattle.dialect.specs.declared.ListEntry.{ListEntry}
 use Rattle.dialect.specs.Going.{listEntry, listEntries, onRunway, entriesOf, inDialect, entriesListed, listOf}
-use Rattle.dialect.specs.Coming.{entriesIn, isPlaced, placedFrom, fixIn, built, fieldOfList}
+use Rattle.dialect_field.specs.Coming.{entriesIn, isPlaced, placedFrom, fixIn, built, fieldOfList}
 use Rattle.there_and_back.proofs.Shape.{uncut, waiting, atZone, numbersIn, nextFrom, fieldFor, built-for}
 use Rattle.there_and_back.proofs.ByLocation.{own-place, from-1, to-4, in-a-zone, first-placed, rest-placed, located, none-at, in-all, at-split, only, fix-kept}
 use Rattle.there_and_back.proofs.AcceptedList.{Accepted, accepted}

@@ -13,7 +13,7 @@ use Rattle.request.specs.Input.{within}
 use Rattle.field.specs.Airspace.{isSide}
 use Rattle.field.proofs.TestLaws.{decided, if-true, if-false, same, each-from}
 use Rattle.dialect.specs.declared.ListEntry.{ListEntry}
-use Rattle.dialect.specs.Coming.{isPlaced, placedFrom, fixIn}
+use Rattle.dialect_field.specs.Coming.{isPlaced, placedFrom, fixIn}
 use Rattle.there_and_back.proofs.Shape.{atZone, Located}
 
 -- ---- one that is placed

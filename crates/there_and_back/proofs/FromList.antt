@@ -16,7 +16,7 @@ use Rattle.indexed.specs.Indexed.{withIndex}
 use Rattle.indexed.proofs.Own.{within-own}
 use Rattle.playing.specs.Playing.{legsInMiles}
 use Rattle.dialect.specs.declared.ListEntry.{ListEntry}
-use Rattle.dialect.specs.Coming.{withEntry, builtOn, built, entriesIn, fieldOfList}
+use Rattle.dialect_field.specs.Coming.{withEntry, builtOn, built, entriesIn, fieldOfList}
 use Rattle.history.specs.History.{mostKept, startWith, keptWithinBounds, withinBoundsHistory}
 use Rattle.there_and_back.specs.FromList.{FromList}
 use Rattle.there_and_back.proofs.AcceptedList.{accepted}

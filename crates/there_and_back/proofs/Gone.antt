@@ -19,7 +19,7 @@ use Rattle.questions.specs.Find.{placeOf, fixOf, aircraftAt}
 use Rattle.bounds.specs.Bounds.{alternate}
 use Rattle.dialect.specs.declared.ListEntry.{ListEntry}
 use Rattle.dialect.specs.Going.{listEntry, listEntries, onRunway, entriesOf}
-use Rattle.dialect.specs.Coming.{isPlaced, placedFrom, fixIn}
+use Rattle.dialect_field.specs.Coming.{isPlaced, placedFrom, fixIn}
 use Rattle.there_and_back.proofs.Shape.{atZone, numbersIn, nextFrom}
 use Rattle.there_and_back.proofs.ByLocation.{holding, own-place, first-placed, rest-placed}
 

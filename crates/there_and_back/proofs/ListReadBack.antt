@@ -4,7 +4,7 @@ use mathlib.Core.List.{List, [], _∷_, _++_}
 use Prim.Native.Nat.{ℕ, _+_, _*_, _/_, _%_}
 use native.Mathlib.Omega.{arith}
 use Rattle.dialect.specs.declared.ListEntry.{ListEntry}
-use Rattle.dialect.specs.Coming.{entriesIn}
+use Rattle.dialect_field.specs.Coming.{entriesIn}
 use Rattle.there_and_back.specs.Encoded.{listEntryBytes, listBytes}
 
 halves : (n : ℕ) → n % 256 + 256 * (n / 256) ≡ n

@@ -22,7 +22,7 @@ use Rattle.field.specs.Lists.{every}
 use Rattle.field.proofs.TestLaws.{decided, if-true, if-false}
 use Rattle.line.proofs.Line.{zoneFor, tail-for, sequenceFor, appended-for, fieldBy, zone-by, with-by, by-zones}
 use Rattle.dialect.specs.declared.ListEntry.{ListEntry}
-use Rattle.dialect.specs.Coming.{isPlaced, placedFrom, fixIn, withEntry, builtOn, built}
+use Rattle.dialect_field.specs.Coming.{isPlaced, placedFrom, fixIn, withEntry, builtOn, built}
 
 -- ---- lists
 

@@ -52,7 +52,7 @@ use Rattle.playing.specs.Playing.{legsInMiles}
 use Rattle.dialect.specs.declared.ListEntry.{ListEntry}
 use Rattle.dialect.specs.declared.Listing.{Listing}
 use Rattle.dialect.specs.Going.{listEntry, listEntries, entriesOf, inDialect, noEntry, entriesListed, listRefused, listOf}
-use Rattle.dialect.specs.Coming.{entriesIn, placedFrom, fixIn, built, fieldOfList}
+use Rattle.dialect_field.specs.Coming.{entriesIn, placedFrom, fixIn, built, fieldOfList}
 use Rattle.there_and_back.specs.Settled.{settled, plainZeros, settledZone, settledField, settledIndexed}
 use Rattle.there_and_back.proofs.Shape.{uncut, waiting, atZone, numbersIn, nextFrom, fieldFor, built-for}
 use Rattle.there_and_back.proofs.ByLocation.{located, none-at, at-split, only, side-kept}

@@ -8,7 +8,7 @@ use Rattle.practice.specs.declared.FileLegs.{FileLegs}
 use Rattle.field.specs.Airspace.{emptyField}
 use Rattle.indexed.specs.Indexed.{withIndex}
 use Rattle.playing.specs.Playing.{legsInMiles}
-use Rattle.dialect.specs.Coming.{fieldOfList}
+use Rattle.dialect_field.specs.Coming.{fieldOfList}
 use Rattle.history.specs.declared.History.{History}
 use Rattle.history.specs.History.{mostKept, startWith, withinBoundsHistory}
 

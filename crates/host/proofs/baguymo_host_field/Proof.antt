@@ -2,7 +2,7 @@
 use mathlib.Core.Path.{_≡_, ap, _∙_}
 use denote.Ref.{now}
 use borrow.Author.Needs.{needs}
-use Rattle.dialect.specs.declared.Built.{Built}
+use Rattle.dialect_field.specs.declared.Built.{Built}
 use Rattle.history.specs.declared.History.{History}
 use Rattle.layout.specs.Written.{stateAfter}
 use Rattle.host.specs.Calls.{builtState}

@@ -12,7 +12,7 @@ use Rattle.practice.specs.declared.FileLegs.{FileLegs}
 use Rattle.practice.specs.File.{number16, legsOf}
 use Rattle.field.proofs.TestLaws.{if-true, if-false}
 use Rattle.text.proofs.Texts.{past-all}
-use Rattle.dialect.specs.Coming.{fieldOfList}
+use Rattle.dialect_field.specs.Coming.{fieldOfList}
 use Rattle.listing.specs.Report.{builtReport, speedIn, builtOf}
 use Rattle.listing.proofs.ListReportSizes.{ends, refusal-fits}
 use Rattle.listing.proofs.rebuilt.Statement.{statement}

@@ -1,4 +1,4 @@
--- `dialect::coming::list_allowed` meets its contract: each test that refuses is the definition's. Assumes nothing.
+-- `dialect_field::coming::list_allowed` meets its contract: each test that refuses is the definition's. Assumes nothing.
 use mathlib.Core.Path.{refl, sym, ap, _∙_}
 use Prim.Native.Nat.{ℕ}
 use lib.Dec.{leb}
@@ -6,10 +6,10 @@ use denote.Ref.{now}
 use borrow.Author.Needs.{needs}
 use borrow.Author.Tests.{eq-eqb, ne-eqb, le-leb, lt-leb}
 use Rattle.field.proofs.TestParts.{and-then, and-cut}
-use Rattle.dialect.specs.Coming.{listAllowed}
-use Rattle.dialect.proofs.EntryBytes.{count}
-use Rattle.dialect.proofs.coming.list_allowed.Statement.{statement}
-use Rattle.dialect.proofs.coming.list_allowed.Tie as tie
+use Rattle.dialect_field.specs.Coming.{listAllowed}
+use Rattle.dialect_field.proofs.EntryBytes.{count}
+use Rattle.dialect_field.proofs.coming.list_allowed.Statement.{statement}
+use Rattle.dialect_field.proofs.coming.list_allowed.Tie as tie
 
 returns : tie.Need-returns
 unfolding listAllowed

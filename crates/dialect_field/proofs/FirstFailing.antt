@@ -13,8 +13,8 @@ use Rattle.finder.specs.declared.Indexed.{Indexed}
 use Rattle.finder.specs.Finder.{withinBoundsIndexed}
 use Rattle.indexed.specs.Indexed.{withIndex}
 use Rattle.playing.specs.Playing.{legsInMiles}
-use Rattle.dialect.specs.declared.Built.{Built}
-use Rattle.dialect.specs.Coming.{entriesIn, listAllowed, built, comingNumber, notBuilt, fieldOfList}
+use Rattle.dialect_field.specs.declared.Built.{Built}
+use Rattle.dialect_field.specs.Coming.{entriesIn, listAllowed, built, comingNumber, notBuilt, fieldOfList}
 
 module _ (legs : FileLegs) (speed : ℕ) (bytes : List ℕ) where
   -- the field of all its entries

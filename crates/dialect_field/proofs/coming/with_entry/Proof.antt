@@ -1,4 +1,4 @@
--- `dialect::coming::with_entry` meets its contract, by those of its callees. Assumes nothing.
+-- `dialect_field::coming::with_entry` meets its contract, by those of its callees. Assumes nothing.
 use mathlib.Core.Path.{_≡_}
 use Prim.Native.Nat.{ℕ}
 use borrow.Author.Needs.{needs}
@@ -8,10 +8,10 @@ use Rattle.field.specs.declared.Sequence.{Sequence}
 use Rattle.field.specs.declared.Field.{Field}
 use Rattle.field.specs.Airspace.{opposite, zoneOf, entering}
 use Rattle.edits.specs.Edits.{withTail, appended, withZone, withSequence}
 use Rattle.dialect.specs.declared.ListEntry.{ListEntry}
-use Rattle.dialect.specs.Coming.{fixIn, withEntry}
-use Rattle.dialect.proofs.coming.with_entry.Statement.{statement}
-use Rattle.dialect.proofs.coming.with_entry.Tie as tie
+use Rattle.dialect_field.specs.Coming.{fixIn, withEntry}
+use Rattle.dialect_field.proofs.coming.with_entry.Statement.{statement}
+use Rattle.dialect_field.proofs.coming.with_entry.Tie as tie
 
 -- the field by its parts
 made : (f : Field) (speed : ℕ) (e : ListEntry) {fix next : ℕ} {p q : Zone} {a : Aircraft} {s : Sequence} {g h : Field}

@@ -1,9 +1,9 @@
--- `dialect::coming::is_placed` meets its contract: each test that refuses is the definition's. Assumes nothing.
+-- `dialect_field::coming::is_placed` meets its contract: each test that refuses is the definition's. Assumes nothing.
 use borrow.Author.Needs.{needs}
 use borrow.Author.Tests.{le-leb, lt-leb}
-use Rattle.dialect.specs.Coming.{isPlaced}
-use Rattle.dialect.proofs.coming.is_placed.Statement.{statement}
-use Rattle.dialect.proofs.coming.is_placed.Tie as tie
+use Rattle.dialect_field.specs.Coming.{isPlaced}
+use Rattle.dialect_field.proofs.coming.is_placed.Statement.{statement}
+use Rattle.dialect_field.proofs.coming.is_placed.Tie as tie
 
 returns : tie.Need-returns
 unfolding isPlaced

@@ -1,11 +1,11 @@
--- `dialect::coming::not_built` meets its contract, by those of its callees. Assumes nothing.
+-- `dialect_field::coming::not_built` meets its contract, by those of its callees. Assumes nothing.
 use mathlib.Core.Path.{_≡_, ap, _∙_}
 use borrow.Author.Needs.{needs}
 use Rattle.field.specs.Airspace.{emptyField}
 use Rattle.indexed.specs.Indexed.{withIndex}
-use Rattle.dialect.specs.Coming.{notBuilt}
-use Rattle.dialect.proofs.coming.not_built.Statement.{statement}
-use Rattle.dialect.proofs.coming.not_built.Tie as tie
+use Rattle.dialect_field.specs.Coming.{notBuilt}
+use Rattle.dialect_field.proofs.coming.not_built.Statement.{statement}
+use Rattle.dialect_field.proofs.coming.not_built.Tie as tie
 
 legs-in-miles-requires : tie.Need-legs-in-miles-requires
 legs-in-miles-requires c κs = search needs

@@ -1,4 +1,4 @@
--- `dialect::coming::field_of_list` meets its contract: each test that refuses is the definition's. Assumes nothing.
+-- `dialect_field::coming::field_of_list` meets its contract: each test that refuses is the definition's. Assumes nothing.
 use mathlib.Core.Path.{_≡_, sym, ap, _∙_}
 use mathlib.Core.List.{List}
 use Prim.Native.Nat.{ℕ}
@@ -11,10 +11,10 @@ use Rattle.field.proofs.TestParts.{holds, fails}
 use Rattle.finder.specs.declared.Indexed.{Indexed}
 use Rattle.indexed.specs.Indexed.{withIndex}
 use Rattle.playing.specs.Playing.{legsInMiles}
-use Rattle.dialect.specs.Coming.{entriesIn, built}
-use Rattle.dialect.proofs.FirstFailing.{onList, refused-7, refused-4, refused-29, refused-25, accepted}
-use Rattle.dialect.proofs.coming.field_of_list.Statement.{statement}
-use Rattle.dialect.proofs.coming.field_of_list.Tie as tie
+use Rattle.dialect_field.specs.Coming.{entriesIn, built}
+use Rattle.dialect_field.proofs.FirstFailing.{onList, refused-7, refused-4, refused-29, refused-25, accepted}
+use Rattle.dialect_field.proofs.coming.field_of_list.Statement.{statement}
+use Rattle.dialect_field.proofs.coming.field_of_list.Tie as tie
 
 -- what the callees yield is the field of all entries
 made : (legs : FileLegs) (speed : ℕ) (bytes : List ℕ) {miles : Legs} {f : Field} {x : Indexed} → miles ≡ legsInMiles legs → f ≡ built miles speed (entriesIn bytes) → x ≡ withIndex f

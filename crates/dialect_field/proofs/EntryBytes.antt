@@ -4,8 +4,8 @@ use mathlib.Core.List.{List, [], _∷_}
 use Prim.Native.Nat.{ℕ, zero, suc, _+_, _*_, _/_, _<_, _≤_}
 use native.Mathlib.Omega.{arith}
 use lib.ListN.{length, getD}
 use Rattle.dialect.specs.declared.ListEntry.{ListEntry}
-use Rattle.dialect.specs.Coming.{entryIn, entriesIn}
+use Rattle.dialect_field.specs.Coming.{entryIn, entriesIn}
 
 eighth : (m n : ℕ) → m ≡ n / 8 → suc m ≡ suc (suc (suc (suc (suc (suc (suc (suc n))))))) / 8
 eighth m n e = omega arith

@@ -1,16 +1,16 @@
--- `dialect::coming::entry_at` meets its contract: the eight bytes are those of the i-th entry. Assumes nothing.
+-- `dialect_field::coming::entry_at` meets its contract: the eight bytes are those of the i-th entry. Assumes nothing.
 use mathlib.Core.Path.{_≡_, sym, ap, _∙_}
 use Prim.Native.Nat.{ℕ, _≤_}
 use native.Mathlib.Omega.{arith}
 use lib.ListN.{length}
 use denote.Ref.{now}
 use borrow.Author.Needs.{needs}
 use Rattle.dialect.specs.declared.ListEntry.{ListEntry}
 use Rattle.dialect.specs.Going.{noEntry}
-use Rattle.dialect.specs.Coming.{entriesIn}
-use Rattle.dialect.proofs.EntryBytes.{count, at-index, past-end}
-use Rattle.dialect.proofs.coming.entry_at.Statement.{statement}
-use Rattle.dialect.proofs.coming.entry_at.Tie as tie
+use Rattle.dialect_field.specs.Coming.{entriesIn}
+use Rattle.dialect_field.proofs.EntryBytes.{count, at-index, past-end}
+use Rattle.dialect_field.proofs.coming.entry_at.Statement.{statement}
+use Rattle.dialect_field.proofs.coming.entry_at.Tie as tie
 
 -- the entry by its numbers
 made : {n₁ n₂ l₁ l₂ p₁ p₂ f₁ f₂ : ℕ} → n₁ ≡ n₂ → l₁ ≡ l₂ → p₁ ≡ p₂ → f₁ ≡ f₂

@@ -1,8 +1,8 @@
 // The field of a list (specs/Coming.antt). It need not be a field that requests reach: nothing of demand 3 is claimed of it, and somebody may be on
 // it with nobody able to move.
 use crate::Built;
-use crate::ListEntry;
-use crate::going::no_entry;
+use dialect::ListEntry;
+use dialect::going::no_entry;
 use edits::appended;
 use edits::with_sequence;
 use edits::with_tail;
@@ -24,8 +24,8 @@ ghost use mathlib.Core.Path.{_≡_};
 ghost use lib.ListN.{getD};
 ghost use Rattle.limits.specs.Limits.{fastest};
 ghost use Rattle.request.specs.Input.{within};
 ghost use Rattle.dialect.specs.Going.{noEntry};
-ghost use Rattle.dialect.specs.Coming.{entriesIn, isPlaced, placedFrom, listAllowed, fixIn, withEntry, built, notBuilt, fieldOfList};
+ghost use Rattle.dialect_field.specs.Coming.{entriesIn, isPlaced, placedFrom, listAllowed, fixIn, withEntry, built, notBuilt, fieldOfList};
 
 // How many bytes an entry has.
 const ENTRY: usize = 8;

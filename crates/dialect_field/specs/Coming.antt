@@ -16,8 +16,8 @@ use Rattle.finder.specs.declared.Indexed.{Indexed}
 use Rattle.finder.specs.Finder.{withinBoundsIndexed}
 use Rattle.indexed.specs.Indexed.{withIndex}
 use Rattle.playing.specs.Playing.{legsInMiles, noLegs}
 use Rattle.dialect.specs.declared.ListEntry.{ListEntry}
-use Rattle.dialect.specs.declared.Built.{Built}
+use Rattle.dialect_field.specs.declared.Built.{Built}
 
 -- ---- the list, lent as bytes
 

@@ -1,4 +1,4 @@
--- `dialect::coming::built` meets its contract. The loop's invariant is `Building`. Assumes nothing.
+-- `dialect_field::coming::built` meets its contract. The loop's invariant is `Building`. Assumes nothing.
 use mathlib.Core.Path.{_≡_, refl, sym, ap, _∙_}
 use Prim.Native.Nat.{_-_, _<_}
 use native.Mathlib.Omega.{arith}
@@ -6,11 +6,11 @@ use lib.ListN.{length}
 use denote.Ref.{now}
 use borrow.Author.Needs.{needs}
 use Rattle.field.specs.declared.Field.{Field}
-use Rattle.dialect.specs.Coming.{entriesIn, builtOn, built}
-use Rattle.dialect.proofs.EntryBytes.{count}
-use Rattle.dialect.proofs.Walks.{Building, building-more, building-all}
-use Rattle.dialect.proofs.coming.built.Statement.{statement}
-use Rattle.dialect.proofs.coming.built.Tie as tie
+use Rattle.dialect_field.specs.Coming.{entriesIn, builtOn, built}
+use Rattle.dialect_field.proofs.EntryBytes.{count}
+use Rattle.dialect_field.proofs.Walks.{Building, building-more, building-all}
+use Rattle.dialect_field.proofs.coming.built.Statement.{statement}
+use Rattle.dialect_field.proofs.coming.built.Tie as tie
 
 abbrev Inv-loop : tie.InvT-loop
 Inv-loop speed list n f₀ i₀ f i = Building f₀ speed (entriesIn list) f i

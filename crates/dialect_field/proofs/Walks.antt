@@ -8,9 +8,9 @@ use lib.ListN.{length, getD, drop, drop-of-length-le}
 use Rattle.field.specs.declared.Field.{Field}
 use Rattle.field.proofs.Arrays.{next-of}
 use Rattle.field.proofs.TestParts.{and-then, and-cut}
 use Rattle.dialect.specs.declared.ListEntry.{ListEntry}
 use Rattle.dialect.specs.Going.{noEntry}
-use Rattle.dialect.specs.Coming.{isPlaced, placedFrom, withEntry, builtOn}
+use Rattle.dialect_field.specs.Coming.{isPlaced, placedFrom, withEntry, builtOn}
 
 -- ---- placed
 

@@ -1,13 +1,13 @@
--- `dialect::coming::fix_in` meets its contract: each arm returns what the definition gives where the tests are as the arm found them. Assumes nothing.
+-- `dialect_field::coming::fix_in` meets its contract: each arm returns what the definition gives where the tests are as the arm found them. Assumes nothing.
 use mathlib.Core.Path.{sym, ap}
 use mathlib.Core.Bool.{cond, _||_}
 use Prim.Native.Nat.{ℕ}
 use lib.Dec.{eqb}
 use borrow.Author.Tests.{ne-eqb}
 use Rattle.field.specs.Airspace.{isSide}
-use Rattle.dialect.specs.Coming.{fixIn}
-use Rattle.dialect.proofs.coming.fix_in.Statement.{statement}
-use Rattle.dialect.proofs.coming.fix_in.Tie as tie
+use Rattle.dialect_field.specs.Coming.{fixIn}
+use Rattle.dialect_field.proofs.coming.fix_in.Statement.{statement}
+use Rattle.dialect_field.proofs.coming.fix_in.Tie as tie
 
 returns : tie.Need-returns
 unfolding fixIn isSide

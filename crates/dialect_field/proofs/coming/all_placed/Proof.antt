@@ -1,4 +1,4 @@
--- `dialect::coming::all_placed` meets its contract. The loop's invariant is `Placed`. Assumes nothing.
+-- `dialect_field::coming::all_placed` meets its contract. The loop's invariant is `Placed`. Assumes nothing.
 use mathlib.Core.Path.{_≡_, refl, sym, _∙_}
 use Prim.Native.Nat.{_-_, _<_}
 use native.Mathlib.Omega.{arith}
@@ -6,11 +6,11 @@ use lib.ListN.{length}
 use denote.Ref.{now}
 use borrow.Author.Needs.{needs}
 use Rattle.field.proofs.TestParts.{holds, fails}
-use Rattle.dialect.specs.Coming.{entriesIn}
-use Rattle.dialect.proofs.EntryBytes.{count}
-use Rattle.dialect.proofs.Walks.{Placed, placed-more, placed-stop, placed-all}
-use Rattle.dialect.proofs.coming.all_placed.Statement.{statement}
-use Rattle.dialect.proofs.coming.all_placed.Tie as tie
+use Rattle.dialect_field.specs.Coming.{entriesIn}
+use Rattle.dialect_field.proofs.EntryBytes.{count}
+use Rattle.dialect_field.proofs.Walks.{Placed, placed-more, placed-stop, placed-all}
+use Rattle.dialect_field.proofs.coming.all_placed.Statement.{statement}
+use Rattle.dialect_field.proofs.coming.all_placed.Tie as tie
 
 abbrev Inv-loop : tie.InvT-loop
 Inv-loop list n i₀ i = Placed (entriesIn list) i
