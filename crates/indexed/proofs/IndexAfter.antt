@@ -30,8 +30,8 @@ use Rattle.rules.specs.Kinds.{placeBefore, zoneAhead}
 use Rattle.rules.specs.Step.{effectOf, numberOf}
 use Rattle.kept_up.specs.KeptUp.{leadsTo, ledTo, keptUp}
 use Rattle.kept_up.proofs.Leads.{leads-alike}
-use Rattle.kept_up.proofs.Heads.{on-final}
-use Rattle.kept_up.proofs.Own.{kept-up-own}
+use Rattle.kept_up.proofs.HeadOfRequest.{on-final}
+use Rattle.kept_up.proofs.KeptUpOwn.{kept-up-own}
 use Rattle.step.proofs.StepsByTests.{asked}
 use Rattle.indexed.proofs.StepsIndexed.{field-within, index-own}
 
