@@ -19,7 +19,7 @@ pub struct Listing {
     pub entries: [ListEntry; 5],
 }
 
-// The answer of `field_of`: a number, 0 where it is not refused, and the field that was built, with its index.
+// The answer of `field_of_list`: a number, 0 where it is not refused, and the field that was built, with its index.
 pub struct Built {
     pub number: u16,
     pub after: Indexed,

@@ -1,4 +1,4 @@
--- Kinds 1 and 2, each of any field with its places: an accepted one is its transition. Assumes nothing.
+-- The state after a new aircraft comes to the end of a zone. Assumes nothing.
 use mathlib.Core.Path.{_≡_, refl, sym, ap, _∙_, subst}
 use mathlib.Core.Logic.{_≢_, _⊎_, inl, inr}
 use mathlib.Core.Bool.{Bool, true, false, cond, _&&_, _||_, true≢false}

@@ -92,8 +92,7 @@ actual s side = length (s .queue (holding3 side)) + length (s .queue (holding2 s
 
 -- the virtual number of a fix: those at the side, and those elsewhere that are assigned to it
 unfoldable pub virtual : SCA → Side → ℕ
-virtual s side =
-    actual s side
+virtual s side = actual s side
     + assigned (s .queue (holding3 (opp side))) side
     + assigned (s .queue (holding2 (opp side))) side
     + assigned (s .queue (lez (opp side))) side

@@ -1,4 +1,4 @@
--- The reason, with the bounds, is kept by every request on any field, and 25 is not answered there. Assumes nothing.
+-- A field with its places, the bounds and the reason, whose places past the lengths are as an empty field's, is one that an orderly line stands for. Assumes nothing.
 use mathlib.Core.Path.{_≡_, refl, sym, ap, _∙_, subst}
 use mathlib.Core.Logic.{inl, inr}
 use mathlib.Core.Bool.{Bool, true, false, cond, _&&_, _||_}
