@@ -119,7 +119,9 @@ module _ (f : Field) (sh : Shaped f) (r : Request) (e : numberOf f r ≡ 0) wher
                   (λ y. ap (λ (x : Field). inZone x y) (effect-at f r q ∙ if-true _ _ a ∙ if-true _ _ b))))
               | inr b ↦
                   let there : to f sh r e (r .kind) ≡ side = ap (to f sh r e) q ∙ if-true _ _ a ∙ if-false _ _ b in
-                  inr (subst⁻¹ (Rises f sh r e) there (rises q m (λ y. ap (λ (x : Field). inZone x y) (effect-at f r q ∙ if-true _ _ a ∙ if-false _ _ b ∙ sym (ap (λ (x : Field). moved x from side) (if-true _ _ a))))))
+                  inr
+                  (subst⁻¹ (Rises f sh r e) there
+                  (rises q m (λ y. ap (λ (x : Field). inZone x y) (effect-at f r q ∙ if-true _ _ a ∙ if-false _ _ b ∙ sym (ap (λ (x : Field). moved x from side) (if-true _ _ a))))))
             ]
         | inr a ↦
             let there : to f sh r e (r .kind) ≡ side = ap (to f sh r e) q ∙ if-false _ _ a in

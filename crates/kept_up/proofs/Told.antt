@@ -92,7 +92,8 @@ module _ (f : Field) (sh : Shaped f) (r : Request) (e : numberOf f r ≡ 0) wher
       (record { low = omega arith; high = omega arith; apart = λ h. omega (arith, h, above) }) in
       let w = to f sh r e 4 in
       let ahead : Ahead w =
-      either-way Ahead (within 5 6 from) _ _ (λ u. either-way Ahead (mayApproach (f .sequence) n (zoneAhead f r) && leb (howMany f (base (opposite (sideOf from)))) 1) _ _ (λ v. to-base) (λ v. to-2000 u))
+      either-way Ahead (within 5 6 from) _ _
+      (λ u. either-way Ahead (mayApproach (f .sequence) n (zoneAhead f r) && leb (howMany f (base (opposite (sideOf from)))) 1) _ _ (λ v. to-base) (λ v. to-2000 u))
       (λ u. to-base) in
       let wl = ahead .low in
       moves f sh r e 4 w q refl refl (ahead .low)
@@ -125,7 +126,8 @@ module _ (f : Field) (sh : Shaped f) (r : Request) (e : numberOf f r ≡ 0) wher
       let none = eqb-true (howMany f 13) 0 (first-passes 24 (isEmpty f 13) [] (omega arith) (needs .1) .0) in
       moves f sh r e 7 13 q refl refl (omega arith)
       (led-same (λ y. ap (λ (x : Field). inZone x y) (effect-at f r q) ∙ ap (λ (z : ℕ). inZone (moved f z 13) y) (sym t))
-      (moved-led f sh from 13 n (in-area from (omega (arith, t)) (omega (arith, t))) (in-area 13 (omega arith) (omega arith)) (λ e. omega (arith, e, t)) (omega (arith, none)) (heads f r e 7 q refl refl)))
+      (moved-led f sh from 13 n (in-area from (omega (arith, t)) (omega (arith, t))) (in-area 13 (omega arith) (omega arith)) (λ e. omega (arith, e, t)) (omega (arith, none))
+      (heads f r e 7 q refl refl)))
 
   leaves : (k z : ℕ) → r .kind ≡ k → within 8 9 k ≡ true → from ≡ z → Between 1 13 z → Heads f n from → ((y : ℕ) → inZone g y ≡ inZone (headGone f z) y) → Leaves f sh r e
   leaves k z q s t b head same =
@@ -137,12 +139,14 @@ module _ (f : Field) (sh : Shaped f) (r : Request) (e : numberOf f r ≡ 0) wher
   leaves-8 : r .kind ≡ 8 → Leaves f sh r e
   unfolding startsFrom
   leaves-8 q =
-      leaves 8 13 q refl (only 13 from (heading f r e 8 q refl refl .starts)) (in-area 13 (omega arith) (omega arith)) (heads f r e 8 q refl refl) (λ y. ap (λ (x : Field). inZone x y) (effect-at f r q))
+      leaves 8 13 q refl (only 13 from (heading f r e 8 q refl refl .starts)) (in-area 13 (omega arith) (omega arith)) (heads f r e 8 q refl refl)
+      (λ y. ap (λ (x : Field). inZone x y) (effect-at f r q))
 
   leaves-9 : r .kind ≡ 9 → Leaves f sh r e
   unfolding startsFrom exited outOfSequence withSequence inZone zoneOf
   leaves-9 q =
-      leaves 9 11 q refl (only 11 from (heading f r e 9 q refl refl .starts)) (in-area 11 (omega arith) (omega arith)) (heads f r e 9 q refl refl) (λ y. ap (λ (x : Field). inZone x y) (effect-at f r q))
+      leaves 9 11 q refl (only 11 from (heading f r e 9 q refl refl .starts)) (in-area 11 (omega arith) (omega arith)) (heads f r e 9 q refl refl)
+      (λ y. ap (λ (x : Field). inZone x y) (effect-at f r q))
 
   -- the fix of the head of final is a side
   fix-side : (l : List Aircraft) → T (every (fitsZone (f .legs) 12) l) → 1 ≤ length l → T (isSide (getD (nobody ∷ l) 1 nobody .fix))
@@ -159,7 +163,8 @@ module _ (f : Field) (sh : Shaped f) (r : Request) (e : numberOf f r ≡ 0) wher
       let side = fix-side (inZone f 12) (all-fit f (within-each f (bounded f sh r e) .bound-g) 12 (omega arith) (omega arith)) has in
       let own : sideOf (a .fix) ≡ a .fix = either-side (a .fix) side in
       let w = 6 + a .fix in
-      let range : Between 1 2 (a .fix) = subst (Between 1 2) own (of-side (Between 1 2) (a .fix) (record { least = omega arith; most = omega arith }) (record { least = omega arith; most = omega arith })) in
+      let range : Between 1 2 (a .fix) =
+      subst (Between 1 2) own (of-side (Between 1 2) (a .fix) (record { least = omega arith; most = omega arith }) (record { least = omega arith; most = omega arith })) in
       let low = range .least in
       let high = range .most in
       let apart : w ≢ 12 = λ h. omega (arith, h, high) in
