@@ -20,8 +20,8 @@ use Rattle.rules.specs.declared.Stepped.{Stepped}
 use Rattle.rules.specs.Step.{numberOf, numberAndZeros, stepOf}
 use Rattle.renaming.specs.Renaming.{Renaming, renamedField, renamedRequest, renamedAnswer}
 use Rattle.renaming.proofs.ListsRenamed.{take-map, drop-map}
-use Rattle.renaming.proofs.Bounded.{within-renamed}
-use Rattle.renaming.proofs.Needed.{input-renamed}
+use Rattle.renaming.proofs.BoundsRenamed.{within-renamed}
+use Rattle.renaming.proofs.NeedsRenamed.{input-renamed}
 use Rattle.renaming.proofs.StepsRenamed.{number-renamed, step-renamed}
 use Rattle.indexed.specs.Indexed.{withIndex}
 use Rattle.indexed.proofs.Own.{within-own}

@@ -39,8 +39,8 @@ use Rattle.nasa.proofs.DescendFinalTaxi.{each-side}
 use Rattle.nasa.proofs.LeadersBySeq.{one-less}
 use Rattle.nasa.proofs.AskedOfState.{in-sequence}
 use Rattle.nasa.proofs.Sequences.{last-put, full-stays, before-kept, before-last, seen-kept}
-use Rattle.nasa.proofs.Missing.{opposite-named, either-named}
-use Rattle.nasa.proofs.Landed.{operating}
+use Rattle.nasa.proofs.MissTransition.{opposite-named, either-named}
+use Rattle.nasa.proofs.LandExitTransitions.{operating}
 
 -- ---- a new aircraft, whose number nobody has, at the end of zone z
 module _ (f : Field) (t : T (withinBounds f)) (k : Shaped f) (r : Request) (s : Side) (asks : r .side ≡ num s) (z : ScaZone) (inside : T (within 1 12 (zoneNumber z)))

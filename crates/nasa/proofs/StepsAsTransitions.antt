@@ -27,10 +27,10 @@ use Rattle.nasa.specs.Stands.{seen, stateOf, Is}
 use Rattle.nasa.specs.Steps.{stays, transitionFor, transitionOf, StepsAs}
 use Rattle.nasa.proofs.States.{same-state, asSeen}
 use Rattle.nasa.proofs.DescendFinalTaxi.{leads, descend-is, final-is, taxi-is}
-use Rattle.nasa.proofs.Approaching.{approach-is, merge-is}
+use Rattle.nasa.proofs.ApproachMergeTransitions.{approach-is, merge-is}
 use Rattle.nasa.proofs.Holding.{hold-is}
-use Rattle.nasa.proofs.Landed.{land-is, exit-is}
-use Rattle.nasa.proofs.Missing.{miss-is}
+use Rattle.nasa.proofs.LandExitTransitions.{land-is, exit-is}
+use Rattle.nasa.proofs.MissTransition.{miss-is}
 use Rattle.nasa.proofs.EntryTransitions.{entry-is, lateral-is}
 
 -- ---- a tick

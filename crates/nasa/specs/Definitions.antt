@@ -77,8 +77,8 @@ decrease (a ∷ rest) = record { seq = leader a; mahf = a .mahf } ∷ decrease r
 -- ---- questions of the state
 
 -- whether an aircraft with this sequence number is on the approach
-abbrev pub onApproach : SCA → ℕ → Bool
-onApproach s n =
+abbrev pub scaOnApproach : SCA → ℕ → Bool
+scaOnApproach s n =
     onZone (s .queue (base rightSide)) n || onZone (s .queue (base leftSide)) n || onZone (s .queue intermediate) n || onZone (s .queue final) n
 
 -- whether an aircraft on the approach is assigned to a side
