@@ -39,7 +39,7 @@ movesLine n = 109 ∷ 111 ∷ 118 ∷ 101 ∷ 115 ∷ space ∷ lineOf (n ∷ []
 unfoldable pub landingsLine : ℕ → List ℕ
 landingsLine n = 108 ∷ 97 ∷ 110 ∷ 100 ∷ 105 ∷ 110 ∷ 103 ∷ 115 ∷ space ∷ lineOf (n ∷ [])
 
--- a refused binder gives only `binder` and the number (02, 2.1)
+-- the report of a refused binder: `binder`, its number, no more (02, 2.1)
 unfoldable pub refusedBinder : ℕ → List ℕ
 refusedBinder number = 98 ∷ 105 ∷ 110 ∷ 100 ∷ 101 ∷ 114 ∷ space ∷ lineOf (number ∷ [])
 

@@ -26,11 +26,29 @@ use Rattle.laws.proofs.TickLaws.{tickedAt}
 use Rattle.line.proofs.Line.{Placed}
 use Rattle.moves.proofs.Carried.{Onward, Turned}
 
+-- what holds of each of the thirteen zones, one after the other
+each-of-thirteen : (P : ℕ → Type 0) → P 1 × P 2 × P 3 × P 4 × P 5 × P 6 × P 7 × P 8 × P 9 × P 10 × P 11 × P 12 × P 13 → (z : ℕ) → T (within 1 13 z) → P z
+each-of-thirteen P (p1, p2, p3, p4, p5, p6, p7, p8, p9, p10, p11, p12, p13) =
+    each-zone P (p1, (p2, (p3, (p4, (p5, (p6, (p7, (p8, (p9, (p10, (p11, (p12, (p13, tt)))))))))))))
+
 -- ---- legs
 leg-fits : (w : WholeLegs) (z : ℕ) → T (within 1 13 z) → Between 1 longestLeg (zoneLegIn64ths w z)
 leg-fits w =
-    each-zone (λ (z : ℕ). Between 1 longestLeg (zoneLegIn64ths w z))
-    (w .final-fits, (w .final-fits, (w .final-fits, (w .final-fits, (w .final-fits, (w .final-fits, (w .missed-fits, (w .missed-fits, (w .base-fits, (w .base-fits, (w .intermediate-fits, (w .final-fits, (w .final-fits, tt)))))))))))))
+    each-of-thirteen (λ (z : ℕ). Between 1 longestLeg (zoneLegIn64ths w z)) (
+      w .final-fits,
+      w .final-fits,
+      w .final-fits,
+      w .final-fits,
+      w .final-fits,
+      w .final-fits,
+      w .missed-fits,
+      w .missed-fits,
+      w .base-fits,
+      w .base-fits,
+      w .intermediate-fits,
+      w .final-fits,
+      w .final-fits,
+    )
 
 pub legs-legal : (w : WholeLegs) → T (legalLegs (inMiles w))
 unfolding legalLegs
@@ -63,8 +81,8 @@ flown-exact w =
     let b = sixty-fourths-in-4096ths (w .base-leg) (w .base-fits) .exact in
     let i = sixty-fourths-in-4096ths (w .intermediate-leg) (w .intermediate-fits) .exact in
     let f = sixty-fourths-in-4096ths (w .final-leg) (w .final-fits) .exact in
-    each-zone (λ (z : ℕ). T (isFlyingZone z) → Exactly (legOf (inMiles w) z) (64 * zoneLegIn64ths w z))
-    ((λ u. absurd u), ((λ u. absurd u), ((λ u. absurd u), ((λ u. absurd u), ((λ u. absurd u), ((λ u. absurd u), ((λ u. m), ((λ u. m), ((λ u. b), ((λ u. b), ((λ u. i), ((λ u. f), ((λ u. absurd u), tt)))))))))))))
+    each-of-thirteen (λ (z : ℕ). T (isFlyingZone z) → Exactly (legOf (inMiles w) z) (64 * zoneLegIn64ths w z))
+    ((λ u. absurd u), (λ u. absurd u), (λ u. absurd u), (λ u. absurd u), (λ u. absurd u), (λ u. absurd u), (λ u. m), (λ u. m), (λ u. b), (λ u. b), (λ u. i), (λ u. f), (λ u. absurd u))
 
 zone-leg-exact : (w : WholeLegs) (z : ℕ) → Exactly (legOf (inMiles w) z) (zoneLegIn4096ths w z)
 unfolding ofInt

@@ -81,7 +81,7 @@ module _ (f : Field) (still : NobodyMoves f) where
       record {
         within-bounds = still .within-bounds;
         ending = sym (ap (λ (h : Held). h .ending) held);
-        all = sym (ap (λ (h : Held). h .played) held);
+        all-presses = sym (ap (λ (h : Held). h .played) held);
       }
 
 -- the field of `nobody-moves`

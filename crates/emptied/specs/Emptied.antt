@@ -39,4 +39,4 @@ pub record Emptied (f : Field) : Type 0 where
 pub record SpentOn (f : Field) : Type 0 where
   pub within-bounds : T (withinBounds f)
   pub ending : heldOf f .ending ≡ ending.Spent
-  pub all : heldOf f .played ≡ mostPresses
+  pub all-presses : heldOf f .played ≡ mostPresses

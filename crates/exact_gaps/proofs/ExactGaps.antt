@@ -36,7 +36,7 @@ use Rattle.demand.proofs.Flights.{legs-legal}
 use Rattle.demand.proofs.Exact.{exactness}
 use Rattle.gaps.specs.declared.Spacing.the-variants.{Close, Clear}
 use Rattle.gaps.specs.declared.Pair.{Pair}
-use Rattle.gaps.specs.Gaps.{toGo, wayOf, gapOf, spacingOf, pairOf, onApproach, between, pairsIn, legalSpacing, pairsListed, spacingRefused, gapsOf}
+use Rattle.gaps.specs.Gaps.{toGo, wayOf, gapOf, spacingOf, pairOf, onApproach, pairIfBoth, pairsIn, legalSpacing, pairsListed, spacingRefused, gapsOf}
 use Rattle.exact_gaps.specs.ExactGaps.{ExactlySigned, following, wayFrom, reached, wayIn4096ths, gapIn, isClose, ExactPair, ExactGaps}
 use Rattle.exact_gaps.proofs.Signed.{signed-grid, under-spacing}
 use Rattle.exact_gaps.proofs.Ways.{each-at, every-at, way-exact}
@@ -155,8 +155,8 @@ module _ (w : WholeLegs) (rs : List Request) where
           close = close-in b gap ∙ under-spacing gap (wayIn4096ths w rs m) (wayIn4096ths w rs l) spacing at-least at-most signed;
         }
 
-    between-exact : (l m : ℕ) → Each (ExactPair w rs spacing) (between f spacing l m)
-    unfolding between
+    between-exact : (l m : ℕ) → Each (ExactPair w rs spacing) (pairIfBoth f spacing l m)
+    unfolding pairIfBoth
     between-exact l m =
         either-way (Each (ExactPair w rs spacing)) (onApproach f l && onApproach f m) (pairOf f spacing l m ∷ []) []
         (λ e. (pair-exact l m (and-l (onApproach f l) (onApproach f m) (pass e)) (and-r (onApproach f l) (onApproach f m) (pass e)), tt)) (λ e. tt)
@@ -164,7 +164,7 @@ module _ (w : WholeLegs) (rs : List Request) where
     pairs-exact : (order : List ℕ) → Each (ExactPair w rs spacing) (pairsIn f spacing order)
     pairs-exact [] = tt
     pairs-exact (n ∷ []) = tt
-    pairs-exact (n ∷ m ∷ ns) = each-append (ExactPair w rs spacing) (between f spacing n m) (pairsIn f spacing (m ∷ ns)) (between-exact n m) (pairs-exact (m ∷ ns))
+    pairs-exact (n ∷ m ∷ ns) = each-append (ExactPair w rs spacing) (pairIfBoth f spacing n m) (pairsIn f spacing (m ∷ ns)) (between-exact n m) (pairs-exact (m ∷ ns))
 
     pub exact-gaps : ExactGaps w rs spacing
     unfolding gapsOf

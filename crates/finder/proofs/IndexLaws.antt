@@ -1,4 +1,4 @@
--- The theorems of the index: it says what a look through the queues says, and a tick leaves it. Assumes nothing.
+-- To look a number up in the index is to look for it in the queues, and after a tick the index is the same. Assumes nothing.
 use mathlib.Core.Path.{_≡_, refl, sym, ap, _∙_}
 use mathlib.Core.Logic.{_≢_, inl, inr}
 use mathlib.Core.Bool.{Bool, true, false, cond, not, _&&_, true≢false}

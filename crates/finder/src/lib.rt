@@ -1,4 +1,4 @@
-// An index beside the field, from each number present to its zone and place (specs/Finder.antt).
+// A table that goes with a field and says of every number on it in which zone and place it stands (specs/Finder.antt).
 use bounds::within_bounds;
 use field::Field;
 use field::Zone;

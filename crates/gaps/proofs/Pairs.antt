@@ -12,7 +12,7 @@ use Rattle.field.specs.Airspace.{orderOf}
 use Rattle.field.proofs.Shapes.{order-next}
 use Rattle.gaps.specs.declared.Pair.{Pair}
 use Rattle.gaps.specs.declared.Spacings.{Spacings}
-use Rattle.gaps.specs.Gaps.{onApproach, pairOf, between, pairsIn, noPair, pairsListed}
+use Rattle.gaps.specs.Gaps.{onApproach, pairOf, pairIfBoth, pairsIn, noPair, pairsListed}
 
 -- the three places, of which the first hold these pairs
 abbrev pub held : List Pair → List Pair
@@ -42,14 +42,14 @@ module _ (f : Field) (spacing : ℕ) where
 
   -- neighbour i and the one before it, and the rest from neighbour i on
   neighbours : (s : Sequence) (i : ℕ) → 1 ≤ i → i < length (orderOf s)
-      → pairsIn f spacing (drop (i - 1) (orderOf s)) ≡ between f spacing (getD (s .numbers) (i - 1) 0) (getD (s .numbers) i 0) ++ pairsIn f spacing (drop (i + 1 - 1) (orderOf s))
+      → pairsIn f spacing (drop (i - 1) (orderOf s)) ≡ pairIfBoth f spacing (getD (s .numbers) (i - 1) 0) (getD (s .numbers) i 0) ++ pairsIn f spacing (drop (i + 1 - 1) (orderOf s))
   neighbours s i low h =
       let back : i - 1 + 1 ≡ i = omega arith in
       let on : i ≡ i + 1 - 1 = omega arith in
       let l = getD (s .numbers) (i - 1) 0 in
       let m = getD (s .numbers) i 0 in
       ap (pairsIn f spacing) (order-next s (i - 1) (omega arith) ∙ ap (λ (k : ℕ). l ∷ drop k (orderOf s)) back ∙ ap (λ (r : List ℕ). l ∷ r) (order-next s i h))
-      ∙ ap (λ (r : List ℕ). between f spacing l m ++ pairsIn f spacing r) (sym (order-next s i h) ∙ ap (λ (k : ℕ). drop k (orderOf s)) on)
+      ∙ ap (λ (r : List ℕ). pairIfBoth f spacing l m ++ pairsIn f spacing r) (sym (order-next s i h) ∙ ap (λ (k : ℕ). drop k (orderOf s)) on)
 
   module _ (s : Sequence) (i : ℕ) (low : 1 ≤ i) (h : i < length (orderOf s)) {pairs : List Pair} {count : ℕ} (p : Found s pairs count i) where
     abbrev l : ℕ
@@ -60,21 +60,21 @@ module _ (f : Field) (spacing : ℕ) where
 
     -- neighbours that are no pair
     pub found-same : (onApproach f l && onApproach f m) ≡ false → {pairs' : List Pair} {count' : ℕ} → pairs' ≡ pairs → count' ≡ count → Found s pairs' count' (i + 1)
-    unfolding between
+    unfolding pairIfBoth
     found-same e a n = record {
       found = p .found;
       array = a ∙ p .array;
       counted = n ∙ p .counted;
       few = let k = p .few in omega arith;
       rest =
-          let none : between f spacing l m ≡ [] = ap (λ (t : Bool). cond t (pairOf f spacing l m ∷ []) []) e in
+          let none : pairIfBoth f spacing l m ≡ [] = ap (λ (t : Bool). cond t (pairOf f spacing l m ∷ []) []) e in
           ap (λ (r : List Pair). p .found ++ (r ++ pairsIn f spacing (drop (i + 1 - 1) (orderOf s)))) (sym none) ∙ ap (λ (r : List Pair). p .found ++ r) (sym (neighbours s i low h)) ∙ p .rest;
     }
 
     -- neighbours that are one
     pub found-more : (onApproach f l && onApproach f m) ≡ true → count < 3 → {q : Pair} → q ≡ pairOf f spacing l m → {pairs' : List Pair} {count' : ℕ} → pairs' ≡ set pairs count q → count' ≡ count + 1
         → Found s pairs' count' (i + 1)
-    unfolding between
+    unfolding pairIfBoth
     found-more e room {q} same a n = record {
       found = p .found ++ (q ∷ []);
       array =
@@ -85,7 +85,7 @@ module _ (f : Field) (spacing : ℕ) where
       few = let k = p .few in omega arith;
       rest =
           let rest = pairsIn f spacing (drop (i + 1 - 1) (orderOf s)) in
-          let one : q ∷ [] ≡ between f spacing l m = ap (λ (x : Pair). x ∷ []) same ∙ sym (ap (λ (t : Bool). cond t (pairOf f spacing l m ∷ []) []) e) in
+          let one : q ∷ [] ≡ pairIfBoth f spacing l m = ap (λ (x : Pair). x ∷ []) same ∙ sym (ap (λ (t : Bool). cond t (pairOf f spacing l m ∷ []) []) e) in
           append-assoc (p .found) (q ∷ []) rest ∙ ap (λ (r : List Pair). p .found ++ (r ++ rest)) one ∙ ap (λ (r : List Pair). p .found ++ r) (sym (neighbours s i low h)) ∙ p .rest;
     }
 

@@ -54,14 +54,14 @@ unfoldable pub onApproach : Field → ℕ → Bool
 onApproach f number = leb 9 (placeOf f number .zone) && leb (placeOf f number .zone) 12
 
 -- two neighbours in the sequence as a pair; none where either is not on the approach
-unfoldable pub between : Field → ℕ → ℕ → ℕ → List Pair
-between f spacing leader follower = cond (onApproach f leader && onApproach f follower) (pairOf f spacing leader follower ∷ []) []
+unfoldable pub pairIfBoth : Field → ℕ → ℕ → ℕ → List Pair
+pairIfBoth f spacing leader follower = cond (onApproach f leader && onApproach f follower) (pairOf f spacing leader follower ∷ []) []
 
 -- the pairs of the neighbours in a list, in its order
 abbrev pub pairsIn : Field → ℕ → List ℕ → List Pair
 pairsIn f spacing [] = []
 pairsIn f spacing (n ∷ []) = []
-pairsIn f spacing (n ∷ m ∷ ns) = between f spacing n m ++ pairsIn f spacing (m ∷ ns)
+pairsIn f spacing (n ∷ m ∷ ns) = pairIfBoth f spacing n m ++ pairsIn f spacing (m ∷ ns)
 
 -- ---- the answer
 

@@ -29,7 +29,7 @@ use Rattle.indexed.specs.declared.SteppedIndexed.{SteppedIndexed}
 use Rattle.indexed.specs.Indexed.{withIndex, stepIndexed, playedIndexed, indexedAfter}
 use Rattle.indexed.proofs.StepsIndexed.{field-within, index-own, tick-leaves}
 use Rattle.indexed.proofs.Own.{within-own, step-own, played-own, after-own}
-use Rattle.index_kept.specs.IndexKept.{SaysAsLooked, Kept, emptyIndexed, Demand3Indexed, ExactIndexed}
+use Rattle.index_kept.specs.IndexKept.{SaysAsLooked, IndexKept, emptyIndexed, Demand3Indexed, ExactIndexed}
 
 -- a field within the bounds is so with its own index
 own-within : (f : Field) → T (withinBounds f) → T (withinBoundsIndexed (withIndex f))
@@ -72,7 +72,7 @@ module _ (x : Indexed) (w : T (withinBoundsIndexed x)) (r : Request) where
 
   -- On every field within the bounds, and after every request on one, the index says of every number what a look through the queues says, and
   -- the answer and the field are those without it. A refusal and a tick leave it.
-  pub index-kept : Kept x r
+  pub index-kept : IndexKept x r
   unfolding withIndex
   index-kept =
       record {

@@ -21,7 +21,7 @@ abbrev pub SaysAsLooked : Indexed → Type 0
 SaysAsLooked x = (number : ℕ) → foundIn (x .index) number ≡ placeOf (x .field) number
 
 -- a request on a field within the bounds with its own index
-pub record Kept (x : Indexed) (r : Request) : Type 0 where
+pub record IndexKept (x : Indexed) (r : Request) : Type 0 where
   -- the index says so before the request, and after it
   pub before : SaysAsLooked x
   pub after : SaysAsLooked (stepIndexed x r .after)

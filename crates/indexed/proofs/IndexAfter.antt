@@ -30,8 +30,8 @@ use Rattle.rules.specs.Kinds.{placeBefore, zoneAhead}
 use Rattle.rules.specs.Step.{effectOf, numberOf}
 use Rattle.kept_up.specs.KeptUp.{leadsTo, ledTo, keptUp}
 use Rattle.kept_up.proofs.Leads.{leads-alike}
-use Rattle.kept_up.proofs.Heads.{on-final}
-use Rattle.kept_up.proofs.Own.{kept-up-own}
+use Rattle.kept_up.proofs.HeadOfRequest.{on-final}
+use Rattle.kept_up.proofs.KeptUpOwn.{kept-up-own}
 use Rattle.step.proofs.StepsByTests.{asked}
 use Rattle.indexed.proofs.StepsIndexed.{field-within, index-own}
 
@@ -70,13 +70,15 @@ module _ (x : Indexed) (w : T (withinBoundsIndexed x)) (known : IndexedKnown x) 
 
   -- The index kept up from the one before is that of the field after.
   pub kept-up-after : (r : Request) → numberOf f r ≡ 0 → {at : Place} {ahead across above below fix to there : ℕ} {g : Field} → at ≡ placeBefore f r → ahead ≡ asked f r
-      → to ≡ leadsTo (r .kind) r (at .zone) (f .sequence) ahead across above below fix → across ≡ howMany f (base (opposite (sideOf (at .zone)))) → above ≡ howMany f (sideOf (at .zone)) → below ≡ howMany f (2 + sideOf (at .zone))
+      → to ≡ leadsTo (r .kind) r (at .zone) (f .sequence) ahead across above below fix → across ≡ howMany f (base (opposite (sideOf (at .zone))))
+      → above ≡ howMany f (sideOf (at .zone)) → below ≡ howMany f (2 + sideOf (at .zone))
       → (1 ≤ howMany f 12 → fix ≡ aircraftAt f 12 1 .fix) → there ≡ howMany f to
       → g ≡ effectOf f r → (r .kind ≡ 12 → ⊥) → keptUp (at .zone) (ledTo (r .kind) (r .number) to (there + 1)) (x .index) ≡ indexOf g
   kept-up-after r e {at} {ahead} {across} {above} {below} {fix} {to} {there} {g} p pa q pc pu pb pf h a t =
       let zone = ap (λ (y : Place). y .zone) p in
       let z : ℕ = placeBefore f r .zone in
-      let ledBy : ℕ → ℕ = λ v. leadsTo (r .kind) r v (f .sequence) (zoneAhead f r) (howMany f (base (opposite (sideOf v)))) (howMany f (sideOf v)) (howMany f (2 + sideOf v)) (aircraftAt f 12 1 .fix) in
+      let ledBy : ℕ → ℕ =
+      λ v. leadsTo (r .kind) r v (f .sequence) (zoneAhead f r) (howMany f (base (opposite (sideOf v)))) (howMany f (sideOf v)) (howMany f (2 + sideOf v)) (aircraftAt f 12 1 .fix) in
       let counted : leadsTo (r .kind) r (at .zone) (f .sequence) ahead across above below fix
       ≡ leadsTo (r .kind) r (at .zone) (f .sequence) ahead (howMany f (base (opposite (sideOf (at .zone))))) (howMany f (sideOf (at .zone))) (howMany f (2 + sideOf (at .zone))) fix =
       λ i. leadsTo (r .kind) r (at .zone) (f .sequence) ahead (pc i) (pu i) (pb i) fix in

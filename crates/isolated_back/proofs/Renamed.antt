@@ -20,8 +20,8 @@ use Rattle.rules.specs.declared.Stepped.{Stepped}
 use Rattle.rules.specs.Step.{numberOf, numberAndZeros, stepOf}
 use Rattle.renaming.specs.Renaming.{Renaming, renamedField, renamedRequest, renamedAnswer}
 use Rattle.renaming.proofs.ListsRenamed.{take-map, drop-map}
-use Rattle.renaming.proofs.Bounded.{within-renamed}
-use Rattle.renaming.proofs.Needed.{input-renamed}
+use Rattle.renaming.proofs.BoundsRenamed.{within-renamed}
+use Rattle.renaming.proofs.NeedsRenamed.{input-renamed}
 use Rattle.renaming.proofs.StepsRenamed.{number-renamed, step-renamed}
 use Rattle.indexed.specs.Indexed.{withIndex}
 use Rattle.indexed.proofs.Own.{within-own}
@@ -37,7 +37,7 @@ use Rattle.taken_back.proofs.KeptCounts.{some-kept, keeping-count}
 use Rattle.isolated_back.proofs.KeptAfter.{leftOf, kept-now, kept-few, kept-places, kept-counted, map-behind}
 
 module _ (d : ℕ) {π : ℕ → ℕ} (p : Renaming π) where
-  -- a field with its index: all numbers renamed, and the index put in order again
+  -- the field under the new numbers, beside the index that is made of it
   abbrev pub renamed : Indexed → Indexed
   renamed x = withIndex (renamedField π (x .field))
 
@@ -165,8 +165,7 @@ module _ (d : ℕ) {π : ℕ → ℕ} (p : Renaming π) where
       → Renamed (keeping g (withIndex (renamedField π (stepOf (h .now .field) r .field)))) (keeping h (withIndex (stepOf (h .now .field) r .field)))
   unfolding withIndex
   stepped-renamed g h q r k =
-      let f = h .now .field in
-      keeping-renamed g h q (withIndex (stepOf f r .field)) (record { own = refl; stays = own-numbers-stay d p f r k (q .own-now .stays) })
+      let f = h .now .field in keeping-renamed g h q (withIndex (stepOf f r .field)) (record { own = refl; stays = own-numbers-stay d p f r k (q .own-now .stays) })
 
   -- ---- a call
   pub record Answered (s t : SteppedHistory) : Type 0 where

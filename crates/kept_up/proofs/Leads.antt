@@ -30,7 +30,8 @@ leads-within kind r z s ahead across above below fix =
       (λ e. side 4 (r .side) (omega arith)),
       (λ e. side 2 z (omega arith)),
       (λ e.
-          either-way (Between 1 13) (within 5 6 z) _ _ (λ t. either-way (Between 1 13) (mayApproach s (r .number) ahead && leb across 1) _ _ (λ u. side 8 z (omega arith)) (λ u. side 2 z (omega arith))) (λ t. side 8 z (omega arith))),
+          either-way (Between 1 13) (within 5 6 z) _ _
+          (λ t. either-way (Between 1 13) (mayApproach s (r .number) ahead && leb across 1) _ _ (λ u. side 8 z (omega arith)) (λ u. side 2 z (omega arith))) (λ t. side 8 z (omega arith))),
       (λ e. one 11 (omega arith) (omega arith)),
       (λ e. one 12 (omega arith) (omega arith)),
       (λ e. one 13 (omega arith) (omega arith)),

@@ -1,8 +1,10 @@
-pub mod Written
+pub mod EntriesWritten
 pub mod Entries
 pub mod Moved
 pub mod Queues
-pub mod Heads
+pub mod HeadOfRequest
 pub mod Leads
+pub mod FiveWays
+pub mod HoldsAndEntries
 pub mod Told
-pub mod Own
+pub mod KeptUpOwn

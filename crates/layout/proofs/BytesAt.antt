@@ -46,7 +46,9 @@ pub holds-after : (p xs : List ℕ) → Holds (p ++ xs) (length p) xs
 holds-after p [] = tt
 holds-after p (x ∷ xs) =
     let long : length (p ++ (x ∷ [])) ≡ length p + 1 = length-append p (x ∷ []) in
-    (getD-append-seam p x xs 0, subst (λ (i : ℕ). Holds (p ++ x ∷ xs) i xs) long (subst (λ (l : List ℕ). Holds l (length (p ++ (x ∷ []))) xs) (append-assoc p (x ∷ []) xs) (holds-after (p ++ (x ∷ [])) xs)))
+    let later : Holds (p ++ x ∷ xs) (length (p ++ (x ∷ []))) xs =
+    subst (λ (l : List ℕ). Holds l (length (p ++ (x ∷ []))) xs) (append-assoc p (x ∷ []) xs) (holds-after (p ++ (x ∷ [])) xs) in
+    (getD-append-seam p x xs 0, subst (λ (i : ℕ). Holds (p ++ x ∷ xs) i xs) long later)
 
 -- ---- numbers and miles
 

@@ -1,4 +1,4 @@
--- The start, every request and every step back leave a history that is read back from its bytes. Assumes nothing.
+-- The start, every request and every step back leave a history whose arrays have their places and whose floats are of 64 bits (`HistoryHeld`). Assumes nothing.
 use mathlib.Core.Path.{_≡_, refl, _∙_}
 use mathlib.Core.List.{List, [], _∷_, map}
 use Prim.Native.Nat.{ℕ, _-_}

@@ -23,14 +23,16 @@ use Rattle.field.specs.declared.Zone.{Zone}
 use Rattle.field.specs.declared.Sequence.{Sequence}
 use Rattle.field.specs.declared.Legs.{Legs}
 use Rattle.field.specs.declared.Field.{Field}
-use Rattle.field.specs.Airspace.{right, left, opposite, sideOf, at3000, at2000, lateral, missed, base, intermediate, finalApproach, runway, isFlyingZone, nobody, emptyZone, emptyField, zoneOf, queueOf, orderOf, inZone, legOf, progressInto, entering, onLeg, arrived, arrivedByMiss, withFix}
+use Rattle.field.specs.Airspace.{right, left, opposite, sideOf, at3000, at2000, lateral, missed, base, intermediate, finalApproach, runway, isFlyingZone}
+use Rattle.field.specs.Airspace.{nobody, emptyZone, emptyField, zoneOf, queueOf, orderOf, inZone, legOf, progressInto, entering, onLeg, arrived, arrivedByMiss, withFix}
 use Rattle.edits.specs.Edits.{withoutHead, withTail, appended, before, removed, withZone, withSequence}
 use Rattle.field.proofs.TestLaws.{decided, either-way}
 use Rattle.field.proofs.Shapes.{order-fits}
 use Rattle.questions.specs.Counts.{isEmpty}
 use Rattle.questions.specs.Find.{aircraftAt}
 use Rattle.tick.specs.Tick.{tickedAircraft, tickedZone, tickedFrom, ticked}
-use Rattle.rules.specs.Kinds.{zoneBefore, zoneAhead, headGone, tailPut, moved, descended, outOfSequence, fixTaken, entered, madeRoom, enteredAbove, mayApproach, baseFree, approached, landed, exited, fixAfterMiss, missedApproach, held}
+use Rattle.rules.specs.Kinds.{zoneBefore, zoneAhead, headGone, tailPut, moved, descended, outOfSequence, fixTaken, entered, madeRoom, enteredAbove}
+use Rattle.rules.specs.Kinds.{mayApproach, baseFree, approached, landed, exited, fixAfterMiss, missedApproach, held}
 use Rattle.rules.specs.Step.{effectFor, effectOf, numberOf, stepOf}
 use Rattle.rules.proofs.Checks.{by-kind}
 use Rattle.rules.proofs.StepLaws.{field-accepted, field-refused}

@@ -52,7 +52,8 @@ module _ (b : List ℕ) (small : (i : ℕ) → getD b i 0 < 256) where
       let x = below16 at in
       let low : number16 b at ≡ number32 b at % 65536 = omega (arith, x) in
       let high : number16 b (at + 2) ≡ number32 b at / 65536 = omega (arith, x) in
-      holds-both b at (bytes16 (number32 b at % 65536)) (bytes16 (number32 b at / 65536)) (subst (λ (n : ℕ). Holds b at (bytes16 n)) low (there16 at)) refl (subst (λ (n : ℕ). Holds b (at + 2) (bytes16 n)) high (there16 (at + 2)))
+      holds-both b at (bytes16 (number32 b at % 65536)) (bytes16 (number32 b at / 65536))
+      (subst (λ (n : ℕ). Holds b at (bytes16 n)) low (there16 at)) refl (subst (λ (n : ℕ). Holds b (at + 2) (bytes16 n)) high (there16 (at + 2)))
 
   below32 : (at : ℕ) → number32 b at < 4294967296
   below32 at = let x = below16 at in let y = below16 (at + 2) in omega (arith, x, y)
@@ -62,7 +63,8 @@ module _ (b : List ℕ) (small : (i : ℕ) → getD b i 0 < 256) where
       let x = below32 at in
       let low : number32 b at ≡ number64 b at % 4294967296 = omega (arith, x) in
       let high : number32 b (at + 4) ≡ number64 b at / 4294967296 = omega (arith, x) in
-      holds-both b at (bytes32 (number64 b at % 4294967296)) (bytes32 (number64 b at / 4294967296)) (subst (λ (n : ℕ). Holds b at (bytes32 n)) low (there32 at)) refl (subst (λ (n : ℕ). Holds b (at + 4) (bytes32 n)) high (there32 (at + 4)))
+      holds-both b at (bytes32 (number64 b at % 4294967296)) (bytes32 (number64 b at / 4294967296))
+      (subst (λ (n : ℕ). Holds b at (bytes32 n)) low (there32 at)) refl (subst (λ (n : ℕ). Holds b (at + 4) (bytes32 n)) high (there32 (at + 4)))
 
   below64 : (at : ℕ) → number64 b at < 18446744073709551616
   below64 at = let x = below32 at in let y = below32 (at + 4) in omega (arith, x, y)
@@ -79,11 +81,13 @@ module _ (b : List ℕ) (small : (i : ℕ) → getD b i 0 < 256) where
           let flown = if-false Waiting (Flying (milesOf (number64 b at))) e in
           subst (λ (q : Progress). Holds b at (bytes64 (progressBits q))) (sym flown) (miles-there at (subst (ProgressWith NoNan) flown p))
 
-  each-there : {A : Type 0} (P : A → Type 0) (write : A → List ℕ) (size : ℕ) → ((x : A) → P x → length (write x) ≡ size) → (read : ℕ → A) → ((at : ℕ) → P (read at) → Holds b at (write (read at)))
+  each-there : {A : Type 0} (P : A → Type 0) (write : A → List ℕ) (size : ℕ) → ((x : A) → P x → length (write x) ≡ size)
+      → (read : ℕ → A) → ((at : ℕ) → P (read at) → Holds b at (write (read at)))
       → (n at : ℕ) → Each P (several read size n at) → Holds b at (bytesOfEach write (several read size n at))
   each-there P write size sized read reads zero at ps = tt
   each-there P write size sized read reads (suc n) at ps =
-      holds-both b at (write (read at)) (bytesOfEach write (several read size n (at + size))) (reads at (ps .0)) (sized (read at) (ps .0)) (each-there P write size sized read reads n (at + size) (ps .1))
+      holds-both b at (write (read at)) (bytesOfEach write (several read size n (at + size))) (reads at (ps .0)) (sized (read at) (ps .0))
+      (each-there P write size sized read reads n (at + size) (ps .1))
 
   aircraft-there : (at : ℕ) → AircraftWith NoNan (readAircraft b at) → Holds b at (aircraftBytes (readAircraft b at))
   unfolding readAircraft aircraftBytes
@@ -108,7 +112,8 @@ module _ (b : List ℕ) (small : (i : ℕ) → getD b i 0 < 256) where
       let four = several (readAircraft b) 30 4 at in
       let e = each-size (AircraftWith NoNan) aircraftBytes 30 aircraft-size four (p .aircraft) in
       let before : length (bytesOfEach aircraftBytes four) ≡ 120 = e in
-      holds-both b at (bytesOfEach aircraftBytes four) (bytes64 (number64 b (at + 120))) (each-there (AircraftWith NoNan) aircraftBytes 30 aircraft-size (readAircraft b) aircraft-there 4 at (p .aircraft)) before (there64 (at + 120))
+      holds-both b at (bytesOfEach aircraftBytes four) (bytes64 (number64 b (at + 120)))
+      (each-there (AircraftWith NoNan) aircraftBytes 30 aircraft-size (readAircraft b) aircraft-there 4 at (p .aircraft)) before (there64 (at + 120))
 
   sequence-there : (at : ℕ) → Holds b at (sequenceBytes (readSequence b at))
   unfolding readSequence sequenceBytes

@@ -19,35 +19,42 @@ use Rattle.history.specs.declared.History.{History}
 -- ---- each array has its places, and each float has Q
 
 module _ (Q : Float → Type 0) where
+  -- the miles flown, where it flies
   abbrev pub ProgressWith : Progress → Type 0
   ProgressWith Waiting = Unit {0}
   ProgressWith (Flying miles) = Q miles
 
+  -- the miles flown, waited and of the leg of an aircraft
   pub record AircraftWith (a : Aircraft) : Type 0 where
     pub progress : ProgressWith (a .progress)
     pub waited : Q (a .waited)
     pub leg : Q (a .leg)
 
+  -- a zone has four places, and the floats of each aircraft in them have Q
   pub record ZoneWith (z : Zone) : Type 0 where
     pub places : length (z .aircraft) ≡ 4
     pub aircraft : Each AircraftWith (z .aircraft)
 
+  -- each of the four legs has Q
   pub record LegsWith (legs : Legs) : Type 0 where
     pub missed : Q (legs .missed)
     pub base : Q (legs .base)
     pub intermediate : Q (legs .intermediate)
     pub last : Q (legs .«final_approach»)
 
+  -- a field has thirteen zones and four places of the sequence, and the floats of its zones and legs have Q
   pub record FieldWith (f : Field) : Type 0 where
     pub places : length (f .zones) ≡ 13
     pub zones : Each ZoneWith (f .zones)
     pub numbers : length (f .sequence .numbers) ≡ 4
     pub legs : LegsWith (f .legs)
 
+  -- a field, and an index of five entries
   pub record IndexedWith (x : Indexed) : Type 0 where
     pub field : FieldWith (x .field)
     pub entries : length (x .index .entries) ≡ 5
 
+  -- the field now, and the places of the kept ones with a field in each
   pub record HistoryWith (h : History) : Type 0 where
     pub now : IndexedWith (h .now)
     pub places : length (h .kept) ≡ mostKept

@@ -1,5 +1,5 @@
 -- The miles past the end of a leg, and their sum. On any leg that is finite and above zero the sum stays between 0 and the most (`waited-stays`); on the grid of the 4096ths nothing is rounded
--- (`past-grid`, `waited-grid`). Assumes nothing.
+-- (`beyond-grid`, `waited-grid`). Assumes nothing.
 use mathlib.Core.Path.{_≡_, refl, sym, ap, _∙_, subst}
 use mathlib.Core.Logic.{_⊎_, inl, inr}
 use Prim.Native.Nat.{ℕ, _+_, _-_, _*_, _^_, _≤_, _<_, min}

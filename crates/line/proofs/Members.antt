@@ -18,7 +18,7 @@ use Rattle.field.specs.Lists.{isIn, every, allDifferent}
 use Rattle.questions.specs.Counts.{total}
 use Rattle.questions.specs.Find.{numbersIn}
 use Rattle.order.specs.Model.{Side, count, one}
-use Rattle.field.proofs.TestLaws.{pass, failed, fail, decided, if-true, if-false, same, each-zone}
+use Rattle.field.proofs.TestLaws.{pass, failed, fail, decided, if-true, if-false, same, each-operation}
 use Rattle.line.proofs.Line.{Placed, zonesIn, numbersOf, inside, fieldOf}
 use Rattle.line.proofs.CountedOnLine.{in-line, on-runway, total-same, total-add}
 use Rattle.questions.proofs.FindLaws.{numbers}
@@ -118,9 +118,9 @@ numbers-total f n (z ∷ zs) = let a = count-append (numbers (inZone f z)) (numb
 
 -- a number that belongs to one zone counts once over all
 in-one-zone : (h z : ℕ) → T (within 1 13 z) → T (within 1 12 z) → total (λ w. cond (eqb z w) h 0) operation ≡ h
-in-one-zone h z =
-    each-zone (λ (z : ℕ). T (within 1 12 z) → total (λ w. cond (eqb z w) h 0) operation ≡ h)
-    ((λ u. omega arith), ((λ u. omega arith), ((λ u. omega arith), ((λ u. omega arith), ((λ u. omega arith), ((λ u. omega arith), ((λ u. omega arith), ((λ u. omega arith), ((λ u. omega arith), ((λ u. omega arith), ((λ u. omega arith), ((λ u. omega arith), ((λ u. absurd u), tt))))))))))))) z
+in-one-zone h z t =
+    each-operation (λ (z : ℕ). total (λ w. cond (eqb z w) h 0) operation ≡ h)
+    (omega arith, omega arith, omega arith, omega arith, omega arith, omega arith, omega arith, omega arith, omega arith, omega arith, omega arith, omega arith) z
 
 line-total : (n : ℕ) (line : List Placed) → T (every (within 1 12) (zonesIn line)) → total (λ z. count (numbers (inside z line)) n) operation ≡ count (numbersOf line) n
 line-total n [] t = refl

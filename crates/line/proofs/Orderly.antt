@@ -1,5 +1,4 @@
--- What every field reached from an empty one keeps, said of the order that it stands for; and that such a field is within the bounds.
--- Assumes nothing.
+-- What it means that a line is orderly, and laws of it. Assumes nothing.
 use mathlib.Core.Path.{_≡_, refl, sym, ap, _∙_}
 use mathlib.Core.Logic.{_⊎_, inl, inr}
 use mathlib.Core.Bool.{Bool, true, false, cond, _&&_}

@@ -1,4 +1,4 @@
--- How long a report is: every one fits the caller's buffer. Assumes nothing.
+-- How long the report of a field's list is, with the line of the next fix or a refusal: at most 512 bytes, which fit the caller's buffer. Assumes nothing.
 use mathlib.Core.Path.{_≡_, subst}
 use mathlib.Core.List.{List, [], _∷_, _++_}
 use Prim.Native.Nat.{ℕ, zero, suc, _+_, _*_, _^_, _≤_, _<_}

@@ -1,5 +1,4 @@
--- Every request that passes the input rules and the checks of its kind, on a field that an orderly line stands for, leads to a field that
--- an orderly line stands for. Assumes nothing.
+-- Kinds 3 to 11, a lemma for each: a request that passes its checks leaves a field that an orderly line stands for. Assumes nothing.
 use mathlib.Core.Path.{_≡_, refl, sym, ap, _∙_, subst}
 use mathlib.Core.Logic.{inl, inr}
 use mathlib.Core.Bool.{true, false, cond, not, true≢false, false≢true}

@@ -1,5 +1,4 @@
--- A step on a field that an orderly line stands for: what an accepted request leaves behind, and that neither 10 nor 25 is answered.
--- Assumes nothing.
+-- A step on a field that an orderly line stands for: what an accepted request leaves behind. Assumes nothing.
 use mathlib.Core.Path.{_≡_, refl, sym, ap, _∙_, subst}
 use mathlib.Core.Logic.{inl, inr}
 use mathlib.Core.Bool.{Bool, true, false, not, _&&_, _||_, true≢false, false≢true, Bool·not-not}

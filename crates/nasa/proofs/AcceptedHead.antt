@@ -1,4 +1,4 @@
--- What an accepted request tells of the field: where its aircraft is, and the queue there. Assumes nothing.
+-- What an accepted request of kinds 3 to 11 tells of the field: where its aircraft is, and the queue there. Assumes nothing.
 use mathlib.Core.Path.{_≡_, refl, sym, ap, _∙_, subst}
 use mathlib.Core.Logic.{_≢_, _⊎_, inl, inr}
 use mathlib.Core.Bool.{Bool, true, false, cond, not, _||_, true≢false}

@@ -28,7 +28,7 @@ use Rattle.questions.proofs.NumbersListed.{numbersAt}
 use Rattle.questions.proofs.FindLaws.{numbers, place-there, in-zones, found-exactly, found-there, place-within, own-place}
 use Rattle.laws.proofs.BoundLaws.{within-e, numbers-different}
 use Rattle.line.proofs.CountedOnLine.{not-13}
-use Rattle.nasa.specs.Definitions.{ScaAircraft, ScaZone, base, intermediate, final, onZone, onApproach}
+use Rattle.nasa.specs.Definitions.{ScaAircraft, ScaZone, base, intermediate, final, onZone, scaOnApproach}
 use Rattle.nasa.specs.Rules.{zoneNumber}
 use Rattle.nasa.specs.Stands.{seen, stateOf}
 use Rattle.nasa.proofs.States.{zone-number}
@@ -155,7 +155,7 @@ module _ (f : Field) (t : T (withinBounds f)) where
     zone-low : leaderZone f n ≤ 13
     zone-low = let h = place-within f l in let e = leader-zone in omega arith
 
-    pub approach-seen : onApproach (stateOf f) (suc (before n ns) - 1) ≡ within 9 12 (leaderZone f n)
+    pub approach-seen : scaOnApproach (stateOf f) (suc (before n ns) - 1) ≡ within 9 12 (leaderZone f n)
     approach-seen =
         let a = on-zone (base rightSide) tt in
         let b = on-zone (base leftSide) tt in

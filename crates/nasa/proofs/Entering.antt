@@ -1,4 +1,4 @@
--- Kinds 1 and 2, each of any field with its places: an accepted one is its transition. Assumes nothing.
+-- The state after a new aircraft comes to the end of a zone. Assumes nothing.
 use mathlib.Core.Path.{_≡_, refl, sym, ap, _∙_, subst}
 use mathlib.Core.Logic.{_≢_, _⊎_, inl, inr}
 use mathlib.Core.Bool.{Bool, true, false, cond, _&&_, _||_, true≢false}
@@ -39,8 +39,8 @@ use Rattle.nasa.proofs.DescendFinalTaxi.{each-side}
 use Rattle.nasa.proofs.LeadersBySeq.{one-less}
 use Rattle.nasa.proofs.AskedOfState.{in-sequence}
 use Rattle.nasa.proofs.Sequences.{last-put, full-stays, before-kept, before-last, seen-kept}
-use Rattle.nasa.proofs.Missing.{opposite-named, either-named}
-use Rattle.nasa.proofs.Landed.{operating}
+use Rattle.nasa.proofs.MissTransition.{opposite-named, either-named}
+use Rattle.nasa.proofs.LandExitTransitions.{operating}
 
 -- ---- a new aircraft, whose number nobody has, at the end of zone z
 module _ (f : Field) (t : T (withinBounds f)) (k : Shaped f) (r : Request) (s : Side) (asks : r .side ≡ num s) (z : ScaZone) (inside : T (within 1 12 (zoneNumber z)))

@@ -23,13 +23,13 @@ use Rattle.field.proofs.TestLaws.{passed, if-true, if-false}
 use Rattle.nasa.specs.Definitions.{ScaZone, holding3, holding2, lez, maz, base, intermediate, final, runway, SCA, approachAssigned, virtual}
 use Rattle.nasa.specs.Definitions as model
 use Rattle.nasa.specs.Rules.{Transition, nobodyIn, zoneNumber, mayInitiate, verticalEntry, lateralEntry, holdingPatternDescend, verticalApproachInitiation}
-use Rattle.nasa.specs.Rules.{lateralApproachInitiation, merging, exit, finalSegment, landing, taxing, missedApproach, lowestAvailableAltitude}
+use Rattle.nasa.specs.Rules.{lateralApproachInitiation, merging, exit, finalSegment, landing, taxing, scaMissedApproach, lowestAvailableAltitude}
 use Rattle.nasa.specs.Stands.{sideNamed, seen, stateOf, entryAbove}
 use Rattle.nasa.specs.Enabled.{vertically, laterally, descends, initiates, initiatesLateral, merges, holds, exits, goesFinal}
 use Rattle.nasa.specs.Enabled.{lands, taxies, misses, Entrant, entryRequest, headRequest, mayCome, LeadsTo, Enabled}
 use Rattle.nasa.proofs.AcceptedHead.{first-of, nobody-in}
 use Rattle.nasa.proofs.DescendFinalTaxi.{each-side}
-use Rattle.nasa.proofs.Approaching as asked
+use Rattle.nasa.proofs.ApproachMergeTransitions as asked
 use Rattle.nasa.proofs.StateCounts.{virtual-is, approach-is}
 use Rattle.nasa.proofs.Enabled.{tested, somebody, accepted-by, follows, zone-is, head, moves-on}
 
@@ -138,8 +138,8 @@ module _ (f : Field) (S : Sound f) where
       ∙ tested (model.firstInSequence (seen f 11 (F .x))) _ t (sym (first-of f intermediate (F .x) (F .rest) (F .here) _) ∙ q) in
       follows f S r 9 refl (moves-on f S intermediate F 9 tt refl (input.none-refused ((15, legFlownOut (aircraftAt f 11 1)) ∷ (22, isFirst (f .sequence) (r .number)) ∷ []) (flown, (met, tt)))) t q
 
-  missing : (t : SCA) → missedApproach State ≡ t ∷ [] → LeadsTo f (headRequest f 10 final) t
-  unfolding missedApproach startsFrom
+  missing : (t : SCA) → scaMissedApproach State ≡ t ∷ [] → LeadsTo f (headRequest f 10 final) t
+  unfolding scaMissedApproach startsFrom
   missing t q = let F = somebody f final _ t q in follows f S (headRequest f 10 final) 10 refl (moves-on f S final F 10 tt refl refl) t q
 
   -- ---- lowest available altitude

@@ -3,12 +3,12 @@ pub mod AcceptedHead
 pub mod DescendFinalTaxi
 pub mod LeadersBySeq
 pub mod AskedOfState
-pub mod Approaching
+pub mod ApproachMergeTransitions
 pub mod Holding
 pub mod Sequences
 pub mod Leaving
-pub mod Landed
-pub mod Missing
+pub mod LandExitTransitions
+pub mod MissTransition
 pub mod StateCounts
 pub mod Entering
 pub mod EntryTransitions

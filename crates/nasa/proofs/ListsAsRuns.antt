@@ -6,7 +6,8 @@ use mathlib.Core.List.{List, [], _∷_}
 use Prim.Native.Nat.{ℕ, _≤_}
 use native.Mathlib.Omega.{arith}
 use borrow.Author.Tests.{eqb-true, eqb-false}
-use lib.Dec.{T, eqb}
+use lib.Dec.{T, eqb, leb, le→leb}
+use lib.Ieee.Fits.{and-i}
 use Rattle.request.specs.Input.{within}
 use Rattle.request.specs.declared.Request.{Request}
 use Rattle.request.proofs.ByKind.{kind-known}
@@ -21,7 +22,7 @@ use Rattle.rules.specs.Reason.{Sound}
 use Rattle.order.specs.Model.{Side, rightSide, leftSide}
 use Rattle.rules.proofs.StepLaws.{number-is}
 use Rattle.rules.proofs.Refusals.{passes}
-use Rattle.field.proofs.TestLaws.{decided, if-true, if-false, each-from}
+use Rattle.field.proofs.TestLaws.{decided, if-true, if-false, each-operation}
 use Rattle.reason.proofs.Reason.{empty-sound, reason-kept}
 use Rattle.nasa.specs.Definitions.{ScaAircraft, ScaZone, holding3, holding2, lez, maz, base, intermediate, final, runway, SCA}
 use Rattle.nasa.specs.Rules.{Transition, inTurn, when, forFirst, nobodyIn, withQueue, add, verticalEntry, holdingPatternDescend}
@@ -73,11 +74,20 @@ module _ (f : Field) (r : Request) (c : Reached (stateOf f)) (t : SCA) where
 
   of-kind : (k : ℕ) → 1 ≤ k → k ≤ 12 → Onward k
   of-kind k l h =
-      each-from 1 12 Onward (
+      each-operation Onward (
         entered-on (sideNamed (r .side)) (stateOf f) t c,
-        (onward c (laterally (sideNamed (r .side))), (onward c (descends (sideBefore f r)), (by-approach, (onward c (merges (sideBefore f r)), (onward c goesFinal, (onward c lands, (onward c taxies, (onward c exits, (onward c misses, (onward c (holds (sideBefore f r)), ((λ q. subst Reached (head-same q) c), tt))))))))))),
-      )
-      k l (omega arith)
+        onward c (laterally (sideNamed (r .side))),
+        onward c (descends (sideBefore f r)),
+        by-approach,
+        onward c (merges (sideBefore f r)),
+        onward c goesFinal,
+        onward c lands,
+        onward c taxies,
+        onward c exits,
+        onward c misses,
+        onward c (holds (sideBefore f r)),
+        (λ q. subst Reached (head-same q) c),
+      ) k (and-i (leb 1 k) (leb k 12) (le→leb 1 k l) (le→leb k 12 h))
 
 reached-on : (f : Field) → Sound f → Reached (stateOf f) → (r : Request) → Reached (stateOf (stepOf f r .field))
 reached-on f S c r = elim (decided (eqb (numberOf f r) 0)) [

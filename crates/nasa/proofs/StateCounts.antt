@@ -25,7 +25,7 @@ use Rattle.nasa.specs.Rules.{zoneNumber}
 use Rattle.nasa.specs.Stands.{sideNamed, seen, stateOf}
 use Rattle.nasa.proofs.States.{zone-number}
 use Rattle.nasa.proofs.AcceptedHead.{how-many-in}
-use Rattle.nasa.proofs.Missing.{side-cases}
+use Rattle.nasa.proofs.MissTransition.{side-cases}
 
 -- ---- a queue
 same-fix : (s : Side) (n : ℕ) → T (isSide n) → sameSide (sideNamed n) s ≡ eqb n (num s)

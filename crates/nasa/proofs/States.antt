@@ -169,8 +169,7 @@ module _ (f : Field) (k : Shaped f) (z w : ScaZone) (apart : zoneNumber w ≢ zo
           ∙ ap (λ (l : List ScaAircraft). l ++ (seen f zn x ∷ [])) (sym (if-false (map (seen f zn) rest) (map (seen f wn) (inZone f wn)) (ne-eqb wn zn apart)))
 
       queues : (y : ScaZone) → stateOf (moved f zn wn) .queue y ≡ add (withQueue S z (map (seen f zn) rest)) w (seen f zn x) .queue y
-      queues y =
-          by-zone (zoneNumber y) zn wn (cond (eqb wn zn) (map (seen f zn) rest) (map (seen f wn) (inZone f wn)) ++ (seen f zn x ∷ []))
+      queues y = by-zone (zoneNumber y) zn wn (cond (eqb wn zn) (map (seen f zn) rest) (map (seen f wn) (inZone f wn)) ++ (seen f zn x ∷ []))
           (map (seen f zn) rest) (λ n. map (seen f n) (inZone f n)) (map (seen f (zoneNumber y)) (inZone (moved f zn wn) (zoneNumber y)))
           (λ e. ap (λ (n : ℕ). map (seen f n) (inZone (moved f zn wn) n)) e ∙ there)
           (λ e h. ap (λ (n : ℕ). map (seen f n) (inZone (moved f zn wn) n)) e ∙ ap (map (seen f zn)) (put-here f k zn wn zb wb apart x rest here a room))

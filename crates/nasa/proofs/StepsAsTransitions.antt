@@ -5,7 +5,8 @@ use mathlib.Core.Bool.{cond}
 use mathlib.Core.List.{List, [], _∷_, map}
 use Prim.Native.Nat.{ℕ, suc}
 use native.Mathlib.Omega.{arith}
-use lib.Dec.{T, eqb}
+use lib.Dec.{T, eqb, leb, le→leb}
+use lib.Ieee.Fits.{and-i}
 use Rattle.request.specs.declared.Request.{Request}
 use Rattle.request.proofs.ByKind.{kind-known}
 use Rattle.field.specs.declared.Aircraft as field
@@ -18,7 +19,7 @@ use Rattle.rules.specs.Reason.{hasPlaces}
 use Rattle.rules.proofs.Checks.{effect-at}
 use Rattle.rules.proofs.StepLaws.{number-is, field-refused}
 use Rattle.rules.proofs.Refusals.{passes}
-use Rattle.field.proofs.TestLaws.{each-from}
+use Rattle.field.proofs.TestLaws.{each-operation}
 use Rattle.laws.proofs.TickLaws.{tickedAt, number-kept, fix-kept, queue-ticked}
 use Rattle.nasa.specs.Definitions.{ScaAircraft}
 use Rattle.nasa.specs.Rules.{zoneNumber}
@@ -26,10 +27,10 @@ use Rattle.nasa.specs.Stands.{seen, stateOf, Is}
 use Rattle.nasa.specs.Steps.{stays, transitionFor, transitionOf, StepsAs}
 use Rattle.nasa.proofs.States.{same-state, asSeen}
 use Rattle.nasa.proofs.DescendFinalTaxi.{leads, descend-is, final-is, taxi-is}
-use Rattle.nasa.proofs.Approaching.{approach-is, merge-is}
+use Rattle.nasa.proofs.ApproachMergeTransitions.{approach-is, merge-is}
 use Rattle.nasa.proofs.Holding.{hold-is}
-use Rattle.nasa.proofs.Landed.{land-is, exit-is}
-use Rattle.nasa.proofs.Missing.{miss-is}
+use Rattle.nasa.proofs.LandExitTransitions.{land-is, exit-is}
+use Rattle.nasa.proofs.MissTransition.{miss-is}
 use Rattle.nasa.proofs.EntryTransitions.{entry-is, lateral-is}
 
 -- ---- a tick
@@ -55,9 +56,20 @@ tick-is f r k e = leads f r stays (stateOf f) (ticked f (r .amount)) e (effect-a
 of-kind : (f : Field) (h : T (hasPlaces f)) (r : Request) → numberOf f r ≡ 0 → Is f r (transitionOf f r)
 of-kind f h r e =
     let known = kind-known r (passes f r e .input) in
-    each-from 1 12 (λ k. r .kind ≡ k → Is f r (transitionOf f r))
-    (at 1 (entry-is f h r), (at 2 (lateral-is f h r), (at 3 (descend-is f h r), (at 4 (approach-is f h r), (at 5 (merge-is f h r), (at 6 (final-is f h r), (at 7 (land-is f h r), (at 8 (taxi-is f h r), (at 9 (exit-is f h r), (at 10 (miss-is f h r), (at 11 (hold-is f h r), (at 12 (tick-is f r), tt))))))))))))
-    (r .kind) (known .low) (let l = known .high in omega arith) refl
+    each-operation (λ k. r .kind ≡ k → Is f r (transitionOf f r)) (
+      at 1 (entry-is f h r),
+      at 2 (lateral-is f h r),
+      at 3 (descend-is f h r),
+      at 4 (approach-is f h r),
+      at 5 (merge-is f h r),
+      at 6 (final-is f h r),
+      at 7 (land-is f h r),
+      at 8 (taxi-is f h r),
+      at 9 (exit-is f h r),
+      at 10 (miss-is f h r),
+      at 11 (hold-is f h r),
+      at 12 (tick-is f r),
+    ) (r .kind) (and-i (leb 1 (r .kind)) (leb (r .kind) 12) (le→leb 1 (r .kind) (known .low)) (le→leb (r .kind) 12 (known .high))) refl
   where
     at : (k : ℕ) → (r .kind ≡ k → numberOf f r ≡ 0 → Is f r (transitionFor k f r)) → r .kind ≡ k → Is f r (transitionOf f r)
     at k p q = subst (λ (j : ℕ). Is f r (transitionFor j f r)) (sym q) (p q e)

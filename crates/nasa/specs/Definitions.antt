@@ -77,8 +77,8 @@ decrease (a ∷ rest) = record { seq = leader a; mahf = a .mahf } ∷ decrease r
 -- ---- questions of the state
 
 -- whether an aircraft with this sequence number is on the approach
-abbrev pub onApproach : SCA → ℕ → Bool
-onApproach s n =
+abbrev pub scaOnApproach : SCA → ℕ → Bool
+scaOnApproach s n =
     onZone (s .queue (base rightSide)) n || onZone (s .queue (base leftSide)) n || onZone (s .queue intermediate) n || onZone (s .queue final) n
 
 -- whether an aircraft on the approach is assigned to a side
@@ -92,8 +92,7 @@ actual s side = length (s .queue (holding3 side)) + length (s .queue (holding2 s
 
 -- the virtual number of a fix: those at the side, and those elsewhere that are assigned to it
 unfoldable pub virtual : SCA → Side → ℕ
-virtual s side =
-    actual s side
+virtual s side = actual s side
     + assigned (s .queue (holding3 (opp side))) side
     + assigned (s .queue (holding2 (opp side))) side
     + assigned (s .queue (lez (opp side))) side

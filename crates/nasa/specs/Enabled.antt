@@ -14,7 +14,7 @@ use Rattle.rules.specs.Step.{stepOf}
 use Rattle.order.specs.Model.{Side, num}
 use Rattle.nasa.specs.Definitions.{ScaZone, holding3, holding2, lez, maz, base, intermediate, final, runway, SCA}
 use Rattle.nasa.specs.Rules.{Transition, zoneNumber, verticalEntry, lateralEntry, holdingPatternDescend, verticalApproachInitiation, lateralApproachInitiation}
-use Rattle.nasa.specs.Rules.{merging, exit, finalSegment, landing, taxing, missedApproach, lowestAvailableAltitude}
+use Rattle.nasa.specs.Rules.{merging, exit, finalSegment, landing, taxing, scaMissedApproach, lowestAvailableAltitude}
 use Rattle.nasa.specs.Stands.{stateOf}
 
 -- ---- the transitions by name
@@ -37,7 +37,7 @@ transition exits = exit
 transition goesFinal = finalSegment
 transition lands = landing
 transition taxies = taxing
-transition misses = missedApproach
+transition misses = scaMissedApproach
 transition (holds s) = lowestAvailableAltitude s
 
 -- ---- the request for each, on a field

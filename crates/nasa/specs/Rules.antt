@@ -7,7 +7,7 @@ use lib.Dec.{eqb, leb, ltb}
 use lib.ListN.{length}
 use Rattle.order.specs.Model.{Side, rightSide, leftSide, opp}
 use Rattle.nasa.specs.Definitions.{ScaAircraft, ScaZone, holding3, holding2, lez, maz, base, intermediate, final, runway, SCA}
-use Rattle.nasa.specs.Definitions.{first, firstInSequence, leader, next, onZone, decrease, onApproach, approachAssigned, virtual, aircraft, reassign}
+use Rattle.nasa.specs.Definitions.{first, firstInSequence, leader, next, onZone, decrease, scaOnApproach, approachAssigned, virtual, aircraft, reassign}
 
 -- ---- what transitions are made of
 
@@ -95,7 +95,7 @@ holdingPatternDescend side s =
 
 -- both approach initiations: at most one on the opposite base, and the first in sequence or its leader on the approach
 abbrev pub mayInitiate : SCA → Side → ScaAircraft → Bool
-mayInitiate s side a = leb (length (s .queue (base (opp side)))) 1 && (firstInSequence a || onApproach s (leader a))
+mayInitiate s side a = leb (length (s .queue (base (opp side)))) 1 && (firstInSequence a || scaOnApproach s (leader a))
 
 -- (3.2.4) VerticalApproachInitiation
 unfoldable pub verticalApproachInitiation : Side → Transition
@@ -135,8 +135,8 @@ unfoldable pub taxing : Transition
 taxing s = forFirst (s .queue runway) (λ a rest. when (firstInSequence a) (withQueue s runway rest))
 
 -- (3.2.11) MissedApproach: to the zone of its old fix, with its new sequence number and fix
-unfoldable pub missedApproach : Transition
-missedApproach s =
+unfoldable pub scaMissedApproach : Transition
+scaMissedApproach s =
     forFirst (s .queue final) (λ a rest.
     let again = reassign s a in
     withNext (decreased (λ z. sameZone z runway) (add (withQueue s final rest) (maz (a .mahf)) again)) (opp (again .mahf)) (s .nextseq) ∷ [])

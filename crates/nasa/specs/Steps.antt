@@ -5,7 +5,7 @@ use Prim.Native.Nat.{ℕ}
 use Rattle.request.specs.declared.Request.{Request}
 use Rattle.field.specs.declared.Field.{Field}
 use Rattle.rules.specs.Step.{byKind, stepOf}
-use Rattle.nasa.specs.Rules.{Transition, lateralEntry, holdingPatternDescend, merging, exit, finalSegment, landing, taxing, missedApproach, lowestAvailableAltitude}
+use Rattle.nasa.specs.Rules.{Transition, lateralEntry, holdingPatternDescend, merging, exit, finalSegment, landing, taxing, scaMissedApproach, lowestAvailableAltitude}
 use Rattle.nasa.specs.Stands.{sideNamed, stateOf, sideBefore, entryAbove, approachInitiation, Is}
 
 -- the same state again
@@ -25,7 +25,7 @@ transitionFor kind f r =
     landing
     taxing
     exit
-    missedApproach
+    scaMissedApproach
     (lowestAvailableAltitude (sideBefore f r))
     stays
 

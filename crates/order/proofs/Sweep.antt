@@ -12,7 +12,7 @@ use lib.ListN.{length}
 use lib.Ieee.Fits.{and-l, and-r}
 use Rattle.request.specs.Input.{within}
 use Rattle.field.specs.Lists.{every}
-use Rattle.order.specs.Model.{Side, rightSide, leftSide, opp, number, sameArea, mayLead, mayHead, chain, roomInOrder, okay}
+use Rattle.order.specs.Model.{Side, rightSide, leftSide, opp, passCount, sameArea, mayLead, mayHead, chain, roomInOrder, okay}
 
 -- the test of every number below n
 abbrev below : ℕ → (ℕ → Bool) → Bool
@@ -42,7 +42,7 @@ head-below : (f : Side) (z : ℕ) (zs : List ℕ) → T (mayHead f z zs) → z <
 head-below f z zs t =
     let a = within 1 12 z in
     let b = every (mayLead f z) zs in
-    let at-most-12 = leb→le z 12 (and-r (leb 1 z) (leb z 12) (and-l a b (and-l (a && b) (leb (number (sameArea z) zs) 1) t))) in
+    let at-most-12 = leb→le z 12 (and-r (leb 1 z) (leb z 12) (and-l a b (and-l (a && b) (leb (passCount (sameArea z) zs) 1) t))) in
     omega arith
 
 module _ (test : Side → List ℕ → Bool) where

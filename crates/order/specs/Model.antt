@@ -133,9 +133,9 @@ abbrev pub height : ℕ → ℕ
 height z = one (leb z 2) + 2 * one (leb 7 z)
 
 -- how many pass the test
-abbrev pub number : (ℕ → Bool) → List ℕ → ℕ
-number p [] = 0
-number p (z ∷ zs) = one (p z) + number p zs
+abbrev pub passCount : (ℕ → Bool) → List ℕ → ℕ
+passCount p [] = 0
+passCount p (z ∷ zs) = one (p z) + passCount p zs
 
 -- one in zone z with fix f may be ahead of one in zone w: the approach does not run ahead of itself; nobody else is in a zone of 1 to 6;
 -- heights in an area do not fall, and a lateral zone has its area alone; and nobody ahead of a lateral zone has that side as fix
@@ -148,7 +148,7 @@ mayLead f z w =
 
 -- one in zone z with fix f at the head of zs: those behind may follow it, and at most one of them is in its area
 abbrev pub mayHead : Side → ℕ → List ℕ → Bool
-mayHead f z zs = within 1 12 z && every (mayLead f z) zs && leb (number (sameArea z) zs) 1
+mayHead f z zs = within 1 12 z && every (mayLead f z) zs && leb (passCount (sameArea z) zs) 1
 
 -- mayHead holds of each one and those behind it
 abbrev pub chain : Side → List ℕ → Bool
@@ -159,7 +159,7 @@ chain f (z ∷ zs) = mayHead f z zs && chain (opp f) zs
 -- at most
 abbrev pub roomInOrder : ℕ → Side → List ℕ → Bool
 roomInOrder k f [] = true
-roomInOrder k f (z ∷ zs) = leb (number (ofArea f) zs + k / 2) 1 && roomInOrder (suc k) (opp f) zs
+roomInOrder k f (z ∷ zs) = leb (passCount (ofArea f) zs + k / 2) 1 && roomInOrder (suc k) (opp f) zs
 
 -- the invariant of the landing order
 unfoldable pub okay : Side → List ℕ → Bool

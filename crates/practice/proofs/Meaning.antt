@@ -8,7 +8,6 @@ use native.Mathlib.Omega.{arith}
 use lib.Dec.{eqb}
 use lib.ListN.{length, length-drop}
 use borrow.Author.Tests.{eqb-true, eqb-false}
-use borrow.Rule.Slice.PartAt.{part-to-end}
 use Rattle.limits.specs.Limits.{mostRequests}
 use Rattle.request.specs.declared.Request.{Request}
 use Rattle.practice.specs.declared.FileLegs.{FileLegs}
@@ -25,8 +24,6 @@ pub record Held (file : List ℕ) (legs : FileLegs) (requests : List Request) : 
   pub long : 34 ≤ length file
   pub legs-read : fileLegs file ≡ legs
   pub legs-legal : legsAllowed legs ≡ true
-  pub section-one : sectionBytes file 1 ≡ legsBody file
-  pub section-two : sectionBytes file 2 ≡ requestsBody file
   pub few : length requests ≤ mostRequests
   pub how-many : length (requestsOf (requestsBody file)) ≡ length requests
   pub reading : (i : ℕ) → requestAt (requestsBody file) i ≡ readingAt requests i
@@ -60,8 +57,6 @@ module _ (file : List ℕ) where
         long = long-enough file (a .contents);
         legs-read = ap legsOf (section-by file 1 t) ∙ l;
         legs-legal = sym (ap legsAllowed l) ∙ a .legs;
-        section-one = section-by file 1 t;
-        section-two = section-by file 2 t ∙ part-to-end file 34;
         few = omega arith;
         how-many = ap length r;
         reading = λ i. ap (λ (qs : List Request). readingAt qs i) r;

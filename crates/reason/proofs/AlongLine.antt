@@ -18,10 +18,10 @@ use Rattle.field.specs.Airspace.{sideOf, area, inZone}
 use Rattle.field.specs.Lists.{isIn, every, allDifferent}
 use Rattle.questions.specs.Find.{placeOf, fixOf}
 use Rattle.request.specs.Input.{within}
-use Rattle.order.specs.Model.{Side, rightSide, leftSide, opp, num, sameArea, ofArea, isLateral, one, rank, height, number, mayLead, mayHead, chain, okay}
+use Rattle.order.specs.Model.{Side, rightSide, leftSide, opp, num, sameArea, ofArea, isLateral, one, rank, height, passCount, mayLead, mayHead, chain, okay}
 use Rattle.order.specs.Model as model
 use Rattle.order.proofs.Facts.{okay-zones}
-use Rattle.rules.specs.Reason.{Listed, listed, along, those, isInZone, isInArea, hasFix, neverFalls, eachAmong}
+use Rattle.rules.specs.Reason.{Listed, listed, sequenceListed, those, isInZone, isInArea, hasFix, neverFalls, eachAmong}
 use Rattle.rules.specs.Reason.{fromLanding, approachOrder, heightIn, areaOrder, hasRoom, roomToMiss, lateralFree, lateralOrder, Reason}
 use Rattle.field.proofs.TestLaws.{each-operation, pass, failed, fail, decided, or-left, or-right}
 use Rattle.line.proofs.Line.{Placed, zonesIn, numbersOf, inside, fieldOf, order-for}
@@ -51,12 +51,12 @@ module _ (f : Side) (line : List Placed) (runway : List Aircraft) (legs : Legs) 
       let h : listed F n ≡ asListed x = λ i. record { number = n; zone = z i; fix = s i } in
       ap (λ (y : Listed). y ∷ map (listed F) (numbersOf b)) h ∙ ap (λ (l : List Listed). asListed x ∷ l) (seen-from (a ++ (x ∷ [])) b (e ∙ sym (append-assoc a (x ∷ []) b)))
 
-  pub along-line : along F ≡ map asListed line
-  unfolding along fieldOf
+  pub along-line : sequenceListed F ≡ map asListed line
+  unfolding sequenceListed fieldOf
   along-line = ap (map (listed F)) (order-for (numbersOf line)) ∙ seen-from [] line refl
 
   -- ---- the queues
-  pub queues-line : (z : ℕ) → T (within 1 12 z) → map (λ (a : Aircraft). a .number) (inZone F z) ≡ map (λ (a : Listed). a .number) (those (isInZone z) (along F))
+  pub queues-line : (z : ℕ) → T (within 1 12 z) → map (λ (a : Aircraft). a .number) (inZone F z) ≡ map (λ (a : Listed). a .number) (those (isInZone z) (sequenceListed F))
   queues-line z t =
       ap (map (λ (a : Aircraft). a .number)) (in-line f line runway legs z t)
       ∙ go line
@@ -192,7 +192,7 @@ link : (f : Side) (z : ℕ) (zs : List ℕ) → T (chain f (z ∷ zs)) → Link 
 link f z zs t =
     let b = within 1 12 z in
     let m = every (mayLead f z) zs in
-    let n = leb (number (sameArea z) zs) 1 in
+    let n = leb (passCount (sameArea z) zs) 1 in
     let h = and-l (b && m) n (and-l (mayHead f z zs) (chain (opp f) zs) t) in
     record { here = and-l b m h; leading = and-r b m h; rest = and-r (mayHead f z zs) (chain (opp f) zs) t }
 
@@ -250,15 +250,15 @@ area-line s f (e ∷ l) t = go (decided (isIn (e .zone) (area (num s)))) (area-l
     go (inr b) h = subst (λ (c : Bool). T (neverFalls (map g (cond c (asListed e ∷ those p (map asListed l)) (those p (map asListed l)))))) (sym b) h
 
 -- ---- 3
-area-number : (s : Side) (l : List Placed) → T (every (within 1 12) (zonesIn l)) → length (those (isInArea (num s)) (map asListed l)) ≡ number (ofArea s) (zonesIn l)
+area-number : (s : Side) (l : List Placed) → T (every (within 1 12) (zonesIn l)) → length (those (isInArea (num s)) (map asListed l)) ≡ passCount (ofArea s) (zonesIn l)
 area-number s [] t = refl
 area-number s (e ∷ l) t =
     ap (λ (b : Bool). length (cond b (asListed e ∷ those (isInArea (num s)) (map asListed l)) (those (isInArea (num s)) (map asListed l))))
     (area-is s (e .zone) (and-l (within 1 12 (e .zone)) (every (within 1 12) (zonesIn l)) t))
     ∙ go (ofArea s (e .zone)) (area-number s l (and-r (within 1 12 (e .zone)) (every (within 1 12) (zonesIn l)) t))
   where
-    go : (b : Bool) → length (those (isInArea (num s)) (map asListed l)) ≡ number (ofArea s) (zonesIn l)
-        → length (cond b (asListed e ∷ those (isInArea (num s)) (map asListed l)) (those (isInArea (num s)) (map asListed l))) ≡ one b + number (ofArea s) (zonesIn l)
+    go : (b : Bool) → length (those (isInArea (num s)) (map asListed l)) ≡ passCount (ofArea s) (zonesIn l)
+        → length (cond b (asListed e ∷ those (isInArea (num s)) (map asListed l)) (those (isInArea (num s)) (map asListed l))) ≡ one b + passCount (ofArea s) (zonesIn l)
     go true h = omega arith
     go false h = omega arith
 
@@ -290,7 +290,7 @@ pub room-same : (k : ℕ) (f : Side) (ahead : List Listed) (l : List Placed) →
 room-same k f ahead [] p q a t = refl
 room-same k f ahead (e ∷ l) p q a t =
     let ins = and-r (within 1 12 (e .zone)) (every (within 1 12) (zonesIn l)) t in
-    let n = number (ofArea f) (zonesIn l) in
+    let n = passCount (ofArea f) (zonesIn l) in
     let c = area-number f l ins in
     let both : length (those (isInArea (num f)) (map asListed l)) + length (those (hasFix (num f)) ahead) ≡ n + k / 2 = omega arith in
     let room : hasRoom ahead (asListed e) (map asListed l) ≡ leb (n + k / 2) 1 =

@@ -12,7 +12,7 @@ use borrow.Author.Tests.{eqb-true, leb-false, eq-eqb, le-ltb}
 use Rattle.request.specs.Input.{within}
 use Rattle.field.specs.Airspace.{sideOf, area, lateral}
 use Rattle.field.specs.Lists.{isIn, every}
-use Rattle.order.specs.Model.{Side, rightSide, leftSide, opp, num, count, sameArea, ofArea, isLateral, one, rank, height, number, mayLead, mayHead, chain}
+use Rattle.order.specs.Model.{Side, rightSide, leftSide, opp, num, count, sameArea, ofArea, isLateral, one, rank, height, passCount, mayLead, mayHead, chain}
 use Rattle.rules.specs.Reason.{Listed, those, isInArea, hasFix, neverFalls, eachAmong, fromLanding, heightIn, lateralFree}
 use Rattle.field.proofs.TestLaws.{each-operation, passed, pass, fail, decided, if-true, same}
 use Rattle.line.proofs.Line.{Placed, zonesIn}
@@ -41,25 +41,25 @@ pub count-in : (zs : List ℕ) (w : ℕ) → isIn w zs ≡ true → 1 ≤ count 
 count-in zs w i =
     elim (decided (leb 1 (count zs w))) [ inl e ↦ leb→le 1 (count zs w) (pass e) | inr e ↦ absurd (true≢false (sym i ∙ absent-count zs w (let k = leb-false 1 (count zs w) e in omega arith))) ]
 
-number-in : (p : ℕ → Bool) (zs : List ℕ) (w : ℕ) → isIn w zs ≡ true → T (p w) → 1 ≤ number p zs
+number-in : (p : ℕ → Bool) (zs : List ℕ) (w : ℕ) → isIn w zs ≡ true → T (p w) → 1 ≤ passCount p zs
 number-in p [] w i t = absurd (false≢true i)
 number-in p (z ∷ zs) w i t = go (decided (eqb z w)) (λ j. number-in p zs w j t)
   where
-    go : (eqb z w ≡ true) ⊎ (eqb z w ≡ false) → (isIn w zs ≡ true → 1 ≤ number p zs) → 1 ≤ one (p z) + number p zs
+    go : (eqb z w ≡ true) ⊎ (eqb z w ≡ false) → (isIn w zs ≡ true → 1 ≤ passCount p zs) → 1 ≤ one (p z) + passCount p zs
     go (inl b) later = let e : one (p z) ≡ 1 = ap (λ (y : ℕ). one (p y)) (eqb-true z w b) ∙ if-true {b = p w} 1 0 (passed t) in omega arith
     go (inr b) later = let h = later (sym (ap (λ (c : Bool). c || isIn w zs) b) ∙ i) in omega arith
 
-number-more : (p q : ℕ → Bool) → ((w : ℕ) → T (p w) → T (q w)) → (zs : List ℕ) → number p zs ≤ number q zs
+number-more : (p q : ℕ → Bool) → ((w : ℕ) → T (p w) → T (q w)) → (zs : List ℕ) → passCount p zs ≤ passCount q zs
 number-more p q h [] = omega arith
 number-more p q h (z ∷ zs) = go (p z) (q z) (h z) (number-more p q h zs)
   where
-    go : (a b : Bool) → (T a → T b) → number p zs ≤ number q zs → one a + number p zs ≤ one b + number q zs
+    go : (a b : Bool) → (T a → T b) → passCount p zs ≤ passCount q zs → one a + passCount p zs ≤ one b + passCount q zs
     go true true k m = omega arith
     go true false k m = absurd (k tt)
     go false true k m = omega arith
     go false false k m = omega arith
 
-number-none : (zs : List ℕ) → number (λ w. false) zs ≡ 0
+number-none : (zs : List ℕ) → passCount (λ w. false) zs ≡ 0
 number-none [] = refl
 number-none (z ∷ zs) = let e = number-none zs in omega arith
 
@@ -180,8 +180,8 @@ pub record Facts (f : Side) (ahead : List Listed) (l : List Placed) : Type 0 whe
   pub alternates : Alternates f l
   pub ins : T (every (within 1 12) (zonesIn l))
   pub singles : (z : ℕ) → T (within 1 6 z) → count (zonesIn l) z ≤ 1
-  pub crowd : (s : Side) → number (ofArea s) (zonesIn l) ≤ 2
-  pub lateral-alone : (s : Side) → 1 ≤ count (zonesIn l) (lateral (num s)) → number (ofArea s) (zonesIn l) ≤ 1
+  pub crowd : (s : Side) → passCount (ofArea s) (zonesIn l) ≤ 2
+  pub lateral-alone : (s : Side) → 1 ≤ count (zonesIn l) (lateral (num s)) → passCount (ofArea s) (zonesIn l) ≤ 1
 
 -- nobody ahead of a lateral zone has its side as fix
 lateral-behind : (x : Listed) (pre ahead : List Listed) (l : List Placed) → T (eachAmong lateralFree (pre ++ x ∷ ahead) (map asListed l)) → (w : ℕ)
@@ -300,7 +300,7 @@ module _ (f : Side) (ahead : List Listed) (e : Placed) (l : List Placed) (k : Fa
           omega arith
 
       -- neither is in the lateral zone
-      two-there : 2 ≤ number (ofArea s) (z ∷ zs)
+      two-there : 2 ≤ passCount (ofArea s) (z ∷ zs)
       two-there = let a = number-in (ofArea s) zs w i v in let o : one (ofArea s z) ≡ 1 = if-true {b = ofArea s z} 1 0 (passed u) in omega arith
 
       no-lateral : (y : ℕ) → 1 ≤ count (z ∷ zs) y → T (within 1 12 y) → T (ofArea s y) → isLateral y ≡ false
@@ -352,7 +352,7 @@ module _ (f : Side) (ahead : List Listed) (e : Placed) (l : List Placed) (k : Fa
             lateral-other f w w-in t (ap (λ (n : ℕ). eqb n (sideOf w)) (sym (k .alternates .0)) ∙ other))
 
   -- at most one behind z is in its area
-  pub few-behind : number (sameArea z) zs ≤ 1
+  pub few-behind : passCount (sameArea z) zs ≤ 1
   few-behind = elim (decided (leb z 8)) [
     | inl t ↦
         let side = area-side z z-in (pass t) in
@@ -373,7 +373,7 @@ chain-from f ahead (e ∷ l) k =
     let z = e .zone in
     let zs = zonesIn l in
     and-i (mayHead f z zs) (chain (opp f) zs)
-    (and-i (within 1 12 z && every (mayLead f z) zs) (leb (number (sameArea z) zs) 1)
+    (and-i (within 1 12 z && every (mayLead f z) zs) (leb (passCount (sameArea z) zs) 1)
     (and-i (within 1 12 z) (every (mayLead f z) zs) (and-l (within 1 12 z) (every (within 1 12) zs) (k .ins)) (all-in (mayLead f z) zs (may-lead f ahead e l k)))
-    (le→leb (number (sameArea z) zs) 1 (few-behind f ahead e l k)))
+    (le→leb (passCount (sameArea z) zs) 1 (few-behind f ahead e l k)))
     (chain-from (opp f) (asListed e ∷ ahead) l (facts-behind f ahead e l k))

@@ -1,4 +1,4 @@
--- The reason, with the bounds, is kept by every request on any field, and 25 is not answered there. Assumes nothing.
+-- A field with its places, the bounds and the reason, whose places past the lengths are as an empty field's, is one that an orderly line stands for. Assumes nothing.
 use mathlib.Core.Path.{_≡_, refl, sym, ap, _∙_, subst}
 use mathlib.Core.Logic.{inl, inr}
 use mathlib.Core.Bool.{Bool, true, false, cond, _&&_, _||_}
@@ -20,9 +20,9 @@ use Rattle.questions.specs.Find.{placeOf, fixOf, numbersIn}
 use Rattle.bounds.specs.Bounds.{boundA, boundB, lateralRule, boundC, finalFirst, zoneKept, sequenceKept, boundE, alternate, boundF}
 use Rattle.fits.specs.Fits.{fitsZone, legalLegs, boundG}
 use Rattle.numbers.specs.Numbers.{numbersDiffer, sequenceExact}
-use Rattle.order.specs.Model.{Side, rightSide, leftSide, opp, num, nextFix, count, one, ofArea, number, chain, okay}
+use Rattle.order.specs.Model.{Side, rightSide, leftSide, opp, num, nextFix, count, one, ofArea, passCount, chain, okay}
 use Rattle.order.specs.Model as model
-use Rattle.rules.specs.Reason.{Listed, along, those, isInArea, neverFalls, eachAmong, fromLanding, approachOrder, heightIn}
+use Rattle.rules.specs.Reason.{Listed, sequenceListed, those, isInArea, neverFalls, eachAmong, fromLanding, approachOrder, heightIn}
 use Rattle.rules.specs.Reason.{areaOrder, hasRoom, roomToMiss, lateralFree, lateralOrder, Reason, hasPlaces, Sound}
 use Rattle.field.proofs.NumberLists.{every-listed}
 use Rattle.laws.proofs.BoundLaws.{Within, within-each}
@@ -35,7 +35,7 @@ use Rattle.line.proofs.Leaders.{nonzero}
 use Rattle.line.proofs.Members.{numbers-total, count-append, count-absent, different-count, count-different, nonzero-count, count-nonzero}
 use Rattle.line.proofs.Orderly.{Orderly, opposite-num}
 use Rattle.reason.proofs.AlongLine.{asListed, room-same}
-use Rattle.reason.proofs.Stands.{sequence-is, lookedUp, lineOf, found-one, line-all, line-numbers, line-seen, queue-is, stands-for}
+use Rattle.reason.proofs.LineOfField.{sequence-is, lookedUp, lineOf, found-one, line-all, line-numbers, line-seen, queue-is, stands-for}
 use Rattle.reason.proofs.FromReason.{count-in, Facts, chain-from}
 
 -- ---- sides
@@ -47,7 +47,7 @@ side-known n t = elim (decided (eqb n 1)) [
 ]
 
 -- the aircraft of an area, one by one, are those of its four zones
-area-total : (s : Side) (zs : List ℕ) → T (every (within 1 12) zs) → number (ofArea s) zs ≡ total (count zs) (area (num s))
+area-total : (s : Side) (zs : List ℕ) → T (every (within 1 12) zs) → passCount (ofArea s) zs ≡ total (count zs) (area (num s))
 area-total s [] t = refl
 area-total s (z ∷ zs) t =
     let a = one-zone s z (and-l (within 1 12 z) (every (within 1 12) zs) t) in
@@ -251,11 +251,11 @@ module _ (f : Field) (h : Places f) (s : Within f) (p : Parts f) (c : Reason f) 
   ins : T (every (within 1 12) (zonesIn line))
   ins = zones-in ns (p .named)
 
-  area-of : (d : Side) → number (ofArea d) (zonesIn line) ≡ inArea f (num d)
+  area-of : (d : Side) → passCount (ofArea d) (zonesIn line) ≡ inArea f (num d)
   unfolding inArea
   area-of d = area-total d (zonesIn line) ins ∙ sym (total-same (howMany f) (count (zonesIn line)) (area (num d)) (side-area d) counts)
 
-  crowd : (d : Side) → number (ofArea d) (zonesIn line) ≤ 2
+  crowd : (d : Side) → passCount (ofArea d) (zonesIn line) ≤ 2
   unfolding boundB
   crowd d = let e = area-of d in let k = two d in omega arith
     where
@@ -265,7 +265,7 @@ module _ (f : Field) (h : Places f) (s : Within f) (p : Parts f) (c : Reason f) 
 
   -- with an occupied lateral zone the area has nobody else
   alone-of : (d : Side) → T (lateralRule f (num d)) → T (within 1 12 (lateral (num d))) → T (within 1 6 (lateral (num d))) → 1 ≤ count (zonesIn line) (lateral (num d))
-      → number (ofArea d) (zonesIn line) ≤ 1
+      → passCount (ofArea d) (zonesIn line) ≤ 1
   unfolding inArea lateralRule
   alone-of d t u v k =
       let m = howMany f (lateral (num d)) in
@@ -282,14 +282,14 @@ module _ (f : Field) (h : Places f) (s : Within f) (p : Parts f) (c : Reason f) 
       let w = area-of d in
       omega arith
 
-  alone : (d : Side) → 1 ≤ count (zonesIn line) (lateral (num d)) → number (ofArea d) (zonesIn line) ≤ 1
+  alone : (d : Side) → 1 ≤ count (zonesIn line) (lateral (num d)) → passCount (ofArea d) (zonesIn line) ≤ 1
   unfolding boundC
   alone rightSide = alone-of rightSide (let q = every (λ z. leb (howMany f z) 1) (zonesFrom 1 6) in and-r q (lateralRule f 1) (and-l (q && lateralRule f 1) (lateralRule f 2) (s .bound-c))) tt tt
   alone leftSide = alone-of leftSide (let q = every (λ z. leb (howMany f z) 1) (zonesFrom 1 6) in and-r (q && lateralRule f 1) (lateralRule f 2) (s .bound-c)) tt tt
 
   -- ---- the reason, of the line
-  seen-line : along f ≡ map asListed line
-  unfolding along
+  seen-line : sequenceListed f ≡ map asListed line
+  unfolding sequenceListed
   seen-line = line-seen f ns (p .named)
 
   facts : Facts firstSide [] line

@@ -1,6 +1,6 @@
 pub mod AlongLine
 pub mod Room
-pub mod Stands
+pub mod LineOfField
 pub mod FromReason
 pub mod Invariant
 pub mod StaysSound

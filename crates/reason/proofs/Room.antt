@@ -21,7 +21,7 @@ use Rattle.questions.specs.Find.{placeFrom, nowhere, findIn, placeOf, aircraftA
 use Rattle.bounds.specs.Bounds.{withinBounds}
 use Rattle.fits.specs.Fits.{fitsZone, legalLegs, boundG}
 use Rattle.order.specs.Model.{count, one}
-use Rattle.rules.specs.Reason.{Listed, listed, along, those, isInZone, isInArea, neverFalls, eachAmong, fromLanding, approachOrder, hasRoom, roomToMiss, Reason, RoomAtSide}
+use Rattle.rules.specs.Reason.{Listed, listed, sequenceListed, those, isInZone, isInArea, neverFalls, eachAmong, fromLanding, approachOrder, hasRoom, roomToMiss, Reason, RoomAtSide}
 use Rattle.laws.proofs.BoundLaws.{within-each}
 use Rattle.field.proofs.NumberLists.{every-listed}
 use Rattle.field.proofs.TestLaws.{decided, if-true, if-false, flip-eqb}
@@ -171,41 +171,41 @@ side-is P p q s t = elim (decided (eqb s 1)) [
 -- ---- room at the side
 module _ (f : Field) (c : Reason f) where
   -- the count of a zone's queue is a count along the sequence
-  how-many-along : (z : ℕ) → T (within 1 12 z) → howMany f z ≡ length (those (isInZone z) (along f))
+  how-many-along : (z : ℕ) → T (within 1 12 z) → howMany f z ≡ length (those (isInZone z) (sequenceListed f))
   unfolding howMany
-  how-many-along z t = sym (length-map (inZone f z) (λ (a : Aircraft). a .number)) ∙ ap length (c .queues-agree z t) ∙ length-map (those (isInZone z) (along f)) (λ (a : Listed). a .number)
+  how-many-along z t = sym (length-map (inZone f z) (λ (a : Aircraft). a .number)) ∙ ap length (c .queues-agree z t) ∙ length-map (those (isInZone z) (sequenceListed f)) (λ (a : Listed). a .number)
 
-  total-along : (zs : List ℕ) → T (every (within 1 12) zs) → total (howMany f) zs ≡ total (λ z. length (those (isInZone z) (along f))) zs
+  total-along : (zs : List ℕ) → T (every (within 1 12) zs) → total (howMany f) zs ≡ total (λ z. length (those (isInZone z) (sequenceListed f))) zs
   total-along [] t = refl
   total-along (z ∷ zs) t =
       let a = how-many-along z (and-l (within 1 12 z) (every (within 1 12) zs) t) in
       let b = total-along zs (and-r (within 1 12 z) (every (within 1 12) zs) t) in
       omega arith
 
-  area-along : (s : ℕ) → T (isSide s) → inArea f s ≤ length (those (isInArea s) (along f))
+  area-along : (s : ℕ) → T (isSide s) → inArea f s ≤ length (those (isInArea s) (sequenceListed f))
   unfolding inArea
-  area-along = side-is (λ s. total (howMany f) (area s) ≤ length (those (isInArea s) (along f)))
-      (let a = total-along (area 1) tt in let b = in-zones (area 1) tt (along f) in omega arith)
-      (let a = total-along (area 2) tt in let b = in-zones (area 2) tt (along f) in omega arith)
+  area-along = side-is (λ s. total (howMany f) (area s) ≤ length (those (isInArea s) (sequenceListed f)))
+      (let a = total-along (area 1) tt in let b = in-zones (area 1) tt (sequenceListed f) in omega arith)
+      (let a = total-along (area 2) tt in let b = in-zones (area 2) tt (sequenceListed f) in omega arith)
 
   -- whoever is on final and first in the sequence has room
   room-first : (n : ℕ) → Begins f n (orderOf (f .sequence)) → T (isSide (fixOf f n)) → inArea f (fixOf f n) ≤ 1
-  unfolding along roomToMiss
+  unfolding sequenceListed roomToMiss
   room-first n b t =
       let s = fixOf f n in
       let behind = map (listed f) (b .rest) in
-      let is : along f ≡ listed f n ∷ behind = ap (map (listed f)) (b .is) in
+      let is : sequenceListed f ≡ listed f n ∷ behind = ap (map (listed f)) (b .is) in
       let rooms = subst (λ (l : List Listed). T (eachAmong hasRoom [] l)) is (c .room-to-miss) in
       let room = leb→le (length (those (isInArea s) behind) + 0) 1 (and-l (hasRoom [] (listed f n) behind) (eachAmong hasRoom (listed f n ∷ []) behind) rooms) in
       let outside : isInArea s (listed f n) ≡ false = ap (λ (z : ℕ). isIn z (area s)) (b .final) ∙ side-is (λ s. isIn 12 (area s) ≡ false) refl refl s t in
-      let same : length (those (isInArea s) (along f)) ≡ length (those (isInArea s) behind) =
+      let same : length (those (isInArea s) (sequenceListed f)) ≡ length (those (isInArea s) behind) =
       ap (λ (l : List Listed). length (those (isInArea s) l)) is ∙ ap length (if-false (listed f n ∷ those (isInArea s) behind) (those (isInArea s) behind) outside) in
       let a = area-along s t in
       omega arith
 
   -- of any field within the bounds: whoever heads final finds at most one aircraft in the area of its fix
   pub reason-gives-room : T (withinBounds f) → RoomAtSide f
-  unfolding approachOrder along placeOf fixOf aircraftAt
+  unfolding approachOrder sequenceListed placeOf fixOf aircraftAt
   reason-gives-room t n h =
       let z = eqb→eq (placeOf f n .zone) 12 (and-l (eqb (placeOf f n .zone) 12) (eqb (placeOf f n .place) 1) h) in
       let k = eqb→eq (placeOf f n .place) 1 (and-r (eqb (placeOf f n .zone) 12) (eqb (placeOf f n .place) 1) h) in

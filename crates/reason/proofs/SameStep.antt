@@ -27,7 +27,7 @@ use Rattle.rules.specs.Kinds.{placeBefore, zoneBefore, zoneAhead, presenceCheck
 use Rattle.rules.specs.Kinds.{approachNeeds, mergeNeeds, flownOutCheck, landNeeds, headGone, tailPut, moved, outOfSequence, fixTaken}
 use Rattle.rules.specs.Kinds.{entered, madeRoom, enteredAbove, approached, landed, exited, fixAfterMiss, missedApproach, held}
 use Rattle.rules.specs.Step.{byKind, needsFor, effectFor, checksFor, checksOf, effectOf, numberOf, stepOf}
-use Rattle.rules.specs.Reason.{Listed, listed, along, those, isInZone, isInArea, neverFalls, eachAmong, fromLanding, heightIn}
+use Rattle.rules.specs.Reason.{Listed, listed, sequenceListed, those, isInZone, isInArea, neverFalls, eachAmong, fromLanding, heightIn}
 use Rattle.rules.specs.Reason.{hasRoom, lateralFree, approachOrder, areaOrder, roomToMiss, lateralOrder, Reason, hasPlaces, Sound, KeptBy}
 use Rattle.field.proofs.TestLaws.{pass, passed, decided}
 use Rattle.line.proofs.Orderly.{every-zone}
@@ -288,7 +288,7 @@ number-same f g s r =
 
 -- ---- places, bounds and reason of the one are those of the other
 reason-same : (f g : Field) → Same f g → Reason f → Reason g
-unfolding along approachOrder areaOrder roomToMiss lateralOrder
+unfolding sequenceListed approachOrder areaOrder roomToMiss lateralOrder
 reason-same f g s c =
     record {
       approach-order = subst T (ap (λ (l : List Listed). neverFalls (map (λ a. fromLanding (a .zone)) l)) same) (c .approach-order);

@@ -1,8 +1,8 @@
 pub mod ListsRenamed
 pub mod Exchanged
 pub mod AskedRenamed
-pub mod Bounded
-pub mod Edited
-pub mod Needed
-pub mod Done
+pub mod BoundsRenamed
+pub mod EditsRenamed
+pub mod NeedsRenamed
+pub mod EffectsRenamed
 pub mod StepsRenamed

@@ -24,9 +24,9 @@ use Rattle.rules.specs.Play.{fieldAfter, played}
 use Rattle.renaming.specs.Renaming.{Renaming, renamedAircraft, renamedField, renamedRequest, renamedAnswer, renamedStep, renamedPair}
 use Rattle.renaming.proofs.ListsRenamed.{either-made}
 use Rattle.renaming.proofs.AskedRenamed.{at-renamed, place-renamed, leader-renamed}
-use Rattle.renaming.proofs.Bounded.{within-renamed}
-use Rattle.renaming.proofs.Needed.{input-renamed, checks-renamed}
-use Rattle.renaming.proofs.Done.{effect-renamed}
+use Rattle.renaming.proofs.BoundsRenamed.{within-renamed}
+use Rattle.renaming.proofs.NeedsRenamed.{input-renamed, checks-renamed}
+use Rattle.renaming.proofs.EffectsRenamed.{effect-renamed}
 
 module _ {π : ℕ → ℕ} (p : Renaming π) where
   -- ---- answers

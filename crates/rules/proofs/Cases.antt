@@ -18,7 +18,7 @@ use Rattle.tick.specs.Tick.{tickedAircraft, tickedZone, ticked}
 use Rattle.rules.specs.Kinds.{startsFrom, mayApproach, baseFree, mayMerge, headGone, tailPut, moved, outOfSequence, fixTaken, entered, madeRoom}
 use Rattle.rules.specs.Kinds.{enteredAbove, approached, landed, exited, fixAfterMiss, missedApproach, held, belongsTo, shownTo, shownAt3000}
 use Rattle.rules.specs.Step.{checksOf, effectOf, numberOf, numberAndZeros, acceptance, answerOf, stepOf}
-use Rattle.rules.specs.Reason.{along, approachOrder, areaOrder, roomToMiss, lateralOrder, QueueAgrees}
+use Rattle.rules.specs.Reason.{sequenceListed, approachOrder, areaOrder, roomToMiss, lateralOrder, QueueAgrees}
 use Rattle.rules.specs.Cases.{marked, caseHolds}
 use Rattle.rules.specs.Examples.{examples, exits, entries, earlyMisses, twoDesks, onePlace, entryOfEight, JudgedAfterBoth, crowded, missOfSeven, BoundsNotEnough, stuck, NobodyMoves}
 use Rattle.field.proofs.TestLaws.{each-operation}
@@ -34,7 +34,7 @@ unfolding
     startsFrom mayApproach baseFree mayMerge headGone tailPut moved
     outOfSequence fixTaken entered madeRoom enteredAbove approached landed exited fixAfterMiss missedApproach held belongsTo shownTo shownAt3000 checksOf effectOf numberOf numberAndZeros acceptance
     answerOf stepOf
-    neg add sub mul div ofInt round lt le eq along approachOrder areaOrder roomToMiss lateralOrder
+    neg add sub mul div ofInt round lt le eq sequenceListed approachOrder areaOrder roomToMiss lateralOrder
 computed = (
   tt,
   tt,

@@ -183,8 +183,7 @@ missedApproach f r =
     let g = tailPut (headGone f finalApproach) w (withFix (arrivedByMiss (f .legs) w a) fix) in
     withSequence g (appended (removed (f .sequence) (r .number)) (r .number)) (opposite fix)
 
--- kind 11, from zone z: where both holdings of the side are empty to 2000, where only 3000 is to 3000; and where 3000 is occupied the one there descends
--- first
+-- kind 11, from zone z: down to 2000 where nobody holds on the side, else to 3000; whoever is at 3000 is moved down to 2000 before
 unfoldable pub held : Field → ℕ → Field
 held f z =
     let side = sideOf z in

@@ -29,8 +29,8 @@ abbrev pub listed : Field → ℕ → Listed
 listed f number = record { number = number; zone = placeOf f number .zone; fix = fixOf f number }
 
 -- the landing sequence, first to land first, each with its zone and fix
-unfoldable pub along : Field → List Listed
-along f = map (listed f) (orderOf (f .sequence))
+unfoldable pub sequenceListed : Field → List Listed
+sequenceListed f = map (listed f) (orderOf (f .sequence))
 
 -- those that pass the test, in the same order
 abbrev pub those : (Listed → Bool) → List Listed → List Listed
@@ -67,7 +67,7 @@ fromLanding z = cond (eqb z finalApproach) 0 (cond (eqb z intermediate) 1 (cond 
 
 -- along the sequence that distance never falls
 unfoldable pub approachOrder : Field → Bool
-approachOrder f = neverFalls (map (λ a. fromLanding (a .zone)) (along f))
+approachOrder f = neverFalls (map (λ a. fromLanding (a .zone)) (sequenceListed f))
 
 -- ---- 2. Order in a side's area: 2000 or lateral, then 3000, then missed
 
@@ -77,7 +77,7 @@ heightIn side z = cond (eqb z (missed side)) 2 (cond (eqb z (at3000 side)) 1 0)
 
 -- along the sequence the height of those in the area of the side never falls
 unfoldable pub areaOrder : Field → ℕ → Bool
-areaOrder f side = neverFalls (map (λ a. heightIn side (a .zone)) (those (isInArea side) (along f)))
+areaOrder f side = neverFalls (map (λ a. heightIn side (a .zone)) (those (isInArea side) (sequenceListed f)))
 
 -- ---- 3. Room to miss: those behind an aircraft in the area of its fix, and those ahead of it with the same fix, are one at most
 abbrev pub hasRoom : List Listed → Listed → List Listed → Bool
@@ -85,7 +85,7 @@ hasRoom ahead a behind = leb (length (those (isInArea (a .fix)) behind) + length
 
 -- that is so of everyone in the sequence
 unfoldable pub roomToMiss : Field → Bool
-roomToMiss f = eachAmong hasRoom [] (along f)
+roomToMiss f = eachAmong hasRoom [] (sequenceListed f)
 
 -- ---- 4. Lateral entry: nobody ahead of an aircraft in a lateral zone has that side as fix
 abbrev pub lateralFree : List Listed → Listed → List Listed → Bool
@@ -93,11 +93,11 @@ lateralFree ahead a behind = not (within 5 6 (a .zone)) || eqb (length (those (h
 
 -- that is so of everyone in the sequence
 unfoldable pub lateralOrder : Field → Bool
-lateralOrder f = eachAmong lateralFree [] (along f)
+lateralOrder f = eachAmong lateralFree [] (sequenceListed f)
 
 -- ---- 5. Queues agree with the sequence: a zone's queue is the sequence restricted to the zone, in the same order
 abbrev pub QueueAgrees : Field → ℕ → Type 0
-QueueAgrees f zone = map (λ a. a .number) (inZone f zone) ≡ map (λ a. a .number) (those (isInZone zone) (along f))
+QueueAgrees f zone = map (λ a. a .number) (inZone f zone) ≡ map (λ a. a .number) (those (isInZone zone) (sequenceListed f))
 
 -- ---- the five together
 pub record Reason (f : Field) : Type 0 where

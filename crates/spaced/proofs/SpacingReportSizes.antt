@@ -1,4 +1,4 @@
--- How long a report is: every one fits the caller's buffer. Assumes nothing.
+-- How long the report of a field's spacings is, or of a refusal: at most 1024 bytes, which fit the caller's buffer. Assumes nothing.
 use mathlib.Core.List.{List, [], _∷_, _++_}
 use Prim.Native.Nat.{ℕ, zero, suc, _+_, _*_, _^_, _≤_, _<_}
 use native.Mathlib.Omega.{arith}

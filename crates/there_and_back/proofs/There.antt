@@ -47,7 +47,7 @@ use Rattle.indexed.specs.Indexed.{withIndex}
 use Rattle.line.proofs.Line.{zoneFor, queue-for, sequenceFor, fieldBy, by-zones}
 use Rattle.line.proofs.CountedOnLine.{in-everywhere}
 use Rattle.reason.proofs.Invariant.{Places, places-parts, parts}
-use Rattle.reason.proofs.Stands.{sequence-is, zones-are}
+use Rattle.reason.proofs.LineOfField.{sequence-is, zones-are}
 use Rattle.playing.specs.Playing.{legsInMiles}
 use Rattle.dialect.specs.declared.ListEntry.{ListEntry}
 use Rattle.dialect.specs.declared.Listing.{Listing}

@@ -85,7 +85,8 @@ returns c =
     let s = c .before .before in
     let at = s .before .before in
     let a = at .before .before .before .args in
-    made (now (a .bytes)) (a .at) (reading-all (readZone (now (a .bytes))) 128 13 (a .at) (at .loop .zones) (at .loop .i) (at .loop .inv) (omega arith)) (s .read-sequence .ensures) (c .read-legs .ensures)
+    made (now (a .bytes)) (a .at)
+    (reading-all (readZone (now (a .bytes))) 128 13 (a .at) (at .loop .zones) (at .loop .i) (at .loop .inv) (omega arith)) (s .read-sequence .ensures) (c .read-legs .ensures)
 
 pub read-field-spec : {M : Type 1} → statement M
 read-field-spec =

@@ -70,7 +70,8 @@ returns c =
     let at = c .before .before in
     let first = at .before in
     let a = first .before .before .before .args in
-    made (now (a .state)) (first .before .read-indexed .ensures) (reading-all (readIndexed (now (a .state))) 1733 8 1733 (at .loop .kept) (at .loop .i) (at .loop .inv) (omega arith)) (c .number64 .ensures)
+    made (now (a .state)) (first .before .read-indexed .ensures)
+    (reading-all (readIndexed (now (a .state))) 1733 8 1733 (at .loop .kept) (at .loop .i) (at .loop .inv) (omega arith)) (c .number64 .ensures)
 
 pub read-history-spec : {M : Type 1} → statement M
 read-history-spec =

@@ -12,8 +12,8 @@ use borrow.Author.Needs.{needs}
 use Rattle.decoding.proofs.read_indexed.Statement.{statement}
 use Rattle.decoding.proofs.read_indexed.Tie as tie
 
-made : (bytes : List ℕ) (at : ℕ) {f : Field} {x y z w v : Entry} → f ≡ readField bytes at → x ≡ readEntry bytes (at + 1713) → y ≡ readEntry bytes (at + 1717) → z ≡ readEntry bytes (at + 1721) → w ≡ readEntry bytes (at + 1725)
-    → v ≡ readEntry bytes (at + 1729)
+made : (bytes : List ℕ) (at : ℕ) {f : Field} {x y z w v : Entry} → f ≡ readField bytes at
+    → x ≡ readEntry bytes (at + 1713) → y ≡ readEntry bytes (at + 1717) → z ≡ readEntry bytes (at + 1721) → w ≡ readEntry bytes (at + 1725) → v ≡ readEntry bytes (at + 1729)
     → _≡_ {A = Indexed} (record { field = f; index = record { entries = x ∷ y ∷ z ∷ w ∷ v ∷ [] } }) (readIndexed bytes at)
 unfolding readIndexed
 made bytes at f x y z w v =

@@ -119,7 +119,8 @@ below-within c = let b = side-within c in record { least = omega (arith, b); mos
 led-within : (c : tie.After-leads-to) → Between 1 13 (c .leads-to .result)
 led-within c = subst⁻¹ (Between 1 13) (c .leads-to .ensures) (leads-within _ _ _ _ _ _ _ _ _)
 
-there-few : (c : tie.Joined2) → let led = c .before .before in getD (start (passed-by led .before) .args .x .field .zones) (led .leads-to .result - 1) (record { aircraft = []; length = 0 }) .length ≤ 4
+there-few : (c : tie.Joined2)
+    → let led = c .before .before in getD (start (passed-by led .before) .args .x .field .zones) (led .leads-to .result - 1) (record { aircraft = []; length = 0 }) .length ≤ 4
 there-few c =
     let led = c .before .before in
     let k = passed-by led .before in

@@ -7,7 +7,7 @@ use borrow.Author.Needs.{needs}
 use Rattle.finder.specs.declared.Entry.{Entry}
 use Rattle.finder.proofs.IndexKnown.{index-known}
 use Rattle.kept_up.specs.KeptUp.{movedEntry}
-use Rattle.kept_up.proofs.Written.{Written, written-none, written-more, written-all}
+use Rattle.kept_up.proofs.EntriesWritten.{Written, written-none, written-more, written-all}
 use Rattle.kept_up.proofs.moved_entries.Statement.{statement}
 use Rattle.kept_up.proofs.moved_entries.Tie as tie
 

@@ -13,11 +13,16 @@ use borrow.Author.Needs.{needs}
 use Rattle.binder.proofs.lines.put_week.Statement.{statement}
 use Rattle.binder.proofs.lines.put_week.Tie as tie
 
+-- the ways back from where the table is read: to the fourth count, and to the start
+abbrev fourth : tie.After-cells2 → tie.After-put-count4
+fourth c = c .before .before .before .before .before .before .before .before .before .before
+
+abbrev start : tie.After-cells2 → tie.Start
+start c = fourth c .before .before .before .before .before .before .before .before .before .before .before .before .before .before .before .before .before .before .before
+
 -- the table's length
-table : (c : tie.After-cells2)
-    → length (c .before .before .before .before .before .before .before .before .before .before .before .before .before .before .before .before .before .before .before .before .before .before .before .before .before .before .before .before .before .args .c .cells) ≡ 273
-table c =
-    table-known (c .before .before .before .before .before .before .before .before .before .before .before .before .before .before .before .before .before .before .before .before .before .before .before .before .before .before .before .before .before .args .c) (c .before .before .before .before .before .before .before .before .before .before .before .before .before .before .before .before .before .before .before .before .before .before .before .before .before .before .before .before .before .good .1 .0)
+table : (c : tie.After-cells2) → length (start c .args .c .cells) ≡ 273
+table c = table-known (start c .args .c) (start c .good .1 .0)
 
 slice-aggregate-put-count : tie.Need-slice-aggregate-put-count
 slice-aggregate-put-count c = search needs

@@ -29,7 +29,7 @@ use Rattle.rules.proofs.Checks.{effect-at, first-passes}
 use Rattle.field.proofs.TestLaws.{decided, if-true, if-false, same}
 use Rattle.questions.proofs.FindLaws.{numbers}
 use Rattle.line.proofs.CountedOnLine.{not-13}
-use Rattle.nasa.specs.Definitions.{ScaAircraft, ScaZone, holding2, lez, base, intermediate, final, SCA, firstInSequence, leader, onZone, onApproach}
+use Rattle.nasa.specs.Definitions.{ScaAircraft, ScaZone, holding2, lez, base, intermediate, final, SCA, firstInSequence, leader, onZone, scaOnApproach}
 use Rattle.nasa.specs.Rules.{zoneNumber, withQueue, add, mayInitiate, verticalApproachInitiation, lateralApproachInitiation, merging}
 use Rattle.nasa.specs.Stands.{sideNamed, seen, stateOf, sideBefore, approachInitiation, Is}
 use Rattle.nasa.proofs.AcceptedHead.{of-side, first-of, how-many-in, Heads, bounded, heading, heads}
@@ -69,11 +69,11 @@ module _ (f : Field) (t : T (withinBounds f)) (r : Request) (z : ScaZone) (at : 
       ∙ ap (λ (s : ℕ). find.isFirst (f .sequence) (r .number) || (onZone (stateOf f .queue intermediate) (s - 1) || onZone (stateOf f .queue final) (s - 1))) seq-is
       ∙ ap (λ (b : Bool). find.isFirst (f .sequence) (r .number) || b) (merge-seen f t n listed ∙ ap (within 11 12) ahead-is)
 
-  approaches : (firstInSequence one || onApproach (stateOf f) (leader one)) ≡ mayApproach (f .sequence) (r .number) (zoneAhead f r)
+  approaches : (firstInSequence one || scaOnApproach (stateOf f) (leader one)) ≡ mayApproach (f .sequence) (r .number) (zoneAhead f r)
   unfolding mayApproach
   approaches =
-      ap (λ (b : Bool). b || onApproach (stateOf f) (leader one)) first-is
-      ∙ ap (λ (s : ℕ). find.isFirst (f .sequence) (r .number) || onApproach (stateOf f) (s - 1)) seq-is
+      ap (λ (b : Bool). b || scaOnApproach (stateOf f) (leader one)) first-is
+      ∙ ap (λ (s : ℕ). find.isFirst (f .sequence) (r .number) || scaOnApproach (stateOf f) (s - 1)) seq-is
       ∙ ap (λ (b : Bool). find.isFirst (f .sequence) (r .number) || b) (approach-seen f t n listed ∙ ap (within 9 12) ahead-is)
 
   pub initiates : (s : Side) → sideOf (zoneBefore f r) ≡ num s → mayInitiate (stateOf f) s one ≡ (baseFree f (sideOf (zoneBefore f r)) && mayApproach (f .sequence) (r .number) (zoneAhead f r))
@@ -82,7 +82,7 @@ module _ (f : Field) (t : T (withinBounds f)) (r : Request) (z : ScaZone) (at : 
       let other = each-side (λ s. zoneNumber (base (opp s)) ≡ airspace.base (opposite (num s))) refl refl s in
       let free : length (stateOf f .queue (base (opp s))) ≡ howMany f (airspace.base (opposite (sideOf (zoneBefore f r)))) =
       how-many-in f (base (opp s)) ∙ ap (howMany f) (other ∙ ap (λ (y : ℕ). airspace.base (opposite y)) (sym q)) in
-      ap (λ (c : ℕ). leb c 1 && (firstInSequence one || onApproach (stateOf f) (leader one))) free
+      ap (λ (c : ℕ). leb c 1 && (firstInSequence one || scaOnApproach (stateOf f) (leader one))) free
       ∙ ap (λ (b : Bool). leb (howMany f (airspace.base (opposite (sideOf (zoneBefore f r))))) 1 && b) approaches
 
 -- ---- kind 5

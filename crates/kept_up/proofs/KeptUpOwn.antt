@@ -34,10 +34,12 @@ use Rattle.rules.specs.Kinds.{placeBefore, zoneBefore, madeRoom}
 use Rattle.rules.specs.Step.{effectOf, numberOf}
 use Rattle.rules.proofs.Refusals.{passes}
 use Rattle.kept_up.specs.KeptUp.{placeIn, ledTo, movedEntry, movedEntries, descendedEntry, descendedEntries, without, arrivedAt, keptUp}
-use Rattle.kept_up.proofs.Entries.{movedUp, descendedPlace, moved-in-order, moved-zoned, other-found, own-found, without-length, without-in-order, without-zoned, other-without, own-without, down-in-order, down-zoned, down-free, down-found, put-found}
+use Rattle.kept_up.proofs.Entries.{movedUp, descendedPlace, moved-in-order, moved-zoned, other-found, own-found}
+use Rattle.kept_up.proofs.Entries.{without-length, without-in-order, without-zoned, other-without, own-without, down-in-order, down-zoned, down-free, down-found, put-found}
 use Rattle.kept_up.proofs.Moved.{Left, Come, others-left, was-head, own-left, others-come, own-come, come-total}
 use Rattle.kept_up.proofs.Queues.{Led, room-made}
-use Rattle.kept_up.proofs.Told.{to, Leaves, Moves, Rises, Comes, ComesAbove, told}
+use Rattle.kept_up.proofs.FiveWays.{to, Leaves, Moves, Rises, Comes, ComesAbove}
+use Rattle.kept_up.proofs.Told.{told}
 
 -- ---- an index, and the field after
 module _ (f g : Field) (before : T (withinBounds f)) (after : T (withinBounds g)) where

@@ -34,7 +34,7 @@ use Rattle.laws.proofs.Fits.{fits-parts}
 use Rattle.line.proofs.CountedOnLine.{not-13}
 use Rattle.reason.proofs.Invariant.{parts}
 use Rattle.nasa.specs.Definitions.{ScaAircraft, ScaZone, maz, final, runway, SCA, decrease, reassign}
-use Rattle.nasa.specs.Rules.{zoneNumber, sameZone, withQueue, add, withNext, decreased, missedApproach}
+use Rattle.nasa.specs.Rules.{zoneNumber, sameZone, withQueue, add, withNext, decreased, scaMissedApproach}
 use Rattle.nasa.specs.Stands.{sideNamed, seen, stateOf, Is}
 use Rattle.nasa.proofs.States.{same-state, asSeen, zone-number, head-first, put-there, put-here, put-elsewhere}
 use Rattle.nasa.proofs.AcceptedHead.{has-room, only-zone, first-of, bounded, shape, heading, heads}
@@ -42,7 +42,7 @@ use Rattle.nasa.proofs.DescendFinalTaxi.{leads}
 use Rattle.nasa.proofs.AskedOfState.{sequence-different}
 use Rattle.nasa.proofs.Sequences.{order-length, first-left, shaped-left, last-put, before-kept, before-last}
 use Rattle.nasa.proofs.Leaving.{behind, lowered-elsewhere, lowered-rest, final-first}
-use Rattle.nasa.proofs.Landed.{operating}
+use Rattle.nasa.proofs.LandExitTransitions.{operating}
 
 -- ---- sides by their numbers
 pub side-cases {ℓ} : (P : ℕ → Type ℓ) → P 1 → P 2 → (n : ℕ) → T (isSide n) → P n
@@ -245,14 +245,14 @@ module _ (f : Field) (h : T (hasPlaces f)) (r : Request) (k : r .kind ≡ 10) (e
         | inr p ↦ off-runway y p ∙ sym (if-false _ _ p)
       ]
 
-pub miss-is : (f : Field) → T (hasPlaces f) → (r : Request) → r .kind ≡ 10 → numberOf f r ≡ 0 → Is f r missedApproach
-unfolding missedApproach startsFrom
+pub miss-is : (f : Field) → T (hasPlaces f) → (r : Request) → r .kind ≡ 10 → numberOf f r ≡ 0 → Is f r scaMissedApproach
+unfolding scaMissedApproach startsFrom
 miss-is f h r k e =
     let H = heading f h r e 10 k refl refl in
     let a = heads f h r e 10 k refl refl in
     let at : zoneBefore f r ≡ 12 = only-zone 12 (zoneBefore f r) (H .starts) in
     let here = ap (inZone f) (sym at) ∙ a .here in
     let b = behind (f .sequence) (a .x .number) (final-first f (bounded f h r e) (a .x) (a .rest) here) in
-    leads f r missedApproach (after f h r k e (a .x) (a .rest) here (a .named) (b .0) (b .1)) (rules.missedApproach f r) e (effect-at f r k)
+    leads f r scaMissedApproach (after f h r k e (a .x) (a .rest) here (a .named) (b .0) (b .1)) (rules.missedApproach f r) e (effect-at f r k)
     (first-of f final (a .x) (a .rest) here _)
     (missed-state f h r k e (a .x) (a .rest) here (a .named) (b .0) (b .1))

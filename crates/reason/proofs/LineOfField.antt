@@ -23,7 +23,7 @@ use Rattle.questions.specs.Counts.{total}
 use Rattle.questions.specs.Find.{placeFrom, findIn, placeOf, aircraftAt, fixOf, numbersIn}
 use Rattle.bounds.specs.Bounds.{sequenceKept}
 use Rattle.order.specs.Model.{Side, num, nextFix, count, one}
-use Rattle.rules.specs.Reason.{Listed, listed, along, those, isInZone, QueueAgrees}
+use Rattle.rules.specs.Reason.{Listed, listed, sequenceListed, those, isInZone, QueueAgrees}
 use Rattle.field.proofs.TestLaws.{passed, decided, if-true, if-false, same}
 use Rattle.field.proofs.NumberLists.{in-append}
 use Rattle.line.proofs.AheadInLists.{map-append}
@@ -222,7 +222,7 @@ module _ (f : Field) where
 
     -- a queue that agrees with the sequence is the line inside its zone
     pub queue-is : (z : ℕ) → T (within 1 12 z) → QueueAgrees f z → inZone f z ≡ inside z (lineOf f)
-    unfolding along
+    unfolding sequenceListed
     queue-is z t a =
         queue-found z (lower z t) [] (inZone f z) refl
         ∙ ap (map (λ n. lookedUp f n .aircraft)) a

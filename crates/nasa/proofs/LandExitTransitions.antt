@@ -32,7 +32,7 @@ use Rattle.nasa.specs.Stands.{sideNamed, seen, stateOf, Is}
 use Rattle.nasa.proofs.States.{same-state, asSeen, zone-number, gone-here, gone-there, head-first, put-there, put-here, put-elsewhere}
 use Rattle.nasa.proofs.AcceptedHead.{only-zone, first-of, nobody-in, bounded, shape, heading, heads}
 use Rattle.nasa.proofs.DescendFinalTaxi.{leads}
-use Rattle.nasa.proofs.Approaching.{first-is}
+use Rattle.nasa.proofs.ApproachMergeTransitions.{first-is}
 use Rattle.nasa.proofs.Sequences.{first-left}
 use Rattle.nasa.proofs.Leaving.{behind, elsewhere-apart, lowered-elsewhere, lowered-rest, final-first}
 

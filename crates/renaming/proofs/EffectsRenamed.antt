@@ -19,8 +19,8 @@ use Rattle.rules.specs.Step.{byKind, effectFor, effectOf}
 use Rattle.renaming.specs.Renaming.{Renaming, renamedAircraft, renamedSequence, renamedField, renamedRequest}
 use Rattle.renaming.proofs.ListsRenamed.{either-made, by-test}
 use Rattle.renaming.proofs.AskedRenamed.{order-length, zone-renamed, at-renamed, place-renamed, leader-zone-renamed}
-use Rattle.renaming.proofs.Edited.{without-head-renamed, with-tail-renamed, appended-renamed, removed-renamed, with-zone-renamed, ticked-renamed}
-use Rattle.renaming.proofs.Needed.{empty-renamed, may-approach-renamed, base-renamed}
+use Rattle.renaming.proofs.EditsRenamed.{without-head-renamed, with-tail-renamed, appended-renamed, removed-renamed, with-zone-renamed, ticked-renamed}
+use Rattle.renaming.proofs.NeedsRenamed.{empty-renamed, may-approach-renamed, base-renamed}
 
 -- what is made of each entry of a table by kind is made of the kind's own
 by-kind-made : {A B : Type 0} (g : A → B) (kind : ℕ) (k1 k2 k3 k4 k5 k6 k7 k8 k9 k10 k11 k12 : A)
