@@ -92,9 +92,10 @@ pub held-is : {first last : History} {i : ℕ} {e : Ending} (w : Pressing first 
     → _≡_ {A = HeldKept} (record { ending = e; played = i; after = last }) (heldKept first)
 unfolding heldKept
 held-is {first} {last} {i} {e} w none g =
-    let after : last ≡ afterAsked first (pressesKept mostPresses first) = sym (w .after ∙ ap (afterAsked last) none ∙ asked-none last) in
+    let end = afterAsked first (pressesKept mostPresses first) in
+    let after : last ≡ end = sym (w .after ∙ ap (afterAsked last) none ∙ asked-none last) in
     let l = ap length none in
     let count : i ≡ length (pressesKept mostPresses first) = omega (arith, w .count, l) in
     ap (λ (x : Ending). record { ending = x; played = i; after = last }) g
     ∙ ap (λ (x : History). record { ending = endingKept (withinBoundsHistory first) (x .now .field); played = i; after = x }) after
-    ∙ ap (λ (n : ℕ). record { ending = endingKept (withinBoundsHistory first) (afterAsked first (pressesKept mostPresses first) .now .field); played = n; after = afterAsked first (pressesKept mostPresses first) }) count
+    ∙ ap (λ (n : ℕ). record { ending = endingKept (withinBoundsHistory first) (end .now .field); played = n; after = end }) count

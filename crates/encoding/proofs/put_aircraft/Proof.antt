@@ -41,7 +41,10 @@ same-length c =
     let p3 = p4 .before .before .before .before in
     let p2 = p3 .before .before .before .before in
     let p1 = p2 .before .before .before .before in
-    put-same (put-more (put-more (put-more (put-more (put-more (put-more (p1 .put-number16 .ensures) (p2 .put-byte .ensures)) (p3 .put-byte2 .ensures)) (p4 .put-number162 .ensures)) (put-as (ap bytes64 (p5 .before .progress-bits .ensures)) (p5 .put-number64 .ensures))) (p6 .put-bits .ensures)) (p7 .put-bits2 .ensures))
+    let first = put-more (put-more (p1 .put-number16 .ensures) (p2 .put-byte .ensures)) (p3 .put-byte2 .ensures) in
+    let flown = put-as (ap bytes64 (p5 .before .progress-bits .ensures)) (p5 .put-number64 .ensures) in
+    let whole = put-more (put-more (put-more (put-more first (p4 .put-number162 .ensures)) flown) (p6 .put-bits .ensures)) (p7 .put-bits2 .ensures) in
+    put-same whole
 
 returns : tie.Need-returns
 unfolding aircraftBytes
@@ -53,7 +56,10 @@ returns c =
     let p3 = p4 .before .before .before .before in
     let p2 = p3 .before .before .before .before in
     let p1 = p2 .before .before .before .before in
-    put-more (put-more (put-more (put-more (put-more (put-more (p1 .put-number16 .ensures) (p2 .put-byte .ensures)) (p3 .put-byte2 .ensures)) (p4 .put-number162 .ensures)) (put-as (ap bytes64 (p5 .before .progress-bits .ensures)) (p5 .put-number64 .ensures))) (p6 .put-bits .ensures)) (p7 .put-bits2 .ensures)
+    let first = put-more (put-more (p1 .put-number16 .ensures) (p2 .put-byte .ensures)) (p3 .put-byte2 .ensures) in
+    let flown = put-as (ap bytes64 (p5 .before .progress-bits .ensures)) (p5 .put-number64 .ensures) in
+    let whole = put-more (put-more (put-more (put-more first (p4 .put-number162 .ensures)) flown) (p6 .put-bits .ensures)) (p7 .put-bits2 .ensures) in
+    whole
 
 pub put-aircraft-spec : {M : Type 1} → statement M
 put-aircraft-spec =

@@ -46,7 +46,8 @@ returns c =
     let start = first .before .before in
     let l = start .args .t1 in
     ap (λ (ns : List ℕ). l .count ∷ ns)
-    (five-entries (l .entries) _ (entries-places l (start .good .0)) (first .wide-entry .ensures) (second .wide-entry2 .ensures) (third .wide-entry3 .ensures) (fourth .wide-entry4 .ensures) (c .wide-entry5 .ensures))
+    (five-entries (l .entries) _ (entries-places l (start .good .0))
+    (first .wide-entry .ensures) (second .wide-entry2 .ensures) (third .wide-entry3 .ensures) (fourth .wide-entry4 .ensures) (c .wide-entry5 .ensures))
 
 pub listing-numbers-spec : {M : Type 1} → statement M
 listing-numbers-spec =
