@@ -19,4 +19,5 @@ pub mod library;
 pub mod list_table;
 pub mod lists;
 pub mod sessions;
+pub mod spacings;
 pub mod table;

@@ -19,6 +19,7 @@ use comparison::hosted::{self, Hosted};
 use comparison::lessons::Lesson;
 use comparison::library::Library;
 use comparison::list_table::{Built, Lists};
+use comparison::spacings::{at_a_spacing, spacing};
 use comparison::table::{Gaps, Presses, Table, Weeks, Writings};
 use comparison::{binders, damaged, desk_lists, fields, lessons, lists, sessions};
 use reference::binder::to_bytes;
@@ -291,25 +292,6 @@ fn all_pressed(comparison: &mut Comparison, dice: &mut Dice, count: usize) -> Re
     none_of(comparison.presses.faults())
 }
 
-/// A spacing, one in six of them refused.
-fn spacing(dice: &mut Dice) -> u16 {
-    let edge = dice.pick(&[0, 1, 64, 512, 513]);
-    let allowed = dice.between(1, 512) as u16;
-    let any = dice.bits() as u16;
-    dice.pick(&[
-        edge, edge, any, allowed, allowed, allowed, allowed, allowed, allowed, allowed, allowed, allowed,
-    ])
-}
-
-/// Gaps just under a spacing, equal to it and just over, asked for by it and by the spacings beside it.
-fn at_a_spacing() -> impl Iterator<Item = (Vec<u8>, u16)> {
-    [1, 2, 64, 511, 512].into_iter().flat_map(|spacing: u16| {
-        let gap = 64 * usize::from(spacing);
-        let files = [gap - 1, gap, gap + 1].map(sessions::apart).into_iter();
-        files.flat_map(move |file| [spacing - 1, spacing, spacing + 1].map(|spacing| (file.clone(), spacing)))
-    })
-}
-
 fn all_spaced(comparison: &mut Comparison, dice: &mut Dice, count: usize) -> Result<(), String> {
     let spacings = [0, 1, 2, 63, 64, 65, 192, 511, 512, 513, 32_768, 65_535];
     let each = |file: Vec<u8>| spacings.map(|spacing| (file.clone(), spacing));
@@ -398,14 +380,19 @@ fn main() -> ExitCode {
     let Comparison { compared, binders, pressed, spaced, written, listed, built, hosted, called, .. } =
         comparison;
     let calls = hosted.calls;
+    let counted = format!(
+        "{compared} files (seed {seed}), fields judged and not, {binders} binders, the button after {pressed} \
+         files, the spacing after {spaced} and the list after {listed}, {written} lists to be written, \
+         {built} fields of lists, {calls} calls of a host and {called} lists of calls by two desks"
+    );
     match outcome {
         Ok(()) => {
-            println!("compare: {compared} files compared (seed {seed}), fields judged and not, {binders} binders, the button after {pressed} files, the spacing after {spaced} and the list after {listed}, {written} lists written or refused, {built} fields of lists, {calls} calls of a host, {called} lists of calls by two desks: every report, file, number and state the same");
+            println!("compare: {counted}: every report, file, number and state the same");
             ExitCode::SUCCESS
         }
         Err(fault) => {
             print!("{fault}");
-            println!("compare: FAILED after {compared} files, {binders} binders, the button after {pressed} files, the spacing after {spaced}, {written} lists to be written, the list after {listed} files, {built} fields of lists, {calls} calls of a host and {called} lists of calls by two desks (seed {seed})");
+            println!("compare: FAILED after {counted}");
             ExitCode::FAILURE
         }
     }
