@@ -49,7 +49,7 @@ use Rattle.replies.specs.Replies.{endNumber}
 use Rattle.host.specs.Calls.{spacingsOf, listingOf}
 use Rattle.host.specs.Calls.{HostCall, start, ask, back, press, holdDown, spaced, listed, builtFrom}
 use Rattle.host_calls.specs.HostCalls.{replyOf, leftBy, leftByAll}
-use Rattle.host_calls.specs.FromStart.{goesOn, callsOf, allCallsOf, buildsField, neverAnswered, FromStart}
+use Rattle.host_calls.specs.FromStart.{goesOn, callsOf, allCallsOf, buildsField, onlyFieldsReply, FromStart}
 use Rattle.host_calls.proofs.Held.{all-held}
 use Rattle.host_calls.proofs.Button.{asked-calls, held-same}
 use Rattle.host_calls.proofs.WithinAfterCalls.{stays-within-from-start}
@@ -132,14 +132,14 @@ module _ (legs : Legs) (l : T (legalLegs legs)) where
   answer-not-25 h rs q (builtFrom other speed bytes) = tt
 
   -- the requests and steps back that have gone before
-  never-25 : (before : List Call) (h : History) → h ≡ afterCalls (startOf legs) before → (cs : List HostCall) → T (every goesOn cs) → T (neverAnswered 25 h cs)
+  never-25 : (before : List Call) (h : History) → h ≡ afterCalls (startOf legs) before → (cs : List HostCall) → T (every goesOn cs) → T (onlyFieldsReply 25 h cs)
   never-25 before h e [] t = tt
   never-25 before h e (c ∷ cs) t =
       let on = and-l (goesOn c) (every goesOn cs) t in
       let follows = subst⁻¹ (λ (g : History). Follows legs g (historyOf legs before)) e (taken-back legs l before .follows) in
       let next : leftBy h c ≡ afterCalls (startOf legs) (before ++ callsOf h c) =
       left-calls h c on ∙ ap (λ (g : History). afterCalls g (callsOf h c)) e ∙ sym (calls-behind (startOf legs) before (callsOf h c)) in
-      and-i (buildsField c || not (eqb (replyOf h c .number) 25)) (neverAnswered 25 (leftBy h c) cs) (answer-not-25 h (historyOf legs before) follows c)
+      and-i (buildsField c || not (eqb (replyOf h c .number) 25)) (onlyFieldsReply 25 (leftBy h c) cs) (answer-not-25 h (historyOf legs before) follows c)
       (never-25 (before ++ callsOf h c) (leftBy h c) next cs (and-r (goesOn c) (every goesOn cs) t))
 
 -- ---- what holds from the start

@@ -81,10 +81,10 @@ buildsField (spaced n) = false
 buildsField listed = false
 buildsField (builtFrom legs speed bytes) = true
 
--- no call but one that builds a field replies the number
-abbrev pub neverAnswered : ℕ → History → List HostCall → Bool
-neverAnswered number h [] = true
-neverAnswered number h (c ∷ cs) = (buildsField c || not (eqb (replyOf h c .number) number)) && neverAnswered number (leftBy h c) cs
+-- of the calls of a list only those that build a field may reply the number
+abbrev pub onlyFieldsReply : ℕ → History → List HostCall → Bool
+onlyFieldsReply number h [] = true
+onlyFieldsReply number h (c ∷ cs) = (buildsField c || not (eqb (replyOf h c .number) number)) && onlyFieldsReply number (leftBy h c) cs
 
 -- from the start with these legs, any list of calls that go on
 pub record FromStart (legs : Legs) (cs : List HostCall) : Type 0 where
@@ -93,7 +93,7 @@ pub record FromStart (legs : Legs) (cs : List HostCall) : Type 0 where
   -- .. of which everything holds that holds of any such list, demand 3 with it (02, 2.13)
   pub taken-back : TakenBack legs (allCallsOf (startOf legs) cs)
   -- 25 never comes, but where a field is to be built
-  pub no-25 : T (neverAnswered 25 (startOf legs) cs)
+  pub no-25 : T (onlyFieldsReply 25 (startOf legs) cs)
   -- held down then, the button empties the field within its bound, and says none (02, 2.6)
   pub ending : heldKept (leftByAll (startOf legs) cs) .ending ≡ ending.None
   pub nobody : presentOn (heldKept (leftByAll (startOf legs) cs) .after .now .field) ≡ 0
