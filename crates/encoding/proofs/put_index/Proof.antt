@@ -4,12 +4,12 @@ use native.Mathlib.Omega.{arith}
 use borrow.Author.Needs.{needs}
 use Rattle.layout.specs.Written.{indexEntryBytes}
 use Rattle.finder.proofs.IndexKnown.{index-known}
-use Rattle.encoding.proofs.Each.{Each, each-none, each-more, each-all}
+use Rattle.encoding.proofs.EachPut.{EachPut, each-none, each-more, each-all}
 use Rattle.encoding.proofs.put_index.Statement.{statement}
 use Rattle.encoding.proofs.put_index.Tie as tie
 
 abbrev Inv-loop : tie.InvT-loop
-Inv-loop out₀ at index end₀ i₀ out end i = Each indexEntryBytes (index .entries) 5 out₀ at out end i
+Inv-loop out₀ at index end₀ i₀ out end i = EachPut indexEntryBytes (index .entries) 5 out₀ at out end i
 
 abbrev μ-loop : tie.MeasureT-loop
 μ-loop out₀ at index end₀ i₀ out end i = 5 - i

@@ -4,12 +4,12 @@ use native.Mathlib.Omega.{arith}
 use borrow.Author.Needs.{needs}
 use Rattle.layout.specs.Written.{indexedBytes}
 use Rattle.history.proofs.HistoryKnown.{history-known}
-use Rattle.encoding.proofs.Each.{Each, each-none, each-more, each-all}
+use Rattle.encoding.proofs.EachPut.{EachPut, each-none, each-more, each-all}
 use Rattle.encoding.proofs.put_kept.Statement.{statement}
 use Rattle.encoding.proofs.put_kept.Tie as tie
 
 abbrev Inv-loop : tie.InvT-loop
-Inv-loop out₀ at h end₀ i₀ out end i = Each indexedBytes (h .kept) 8 out₀ at out end i
+Inv-loop out₀ at h end₀ i₀ out end i = EachPut indexedBytes (h .kept) 8 out₀ at out end i
 
 abbrev μ-loop : tie.MeasureT-loop
 μ-loop out₀ at h end₀ i₀ out end i = 8 - i

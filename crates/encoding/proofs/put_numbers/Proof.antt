@@ -4,12 +4,12 @@ use native.Mathlib.Omega.{arith}
 use borrow.Author.Needs.{needs}
 use Rattle.practice.specs.Practice.{bytes16}
 use Rattle.field.proofs.FieldKnown.{sequence-known}
-use Rattle.encoding.proofs.Each.{Each, each-none, each-more, each-all}
+use Rattle.encoding.proofs.EachPut.{EachPut, each-none, each-more, each-all}
 use Rattle.encoding.proofs.put_numbers.Statement.{statement}
 use Rattle.encoding.proofs.put_numbers.Tie as tie
 
 abbrev Inv-loop : tie.InvT-loop
-Inv-loop out₀ at s end₀ i₀ out end i = Each bytes16 (s .numbers) 4 out₀ at out end i
+Inv-loop out₀ at s end₀ i₀ out end i = EachPut bytes16 (s .numbers) 4 out₀ at out end i
 
 abbrev μ-loop : tie.MeasureT-loop
 μ-loop out₀ at s end₀ i₀ out end i = 4 - i

@@ -4,12 +4,12 @@ use native.Mathlib.Omega.{arith}
 use borrow.Author.Needs.{needs}
 use Rattle.layout.specs.Written.{aircraftBytes}
 use Rattle.field.proofs.FieldKnown.{zone-known}
-use Rattle.encoding.proofs.Each.{Each, each-none, each-more, each-all}
+use Rattle.encoding.proofs.EachPut.{EachPut, each-none, each-more, each-all}
 use Rattle.encoding.proofs.put_queue.Statement.{statement}
 use Rattle.encoding.proofs.put_queue.Tie as tie
 
 abbrev Inv-loop : tie.InvT-loop
-Inv-loop out₀ at z end₀ i₀ out end i = Each aircraftBytes (z .aircraft) 4 out₀ at out end i
+Inv-loop out₀ at z end₀ i₀ out end i = EachPut aircraftBytes (z .aircraft) 4 out₀ at out end i
 
 abbrev μ-loop : tie.MeasureT-loop
 μ-loop out₀ at z end₀ i₀ out end i = 4 - i

@@ -4,12 +4,12 @@ use native.Mathlib.Omega.{arith}
 use borrow.Author.Needs.{needs}
 use Rattle.layout.specs.Written.{zoneBytes}
 use Rattle.field.proofs.FieldKnown.{field-known}
-use Rattle.encoding.proofs.Each.{Each, each-none, each-more, each-all}
+use Rattle.encoding.proofs.EachPut.{EachPut, each-none, each-more, each-all}
 use Rattle.encoding.proofs.put_zones.Statement.{statement}
 use Rattle.encoding.proofs.put_zones.Tie as tie
 
 abbrev Inv-loop : tie.InvT-loop
-Inv-loop out₀ at f end₀ i₀ out end i = Each zoneBytes (f .zones) 13 out₀ at out end i
+Inv-loop out₀ at f end₀ i₀ out end i = EachPut zoneBytes (f .zones) 13 out₀ at out end i
 
 abbrev μ-loop : tie.MeasureT-loop
 μ-loop out₀ at f end₀ i₀ out end i = 13 - i
