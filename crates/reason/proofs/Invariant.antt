@@ -35,7 +35,7 @@ use Rattle.line.proofs.Leaders.{nonzero}
 use Rattle.line.proofs.Members.{numbers-total, count-append, count-absent, different-count, count-different, nonzero-count, count-nonzero}
 use Rattle.line.proofs.Orderly.{Orderly, opposite-num}
 use Rattle.reason.proofs.AlongLine.{asListed, room-same}
-use Rattle.reason.proofs.LineOfField.{sequence-is, lookedUp, lineOf, found-one, line-all, line-numbers, line-seen, queue-is, stands-for}
+use Rattle.reason.proofs.LineOfField.{sequence-is, lookedUp, landingLine, found-one, line-all, line-numbers, line-seen, queue-is, stands-for}
 use Rattle.reason.proofs.FromReason.{count-in, Facts, chain-from}
 
 -- ---- sides
@@ -153,7 +153,7 @@ module _ (f : Field) (h : Places f) (s : Within f) (p : Parts f) (c : Reason f) 
   ns = orderOf (f .sequence)
 
   abbrev line : List Placed
-  line = lineOf f
+  line = landingLine f
 
   queues : (z : ℕ) → T (within 1 12 z) → inZone f z ≡ inside z line
   queues z t = queue-is f (p .different) z t (c .queues-agree z t)
@@ -344,4 +344,4 @@ reason-orderly f k e =
     let c = k .reason in
     let s = within-each f (k .bounds) in
     let p = parts f s in
-    record { first = first-known f h s p c e .0; line = lineOf f; runway = inZone f 13; legs = f .legs; is = is-line f h s p c e; orderly = is-orderly f h s p c e }
+    record { first = first-known f h s p c e .0; line = landingLine f; runway = inZone f 13; legs = f .legs; is = is-line f h s p c e; orderly = is-orderly f h s p c e }

@@ -135,8 +135,8 @@ found f n (z ∷ zs) ws e = go (decided (eqb (placeFrom 1 n (inZone f z)) 0)) (f
 abbrev pub lookedUp : Field → ℕ → Placed
 lookedUp f n = record { aircraft = aircraftAt f (placeOf f n .zone) (placeOf f n .place); zone = placeOf f n .zone }
 
-abbrev pub lineOf : Field → List Placed
-lineOf f = map (lookedUp f) (orderOf (f .sequence))
+abbrev pub landingLine : Field → List Placed
+landingLine f = map (lookedUp f) (orderOf (f .sequence))
 
 -- sums over zones that name two of them
 one-in-total : (g : ℕ → ℕ) (zs : List ℕ) (z : ℕ) → isIn z zs ≡ true → g z ≤ total g zs
@@ -221,7 +221,7 @@ module _ (f : Field) where
         ap (λ (a : Aircraft). a ∷ post) (sym h) ∙ ap (λ (l : List Aircraft). lookedUp f (x .number) .aircraft ∷ l) r
 
     -- a queue that agrees with the sequence is the line inside its zone
-    pub queue-is : (z : ℕ) → T (within 1 12 z) → QueueAgrees f z → inZone f z ≡ inside z (lineOf f)
+    pub queue-is : (z : ℕ) → T (within 1 12 z) → QueueAgrees f z → inZone f z ≡ inside z (landingLine f)
     unfolding sequenceListed
     queue-is z t a =
         queue-found z (lower z t) [] (inZone f z) refl
@@ -245,14 +245,14 @@ module _ (f : Field) where
 
 -- ---- the field is that of its line
 pub stands-for : (f : Field) (first : Side) → length (f .zones) ≡ 13 → ((z : ℕ) → T (within 1 13 z) → zoneOf f z ≡ zoneFor (inZone f z))
-    → ((z : ℕ) → T (within 1 12 z) → inZone f z ≡ inside z (lineOf f))
-    → f .sequence ≡ sequenceFor (numbersOf (lineOf f)) → f .next ≡ num (nextFix first (zonesIn (lineOf f))) → f ≡ fieldOf first (lineOf f) (inZone f 13) (f .legs)
+    → ((z : ℕ) → T (within 1 12 z) → inZone f z ≡ inside z (landingLine f))
+    → f .sequence ≡ sequenceFor (numbersOf (landingLine f)) → f .next ≡ num (nextFix first (zonesIn (landingLine f))) → f ≡ fieldOf first (landingLine f) (inZone f 13) (f .legs)
 unfolding fieldOf
 stands-for f first e q i s n =
-    let g = zonesOf (lineOf f) (inZone f 13) in
+    let g = zonesOf (landingLine f) (inZone f 13) in
     let z = zones-are f e in
     let zones : fieldBy (zoneOf f) (f .sequence) (f .next) (f .legs) ≡ fieldBy g (f .sequence) (f .next) (f .legs) =
     by-zones (zoneOf f) (f .sequence) (f .next) (f .legs) g
-    (zone-split {P = λ z. zoneOf f z ≡ g z} (q 13 tt) (λ z t. q z (lower z t) ∙ ap zoneFor (i z t) ∙ sym (if-false (zoneFor (inZone f 13)) (zoneFor (inside z (lineOf f))) (not-13 z t)))) in
+    (zone-split {P = λ z. zoneOf f z ≡ g z} (q 13 tt) (λ z t. q z (lower z t) ∙ ap zoneFor (i z t) ∙ sym (if-false (zoneFor (inZone f 13)) (zoneFor (inside z (landingLine f))) (not-13 z t)))) in
     let whole : f ≡ fieldBy (zoneOf f) (f .sequence) (f .next) (f .legs) = λ j. record { zones = z j; sequence = f .sequence; next = f .next; legs = f .legs } in
     whole ∙ zones ∙ (λ j. fieldBy g (s j) (n j) (f .legs))
