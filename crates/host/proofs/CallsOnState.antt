@@ -1,4 +1,4 @@
--- The state after a call, by its number. Assumes nothing.
+-- A start, a step and the button on the history that the bytes are read as, and the state after each. Assumes nothing.
 use mathlib.Core.Path.{_≡_, sym, ap, _∙_}
 use mathlib.Core.Bool.{true, false}
 use mathlib.Core.List.{List}

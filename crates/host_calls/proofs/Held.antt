@@ -1,4 +1,4 @@
--- Whatever a host calls, the history that is left is one of its type: it is read back from its bytes. Assumes nothing.
+-- Whatever a host calls leaves a history with its places and floats of 64 bits (`HistoryHeld`). Assumes nothing.
 use mathlib.Core.List.{List, [], _∷_}
 use Prim.Native.Nat.{ℕ}
 use lib.Dec.{eqb}
