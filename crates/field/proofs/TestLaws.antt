@@ -88,7 +88,7 @@ each-zone P p z t =
     each-from 1 13 P p z (leb→le 1 z (and-l (leb 1 z) (leb z 13) t)) (let h = leb→le z 13 (and-r (leb 1 z) (leb z 13) t) in omega arith)
 
 -- what holds of each zone of the operation area
-pub each-operation : (P : ℕ → Type 0) → P 1 × P 2 × P 3 × P 4 × P 5 × P 6 × P 7 × P 8 × P 9 × P 10 × P 11 × P 12 → (z : ℕ) → T (leb 1 z && leb z 12) → P z
+pub each-operation {ℓ} : (P : ℕ → Type ℓ) → P 1 × P 2 × P 3 × P 4 × P 5 × P 6 × P 7 × P 8 × P 9 × P 10 × P 11 × P 12 → (z : ℕ) → T (leb 1 z && leb z 12) → P z
 each-operation P (p1, p2, p3, p4, p5, p6, p7, p8, p9, p10, p11, p12) z t =
     each-zone (λ (y : ℕ). T (leb 1 y && leb y 12) → P y)
     ((λ u. p1), ((λ u. p2), ((λ u. p3), ((λ u. p4), ((λ u. p5), ((λ u. p6), ((λ u. p7), ((λ u. p8), ((λ u. p9), ((λ u. p10), ((λ u. p11), ((λ u. p12), ((λ u. absurd u), tt)))))))))))))

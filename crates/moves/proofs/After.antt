@@ -1,5 +1,5 @@
--- What an accepted request leaves behind, said of the order that the field stands for; and the moves of the line that are made of it.
--- Assumes nothing.
+-- What an accepted request leaves behind, said of the order that the field stands for; and a move on
+-- the line. Assumes nothing.
 use mathlib.Core.Path.{_≡_, refl, sym, ap, _∙_, subst}
 use mathlib.Core.Bool.{Bool, true, false, not, _&&_, _||_}
 use mathlib.Core.List.{List, _∷_, _++_, map}
@@ -7,18 +7,17 @@ use Prim.Native.Nat.{ℕ, _+_, _≤_}
 use native.Mathlib.Omega.{arith}
 use lib.Dec.{T, eqb}
 use lib.ListN.{length}
-use lib.Ieee.Fits.{and-l, and-r}
+use lib.Ieee.Fits.{and-l}
 use Rattle.request.specs.Input.{within, isEntry}
 use Rattle.request.specs.declared.Request.{Request}
 use Rattle.field.specs.declared.Aircraft.{Aircraft}
 use Rattle.field.specs.declared.Legs.{Legs}
 use Rattle.field.specs.Lists.{every}
-use Rattle.order.specs.Model.{Side, free, Kind, needs, target, okay, weight, one}
-use Rattle.order.proofs.Facts.{okay-length, okay-zones, moves}
+use Rattle.order.specs.Model.{Side, free, okay, weight, one}
+use Rattle.order.proofs.Facts.{Moved, okay-length, okay-zones}
 use Rattle.rules.specs.Kinds.{moved}
 use Rattle.rules.specs.Step.{effectOf}
 use Rattle.rules.specs.Play.{addsMoves}
-use Rattle.field.proofs.NumberLists.{or-false-left}
 use Rattle.field.proofs.TestLaws.{failed}
 use Rattle.field.proofs.ArrivalLaws.{into-arrived}
 use Rattle.laws.proofs.Fits.{arrived-fits}
@@ -28,10 +27,10 @@ use Rattle.line.proofs.CountedOnLine.{free-inside}
 use Rattle.line.proofs.Leaders.{all-at}
 use Rattle.line.proofs.Orderly.{Orderly, length-zones}
 use Rattle.moves.proofs.Moves.{into, MayMove, moved-line}
-use Rattle.moves.proofs.Owners.{owners, owners-all, passing, desksOn, same-desks}
+use Rattle.moves.proofs.Owners.{owners, owners-all}
 use Rattle.moves.proofs.TickOnLine.{tickPlaced}
 use Rattle.moves.proofs.StaysOrderly.{changed, placedFits}
-use Rattle.moves.proofs.Carried.{onward-into, Carried, carried-one}
+use Rattle.moves.proofs.Carried.{Carried}
 
 -- ---- after an accepted request
 
@@ -70,10 +69,6 @@ balance-all f line runway legs r x =
     both true = refl
     both false = refl
 
--- a kind that moves an aircraft from zone to zone: no entry, no taxi, no exit, no miss
-abbrev pub staysOn : ℕ → Bool
-staysOn kind = not (leaves kind) && not (addsMoves kind)
-
 pub one-le : (b : Bool) → one b ≤ 1
 one-le true = omega arith
 one-le false = omega arith
@@ -88,7 +83,7 @@ okay-split f a e b t = subst (λ (l : List ℕ). T (okay f l)) (zones-split a e 
 pub okay-joined : (f : Side) (a : List Placed) (e : Placed) (b : List Placed) → T (okay f (zonesIn a ++ e .zone ∷ zonesIn b)) → T (okay f (zonesIn (a ++ e ∷ b)))
 okay-joined f a e b t = subst (λ (l : List ℕ). T (okay f l)) (sym (zones-split a e b)) t
 
--- ---- one of the line, at the head of its zone, moves to another zone
+-- ---- one of the line
 module _ (f : Side) (a : List Placed) (e : Placed) (b : List Placed) (runway : List Aircraft) (legs : Legs) (o : Orderly f (a ++ e ∷ b) runway legs) where
   pub zone-in : T (within 1 12 (e .zone))
   zone-in = all-at (within 1 12) (λ (p : Placed). p .zone) a e b (okay-zones f (zonesIn (a ++ e ∷ b)) (o .okay-line))
@@ -99,56 +94,36 @@ module _ (f : Side) (a : List Placed) (e : Placed) (b : List Placed) (runway : L
   pub fit-here : T (placedFits legs e)
   fit-here = and-l (placedFits legs e) (every (placedFits legs) b) (Rattle.line.proofs.AheadInLists.every-right (placedFits legs) a (e ∷ b) (o .fit-line))
 
-  -- a move that the model allows, to zone w
-  module _ (w : ℕ) (heads : T (free (zonesIn a) (e .zone))) (behind : T (free (zonesIn b) w)) (other : T (not (eqb w (e .zone))))
-      (in-zone : T (within 1 12 w)) (after : T (okay f (zonesIn a ++ w ∷ zonesIn b))) where
-    may-move : MayMove a e b w
-    may-move =
-        record {
-          from-zone = zone-in;
-          to-zone = in-zone;
-          other-zone = failed {b = eqb w (e .zone)} other;
-          heads = free-inside (e .zone) a heads;
-          none-behind = free-inside w b behind;
-          room = room-for;
-        }
+-- ---- one of the line, at the head of its zone, moves to another zone
 
-    pub moved-is : moved (fieldOf f (a ++ e ∷ b) runway legs) (e .zone) w ≡ fieldOf f (a ++ into legs w e ∷ b) runway legs
-    moved-is = moved-line f a e b runway legs w may-move (o .different)
+-- a move of e to zone w that the zones of the line allow
+pub record ZonesAllow (f : Side) (a : List Placed) (e : Placed) (b : List Placed) (w : ℕ) : Type 0 where
+  pub heads : T (free (zonesIn a) (e .zone))
+  pub none-behind : T (free (zonesIn b) w)
+  pub other : T (not (eqb w (e .zone)))
+  pub inside : T (within 1 12 w)
+  pub okay-after : T (okay f (zonesIn a ++ w ∷ zonesIn b))
 
-    pub moved-orderly : Orderly f (a ++ into legs w e ∷ b) runway legs
-    moved-orderly =
-        changed f a e (into legs w e) b runway legs o (okay-joined f a (into legs w e) b after) (into-arrived legs w (e .aircraft) .number)
-        (into-arrived legs w (e .aircraft) .fix) (arrived-fits legs (o .legal) (e .zone) w (e .aircraft) fit-here)
+-- a move that the model allows
+pub by-model : {f : Side} {a : List Placed} {e : Placed} {b : List Placed} {w : ℕ} → T (free (zonesIn a) (e .zone)) → Moved f (zonesIn a) (e .zone) w (zonesIn b) → ZonesAllow f a e b w
+by-model h m = record { heads = h; none-behind = m .none-behind; other = m .other; inside = m .inside; okay-after = m .okay-after }
 
-  -- a move of the model's, as a request's effect
-  pub line-move : (k : Kind) (r : Request) → T (free (zonesIn a) (e .zone)) → T (needs k (zonesIn a) (e .zone) (zonesIn b))
-      → effectOf (fieldOf f (a ++ e ∷ b) runway legs) r ≡ moved (fieldOf f (a ++ e ∷ b) runway legs) (e .zone) (target k (zonesIn a) (e .zone) (zonesIn b))
-      → T (staysOn (r .kind)) → (r .kind ≡ 12 → ⊥) → r .number ≡ e .aircraft .number → After f (a ++ e ∷ b) runway legs r
-  line-move k r heads n eff s tick named =
-      let w = target k (zonesIn a) (e .zone) (zonesIn b) in
-      let m = moves k f (zonesIn a) (e .zone) (zonesIn b) (okay-split f a e b (o .okay-line)) heads n in
+module _ {f : Side} {a : List Placed} {e : Placed} {b : List Placed} {w : ℕ} (m : ZonesAllow f a e b w) {runway : List Aircraft} {legs : Legs} (o : Orderly f (a ++ e ∷ b) runway legs) where
+  may-move : MayMove a e b w
+  may-move =
       record {
-        first-after = f;
-        line-after = a ++ into legs w e ∷ b;
-        runway-after = runway;
-        effect = eff ∙ moved-is w heads (m .none-behind) (m .other) (m .inside) (m .okay-after);
-        orderly = moved-orderly w heads (m .none-behind) (m .other) (m .inside) (m .okay-after);
-        balance = λ who. stay-balance r s (who (r .desk)) (passing who (desksOn runway)) (ap (passing who) (same-desks a e (into legs w e) b (into-arrived legs w (e .aircraft) .desk)));
-        lighter =
-            λ h.
-            let p = ap weight (zones-split a e b) in
-            let q = ap weight (zones-split a (into legs w e) b) in
-            let l = m .lighter in
-            let u = one-le (within 3 11 (r .kind)) in
-            omega arith;
-        carried = λ h. carried-one legs r a e (into legs w e) b runway (o .different) named (failed (and-r (not (leaves (r .kind))) (not (addsMoves (r .kind))) s)) (onward-into legs w e);
-        ticked-on = λ h. absurd (tick h);
-        runway-on = λ h. absurd (tick h);
+        from-zone = zone-in f a e b runway legs o;
+        to-zone = m .inside;
+        other-zone = failed {b = eqb w (e .zone)} (m .other);
+        heads = free-inside (e .zone) a (m .heads);
+        none-behind = free-inside w b (m .none-behind);
+        room = room-for f a e b runway legs o;
       }
-    where
-      stay-balance : (r : Request) → T (staysOn (r .kind)) → (t : Bool) (q : ℕ) → {m n : ℕ} → m ≡ n → m + q + one (leaves (r .kind) && t) ≡ n + q + one (isEntry (r .kind) && t)
-      stay-balance r s t q e =
-          let p = ap (λ (b : Bool). one (b && t)) (failed {b = leaves (r .kind)} (and-l (not (leaves (r .kind))) (not (addsMoves (r .kind))) s)) in
-          let v = ap (λ (b : Bool). one (b && t)) (or-false-left (isEntry (r .kind)) (eqb (r .kind) 10) (failed (and-r (not (leaves (r .kind))) (not (addsMoves (r .kind))) s))) in
-          omega arith
+
+  pub moved-is : moved (fieldOf f (a ++ e ∷ b) runway legs) (e .zone) w ≡ fieldOf f (a ++ into legs w e ∷ b) runway legs
+  moved-is = moved-line f a e b runway legs w may-move (o .different)
+
+  pub moved-orderly : Orderly f (a ++ into legs w e ∷ b) runway legs
+  moved-orderly =
+      changed f a e (into legs w e) b runway legs o (okay-joined f a (into legs w e) b (m .okay-after)) (into-arrived legs w (e .aircraft) .number)
+      (into-arrived legs w (e .aircraft) .fix) (arrived-fits legs (o .legal) (e .zone) w (e .aircraft) (fit-here f a e b runway legs o))

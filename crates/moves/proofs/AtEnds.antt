@@ -4,13 +4,14 @@ use mathlib.Core.Bool.{Bool, true, false, not, _&&_, _||_, true≢false}
 use mathlib.Core.List.{List, [], _∷_, _++_, map}
 use Prim.Native.Nat.{ℕ, suc, _+_, _≤_, _<_}
 use native.Mathlib.Omega.{arith}
-use lib.Dec.{T, eqb}
+use lib.Dec.{T, leb, eqb, leb→le}
 use lib.ListN.{length, length-append}
-use lib.Ieee.Fits.{and-l}
+use lib.Ieee.Fits.{and-l, and-r}
+use borrow.Author.Tests.{ne-eqb}
 use Rattle.request.specs.Input.{within, isEntry}
 use Rattle.request.specs.declared.Request.{Request}
-use Rattle.request.proofs.ByKind.{DeskKnown}
-use Rattle.limits.specs.Limits.{longestTick, fastest}
+use Rattle.request.proofs.ByKind.{EntryKnown}
+use Rattle.limits.specs.Limits.{longestTick}
 use Rattle.leg.specs.Ticks.{Between}
 use Rattle.field.specs.declared.Aircraft.{Aircraft}
 use Rattle.field.specs.declared.Legs.{Legs}
@@ -38,6 +39,7 @@ use Rattle.moves.proofs.Owners.{passing, owners, one-more, desks-ticked
 use Rattle.moves.proofs.StaysOrderly.{side-fits, first-gone, landed-on, runway-left, come, ticked-orderly}
 use Rattle.moves.proofs.Carried.{each-append, onRunway, onward-into, Turned, Entered, Came, went, turned, came-in, stay-all, stay-runway, apart-in}
 use Rattle.moves.proofs.After.{After, leaves, one-le, zone-in, room-for, fit-here}
+use Rattle.moves.proofs.Heads.{AtHead}
 use Rattle.rules.proofs.Checks.{effect-at}
 
 -- ---- the missed zone of a side
@@ -46,7 +48,10 @@ missed-zone rightSide = refl
 missed-zone leftSide = refl
 
 -- ---- the first of the line leaves the sequence
-module _ (f : Side) (e : Placed) (b : List Placed) (runway : List Aircraft) (legs : Legs) (o : Orderly f (e ∷ b) runway legs) (r : Request) (named : r .number ≡ e .aircraft .number) where
+module _ {f : Side} {e : Placed} {b : List Placed} {runway : List Aircraft} {legs : Legs} {r : Request} (m : AtHead f [] e b runway legs r) where
+  abbrev o : Orderly f (e ∷ b) runway legs
+  o = m .orderly
+
   abbrev F : Field
   F = fieldOf f (e ∷ b) runway legs
 
@@ -58,7 +63,7 @@ module _ (f : Side) (e : Placed) (b : List Placed) (runway : List Aircraft) (leg
 
   -- the others of the line and of the runway stay where they are
   behind-absent : isIn (r .number) (numbersOf b ++ numbers runway) ≡ false
-  behind-absent = ap (λ (m : ℕ). isIn m (numbersOf b ++ numbers runway)) named ∙ apart-in [] e b runway (o .different) .behind
+  behind-absent = ap (λ (m : ℕ). isIn m (numbersOf b ++ numbers runway)) (m .named) ∙ apart-in [] e b runway (o .different) .behind
 
   behind-all : (Q : Placed → Type 0) → Each Q (e ∷ b) → Each (Came legs r Q) b
   behind-all Q p = stay-all legs r Q b (absent-left (r .number) (numbersOf b) (numbers runway) behind-absent) (p .1)
@@ -67,19 +72,19 @@ module _ (f : Side) (e : Placed) (b : List Placed) (runway : List Aircraft) (leg
   runway-all Q = stay-runway legs r Q runway (absent-right (r .number) (numbersOf b) (numbers runway) behind-absent)
 
   -- kind 9
-  pub after-9 : r .kind ≡ 9 → e .zone ≡ 11 → r .desk ≡ e .aircraft .desk → After f (e ∷ b) runway legs r
-  after-9 h z own =
+  pub after-9 : r .kind ≡ 9 → e .zone ≡ 11 → After f (e ∷ b) runway legs r
+  after-9 h z =
       record {
         first-after = opp f;
         line-after = b;
         runway-after = runway;
-        effect = effect-at F r h ∙ first-exits f e b runway legs (zone-in f [] e b runway legs o) room z r named;
+        effect = effect-at F r h ∙ first-exits f e b runway legs (zone-in f [] e b runway legs o) room z r (m .named);
         orderly = first-gone f e b runway legs o rest-okay;
         balance =
             λ who.
-            let m = owners who b runway in
-            let t = ap (λ (d : ℕ). one (who d)) own in
-            subst (λ (k : ℕ). m + one (leaves k && who (r .desk)) ≡ owners who (e ∷ b) runway + one (isEntry k && who (r .desk))) (sym h) (omega arith);
+            let n = owners who b runway in
+            let t = ap (λ (d : ℕ). one (who d)) (m .owned-by) in
+            subst (λ (k : ℕ). n + one (leaves k && who (r .desk)) ≡ owners who (e ∷ b) runway + one (isEntry k && who (r .desk))) (sym h) (omega arith);
         lighter = λ u. let w = exit-lighter f (e .zone) (zonesIn b) z (o .okay-line) in let x = one-le (within 3 11 (r .kind)) in omega arith;
         carried = λ u. record { carry = λ Q p q. (behind-all Q p, runway-all Q q) };
         ticked-on = λ u. absurd (let n : 12 ≡ 9 = sym u ∙ h in omega arith);
@@ -92,7 +97,7 @@ module _ (f : Side) (e : Placed) (b : List Placed) (runway : List Aircraft) (leg
   after-10 h z =
       let w = missed (num f) in
       let fix = o .alternates .0 in
-      let g = misser f e b runway legs r z room fix named (o .different) in
+      let g = misser f e b runway legs r z room fix (m .named) (o .different) in
       let al = apart-in [] e b runway (o .different) in
       let gone = first-gone f e b runway legs o rest-okay in
       let same = into-arrived-by-miss legs w (e .aircraft) .number in
@@ -100,7 +105,7 @@ module _ (f : Side) (e : Placed) (b : List Placed) (runway : List Aircraft) (leg
         first-after = firstFix f (opp f) (zonesIn b);
         line-after = b ++ (g ∷ []);
         runway-after = runway;
-        effect = effect-at F r h ∙ misses-approach f e b runway legs r z room fix named (o .different);
+        effect = effect-at F r h ∙ misses-approach f e b runway legs r z room fix (m .named) (o .different);
         orderly =
             come f (opp f) b g runway legs gone (misses f (zonesIn b) (subst (λ (v : ℕ). T (okay f (v ∷ zonesIn b))) z (o .okay-line))) refl
             (subst (λ (n : ℕ). T (nonzero n)) (sym same) (and-l (nonzero (e .aircraft .number)) (every nonzero (numbersOf b ++ numbers runway)) (o .nonzeros)))
@@ -117,15 +122,15 @@ module _ (f : Side) (e : Placed) (b : List Placed) (runway : List Aircraft) (leg
             let i = into-arrived-by-miss legs w (e .aircraft) in
             let to : Turned legs e g =
             record { turned-number = i .number; turned-speed = i .speed; turned-waited = i .waited; begins-anew = i .progress; from-final = z; to-missed = missed-zone f; leg-ahead = i .leg-is } in
-            λ u. record { carry = λ Q p q. (each-append (Came legs r Q) b (g ∷ []) (behind-all Q p) (turned e (p .0) to (sym named) h, tt), runway-all Q q) };
+            λ u. record { carry = λ Q p q. (each-append (Came legs r Q) b (g ∷ []) (behind-all Q p) (turned e (p .0) to (sym (m .named)) h, tt), runway-all Q q) };
         ticked-on = λ u. absurd (let n : 12 ≡ 10 = sym u ∙ h in omega arith);
         runway-on = λ u. absurd (let n : 12 ≡ 10 = sym u ∙ h in omega arith);
       }
 
 -- kind 7
-pub after-7 : (f : Side) (e : Placed) (b : List Placed) (legs : Legs) (o : Orderly f (e ∷ b) [] legs) (r : Request) → r .number ≡ e .aircraft .number → r .kind ≡ 7
-    → e .zone ≡ 12 → After f (e ∷ b) [] legs r
-after-7 f e b legs o r named h z =
+pub after-7 : {f : Side} {e : Placed} {b : List Placed} {legs : Legs} {r : Request} (m : AtHead f [] e b [] legs r) → r .kind ≡ 7 → e .zone ≡ 12 → After f (e ∷ b) [] legs r
+after-7 {f} {e} {b} {legs} {r} m h z =
+    let o = m .orderly in
     let x = arrived legs 13 (e .aircraft) in
     let same = into-arrived legs 13 (e .aircraft) .number in
     let n = e .aircraft .number in
@@ -134,9 +139,9 @@ after-7 f e b legs o r named h z =
       first-after = opp f;
       line-after = b;
       runway-after = x ∷ [];
-      effect = effect-at (fieldOf f (e ∷ b) [] legs) r h ∙ first-lands f e b legs z (room f e b [] legs o r named) (o .different) r named;
+      effect = effect-at (fieldOf f (e ∷ b) [] legs) r h ∙ first-lands f e b legs z (room m) (o .different) r (m .named);
       orderly =
-          landed-on (opp f) b x legs (first-gone f e b [] legs o (rest-okay f e b [] legs o r named))
+          landed-on (opp f) b x legs (first-gone f e b [] legs o (rest-okay m))
           (subst (λ (m : ℕ). T (nonzero m)) (sym same) (and-l (nonzero n) (every nonzero (numbersOf b ++ [])) (o .nonzeros)))
           (ap (λ (m : ℕ). isIn m (numbersOf b)) same ∙ absent-left n (numbersOf b) [] (al .behind))
           (arrived-fits legs (o .legal) (e .zone) 13 (e .aircraft) (fit-here f [] e b [] legs o));
@@ -145,15 +150,15 @@ after-7 f e b legs o r named h z =
           let t = ap (λ (d : ℕ). one (who d)) (into-arrived legs 13 (e .aircraft) .desk) in
           subst (λ (k : ℕ). owners who b (x ∷ []) + one (leaves k && who (r .desk)) ≡ owners who (e ∷ b) [] + one (isEntry k && who (r .desk))) (sym h) (omega arith);
       lighter = λ u. let w = landing-lighter f (e .zone) (zonesIn b) z (o .okay-line) in let y = one-le (within 3 11 (r .kind)) in omega arith;
-      carried = λ u. record { carry = λ Q p q. (behind-all f e b [] legs o r named Q p, (went e (p .0) (onward-into legs 13 e) (sym named) (ap addsMoves h), tt)) };
+      carried = λ u. record { carry = λ Q p q. (behind-all m Q p, (went e (p .0) (onward-into legs 13 e) (sym (m .named)) (ap addsMoves h), tt)) };
       ticked-on = λ u. absurd (let n : 12 ≡ 7 = sym u ∙ h in omega arith);
       runway-on = λ u. absurd (let n : 12 ≡ 7 = sym u ∙ h in omega arith);
     }
 
 -- kind 8
-pub after-8 : (f : Side) (line : List Placed) (x : Aircraft) (legs : Legs) (o : Orderly f line (x ∷ []) legs) (r : Request) → r .number ≡ x .number → r .kind ≡ 8
+pub after-8 : {f : Side} {line : List Placed} {x : Aircraft} {legs : Legs} (o : Orderly f line (x ∷ []) legs) (r : Request) → r .number ≡ x .number → r .kind ≡ 8
     → r .desk ≡ x .desk → After f line (x ∷ []) legs r
-after-8 f line x legs o r named h own =
+after-8 {f} {line} {x} {legs} o r named h own =
     record {
       first-after = f;
       line-after = line;
@@ -173,55 +178,70 @@ after-8 f line x legs o r named h own =
     not-in-line : isIn (x .number) (numbersOf line) ≡ false
     not-in-line = Rattle.field.proofs.NumberLists.alone (numbersOf line) (x .number) [] (o .different) .ahead
 
--- kinds 1 and 2, into zone w
-pub after-entry : (s f : Side) (line : List Placed) (runway : List Aircraft) (legs : Legs) (o : Orderly f line runway legs) (r : Request) (w : ℕ) → T (within 1 12 w)
-    → T (not (isFlyingZone w)) → r .side ≡ num s
-    → T (isEntry (r .kind)) → effectOf (fieldOf f line runway legs) r ≡ entered (fieldOf f line runway legs) r w
-    → T (okay (firstFix s f (zonesIn line)) (zonesIn line ++ (w ∷ []))) → 1 ≤ r .number → isIn (r .number) (numbersOf line ++ numbers runway) ≡ false → Between 1 fastest (r .amount)
-    → DeskKnown (r .desk) → (r .kind ≡ 12 → ⊥) → T (not (leaves (r .kind))) → After f line runway legs r
+-- ---- kinds 1 and 2, by side s into zone w
+pub record MayCome (s f : Side) (line : List Placed) (runway : List Aircraft) (legs : Legs) (r : Request) (w : ℕ) : Type 0 where
+  pub orderly : Orderly f line runway legs
+  pub entry : T (isEntry (r .kind))
+  pub known : EntryKnown r
+  pub side-is : r .side ≡ num s
+  pub new-number : isIn (r .number) (numbersOf line ++ numbers runway) ≡ false
+  pub inside : T (within 1 12 w)
+  pub not-flown : T (not (isFlyingZone w))
+  pub effect : effectOf (fieldOf f line runway legs) r ≡ entered (fieldOf f line runway legs) r w
+  pub okay-after : T (okay (firstFix s f (zonesIn line)) (zonesIn line ++ (w ∷ [])))
+
+-- an entry is no other kind
+entry-only : (k : ℕ) → T (isEntry k) → leaves k ≡ false
+entry-only k t =
+    let low = leb→le 1 k (and-l (leb 1 k) (leb k 2) t) in
+    let high = leb→le k 2 (and-r (leb 1 k) (leb k 2) t) in
+    ap (λ (b : Bool). b || eqb k 9) (ne-eqb k 8 (λ q. omega arith)) ∙ ne-eqb k 9 (λ q. omega arith)
+
+pub after-entry : {s f : Side} {line : List Placed} {runway : List Aircraft} {legs : Legs} {r : Request} {w : ℕ} → MayCome s f line runway legs r w → After f line runway legs r
 unfolding entering
-after-entry s f line runway legs o r w t u side kind eff k n d fast desk tick stays =
-    let room = let p = okay-length (firstFix s f (zonesIn line)) (zonesIn line ++ (w ∷ [])) k in let q = length-append (zonesIn line) (w ∷ []) in
+after-entry {s} {f} {line} {runway} {legs} {r} {w} m =
+    let room = let p = okay-length (firstFix s f (zonesIn line)) (zonesIn line ++ (w ∷ [])) (m .okay-after) in let q = length-append (zonesIn line) (w ∷ []) in
     let v = length-zones line in let g : length line < 4 = omega arith in g in
-    let e = entrant s f line runway legs r w t room side in
+    let e = entrant s f line runway legs r w (m .inside) room (m .side-is) in
+    let entry = passed {b = isEntry (r .kind)} (m .entry) in
+    let waits = failed {b = isFlyingZone w} (m .not-flown) in
+    let known = m .known in
+    let tick : r .kind ≡ 12 → ⊥ = λ h. subst (λ (k : ℕ). T (isEntry k)) h (m .entry) in
     record {
       first-after = firstFix s f (zonesIn line);
       line-after = line ++ (e ∷ []);
       runway-after = runway;
-      effect = eff ∙ enters s f line runway legs r w t room side;
+      effect = m .effect ∙ enters s f line runway legs r w (m .inside) room (m .side-is);
       orderly =
-          come s f line e runway legs o k refl (fail (borrow.Author.Tests.ne-eqb (r .number) 0 (λ q. omega arith))) d
+          come s f line e runway legs (m .orderly) (m .okay-after) refl (fail (ne-eqb (r .number) 0 (λ q. let l = known .number in omega arith))) (m .new-number)
           (entering-fits legs w (r .number) (num (entryFix s f (zonesIn line))) (r .amount) (r .desk)
-          (side-fits (entryFix s f (zonesIn line))) fast (record { least = desk .low; most = desk .high }) (failed {b = isFlyingZone w} u));
+          (side-fits (entryFix s f (zonesIn line))) (record { least = known .speed-low; most = known .speed-high }) (record { least = known .desk .low; most = known .desk .high }) waits);
       balance =
           λ who.
           let p = one-more who line e in
-          let q = ap (λ (b : Bool). one (b && who (r .desk))) (passed {b = isEntry (r .kind)} kind) in
-          let v = ap (λ (b : Bool). one (b && who (r .desk))) (failed {b = leaves (r .kind)} stays) in
+          let q = ap (λ (b : Bool). one (b && who (r .desk))) entry in
+          let v = ap (λ (b : Bool). one (b && who (r .desk))) (entry-only (r .kind) (m .entry)) in
           omega arith;
-      lighter = λ v. absurd (true≢false (sym (adds kind) ∙ v));
+      lighter = λ v. absurd (true≢false (sym (ap (λ (b : Bool). b || eqb (r .kind) 10) entry) ∙ v));
       carried =
           let new : Entered r e =
-          record { an-entry = passed {b = isEntry (r .kind)} kind; new-number = refl; new-speed = refl; none-waited = refl; no-leg = refl; not-flown = failed {b = isFlyingZone w} u } in
+          record { an-entry = entry; new-number = refl; new-speed = refl; none-waited = refl; no-leg = refl; not-flown = waits } in
           λ v.
           record {
             carry =
                 λ Q p q. (
-                  each-append (Came legs r Q) line (e ∷ []) (stay-all legs r Q line (absent-left (r .number) (numbersOf line) (numbers runway) d) p) (came-in new, tt),
-                  stay-runway legs r Q runway (absent-right (r .number) (numbersOf line) (numbers runway) d) q,
+                  each-append (Came legs r Q) line (e ∷ []) (stay-all legs r Q line (absent-left (r .number) (numbersOf line) (numbers runway) (m .new-number)) p) (came-in new, tt),
+                  stay-runway legs r Q runway (absent-right (r .number) (numbersOf line) (numbers runway) (m .new-number)) q,
                 );
           };
       ticked-on = λ v. absurd (tick v);
       runway-on = λ v. absurd (tick v);
     }
-  where
-    adds : T (isEntry (r .kind)) → addsMoves (r .kind) ≡ true
-    adds v = ap (λ (b : Bool). b || eqb (r .kind) 10) (passed {b = isEntry (r .kind)} v)
 
 -- kind 12
-pub after-12 : (f : Side) (line : List Placed) (runway : List Aircraft) (legs : Legs) (o : Orderly f line runway legs) (r : Request) → r .kind ≡ 12
+pub after-12 : {f : Side} {line : List Placed} {runway : List Aircraft} {legs : Legs} (o : Orderly f line runway legs) (r : Request) → r .kind ≡ 12
     → Between 1 longestTick (r .amount) → After f line runway legs r
-after-12 f line runway legs o r h amount =
+after-12 {f} {line} {runway} {legs} o r h amount =
     let four = let p = okay-length f (zonesIn line) (o .okay-line) in let q = length-zones line in let g : length line ≤ 4 = omega arith in g in
     record {
       first-after = f;

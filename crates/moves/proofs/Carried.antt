@@ -74,12 +74,19 @@ pub record Entered (r : Request) (g : Placed) : Type 0 where
   pub no-leg : g .aircraft .leg ≡ whole 0
   pub not-flown : isFlyingZone (g .zone) ≡ false
 
+-- e, which the request does not name, has gone along from one zone that is not flown in to another, as g
+pub record WentAlong (legs : Legs) (r : Request) (e g : Placed) : Type 0 where
+  pub onward : Onward legs e g
+  pub not-named : e .aircraft .number ≡ r .number → ⊥
+  pub waited-before : isFlyingZone (e .zone) ≡ false
+  pub waits-after : isFlyingZone (g .zone) ≡ false
+
 -- where g comes from, where Q held of each one before
 pub data Came (legs : Legs) (r : Request) (Q : Placed → Type 0) (g : Placed) : Type 0 where
   stayed : (g .aircraft .number ≡ r .number → ⊥) → Q g → Came legs r Q g
   went : (e : Placed) → Q e → Onward legs e g → e .aircraft .number ≡ r .number → addsMoves (r .kind) ≡ false → Came legs r Q g
   turned : (e : Placed) → Q e → Turned legs e g → e .aircraft .number ≡ r .number → r .kind ≡ 10 → Came legs r Q g
-  followed : (e : Placed) → Q e → Onward legs e g → (e .aircraft .number ≡ r .number → ⊥) → isFlyingZone (e .zone) ≡ false → isFlyingZone (g .zone) ≡ false → Came legs r Q g
+  followed : (e : Placed) → Q e → WentAlong legs r e g → Came legs r Q g
   came-in : Entered r g → Came legs r Q g
 
 pub record Carried (legs : Legs) (r : Request) (line : List Placed) (runway : List Aircraft) (line-after : List Placed) (runway-after : List Aircraft) : Type 1 where
@@ -125,22 +132,21 @@ carried-one legs r a e g b runway d named k on =
     }
 
 -- one with another number than the request's has gone along before that
-pub followed-first : (legs : Legs) (r : Request) (a : List Placed) (x y : Placed) (b : List Placed) (runway : List Aircraft) (after : List Placed) (left : List Aircraft)
-    → (x .aircraft .number ≡ r .number → ⊥) → Onward legs x y
-    → isFlyingZone (x .zone) ≡ false → isFlyingZone (y .zone) ≡ false → Carried legs r (a ++ y ∷ b) runway after left → Carried legs r (a ++ x ∷ b) runway after left
-followed-first legs r a x y b runway after left other on from to c =
+pub followed-first : (a : List Placed) {x y : Placed} (b : List Placed) {legs : Legs} {r : Request} → WentAlong legs r x y → {runway : List Aircraft} {after : List Placed} {left : List Aircraft}
+    → Carried legs r (a ++ y ∷ b) runway after left → Carried legs r (a ++ x ∷ b) runway after left
+followed-first a {x} {y} b {legs} {r} along {runway} {after} {left} c =
     record {
       carry =
           λ Q p q.
           let rest = each-right Q a (x ∷ b) p in
-          let down : Each (First Q) (a ++ y ∷ b) = each-append (First Q) a (y ∷ b) (firsts Q a (each-left Q a (x ∷ b) p)) (inr (x, rest .0, on, other, from, to), firsts Q b (rest .1)) in
+          let down : Each (First Q) (a ++ y ∷ b) = each-append (First Q) a (y ∷ b) (firsts Q a (each-left Q a (x ∷ b) p)) (inr (x, rest .0, along), firsts Q b (rest .1)) in
           let both = c .carry (First Q) down (firsts Q (map onRunway runway) q) in
           (backs Q after (both .0), backs Q (map onRunway left) (both .1));
     }
   where
     -- Q holds of it, or held before it went along
     First : (Placed → Type 0) → Placed → Type 0
-    First Q g = Q g ⊎ ((e : Placed) × Q e × Onward legs e g × (e .aircraft .number ≡ r .number → ⊥) × (isFlyingZone (e .zone) ≡ false) × (isFlyingZone (g .zone) ≡ false))
+    First Q g = Q g ⊎ ((e : Placed) × Q e × WentAlong legs r e g)
 
     firsts : (Q : Placed → Type 0) (l : List Placed) → Each Q l → Each (First Q) l
     firsts Q [] p = tt
@@ -148,13 +154,15 @@ followed-first legs r a x y b runway after left other on from to c =
 
     back : (Q : Placed → Type 0) (g : Placed) → Came legs r (First Q) g → Came legs r Q g
     back Q g (stayed n (inl p)) = stayed n p
-    back Q g (stayed n (inr v)) = followed (v .0) (v .1) (v .2) (v .3) (v .4) (v .5)
+    back Q g (stayed n (inr v)) = followed (v .0) (v .1) (v .2)
     back Q g (went e (inl p) on n k) = went e p on n k
-    back Q g (went e (inr v) on n k) = absurd (v .3 (sym (v .2 .same-number) ∙ n))
+    back Q g (went e (inr v) on n k) = absurd (v .2 .not-named (sym (v .2 .onward .same-number) ∙ n))
     back Q g (turned e (inl p) on n k) = turned e p on n k
-    back Q g (turned e (inr v) on n k) = absurd (v .3 (sym (v .2 .same-number) ∙ n))
-    back Q g (followed e (inl p) on n i j) = followed e p on n i j
-    back Q g (followed e (inr v) on n i j) = followed (v .0) (v .1) (joined (v .2) on) (v .3) (v .4) j
+    back Q g (turned e (inr v) on n k) = absurd (v .2 .not-named (sym (v .2 .onward .same-number) ∙ n))
+    back Q g (followed e (inl p) on) = followed e p on
+    back Q g (followed e (inr v) on) =
+        let x = v .2 in
+        followed (v .0) (v .1) (record { onward = joined (x .onward) (on .onward); not-named = x .not-named; waited-before = x .waited-before; waits-after = on .waits-after })
       where
         joined : {x y z : Placed} → Onward legs x y → Onward legs y z → Onward legs x z
         joined s t =

@@ -1,13 +1,13 @@
 -- Kinds 3 to 11, a lemma for each: a request that passes its checks leaves a field that an orderly line stands for. Assumes nothing.
 use mathlib.Core.Path.{_≡_, refl, sym, ap, _∙_, subst}
 use mathlib.Core.Logic.{inl, inr}
-use mathlib.Core.Bool.{true, false, cond, not, true≢false, false≢true}
+use mathlib.Core.Bool.{true, false, cond, not, _&&_, true≢false, false≢true}
 use mathlib.Core.List.{List, [], _∷_, _++_, append-assoc}
 use Prim.Native.Nat.{ℕ}
 use native.Mathlib.Omega.{arith}
 use lib.Dec.{T, leb, eqb, leb→le, eqb→eq}
 use lib.ListN.{length}
-use lib.Ieee.Fits.{and-r}
+use lib.Ieee.Fits.{and-l, and-r}
 use borrow.Author.Tests.{eqb-true, eq-eqb}
 use Rattle.request.specs.Input.{within, firstRefused}
 use Rattle.request.specs.declared.Request.{Request}
@@ -30,7 +30,7 @@ use Rattle.line.proofs.Located.{first-there}
 use Rattle.line.proofs.Members.{count-append}
 use Rattle.line.proofs.Orderly.{Orderly, Split, first-in}
 use Rattle.moves.proofs.After.{After, zone-in, okay-split}
-use Rattle.moves.proofs.Heads.{Heading, heading}
+use Rattle.moves.proofs.Heads.{AtHead, Heading, heading}
 use Rattle.rules.proofs.Checks.{effect-at, head-passed, besides, owned}
 use Rattle.moves.proofs.OnLine.{MissedZone, eleven-from, zone-before, from-kind, empty-free, after-3, after-4, after-5, after-6, after-11}
 use Rattle.moves.proofs.HoldBoth.{after-both}
@@ -73,9 +73,8 @@ unfolding sideOf
 missed-apart z t u = failed {b = eqb z (at3000 (sideOf z))} (zones-imply (within 7 8) (λ z. not (eqb z (at3000 (sideOf z)))) tt z t u)
 
 -- ---- kind 11 where 3000 is occupied
-module _ (f : Side) (a : List Placed) (e : Placed) (b : List Placed) (runway : List Aircraft) (legs : Legs) (o : Orderly f (a ++ e ∷ b) runway legs) (r : Request)
-    (named : r .number ≡ e .aircraft .number) (heads : T (free (zonesIn a) (e .zone))) (place-is : placeOf (fieldOf f (a ++ e ∷ b) runway legs) (r .number) ≡ at (e .zone) 1)
-    (starts : T (startsFrom (r .kind) (e .zone))) (h : r .kind ≡ 11) (occupied : isEmpty (fieldOf f (a ++ e ∷ b) runway legs) (at3000 (sideOf (e .zone))) ≡ false) where
+module _ {f : Side} {a : List Placed} {e : Placed} {b : List Placed} {runway : List Aircraft} {legs : Legs} {r : Request} (m : AtHead f a e b runway legs r)
+    (h : r .kind ≡ 11) (occupied : isEmpty (fieldOf f (a ++ e ∷ b) runway legs) (at3000 (sideOf (e .zone))) ≡ false) where
   abbrev F : Field
   F = fieldOf f (a ++ e ∷ b) runway legs
 
@@ -85,87 +84,109 @@ module _ (f : Side) (a : List Placed) (e : Placed) (b : List Placed) (runway : L
   abbrev y : ℕ
   y = at3000 (sideOf z)
 
+  in-13 : T (within 1 13 z)
+  in-13 = lower z (zone-in f a e b runway legs (m .orderly))
+
   from-11 : MissedZone z
-  from-11 = eleven-from z (lower z (zone-in f a e b runway legs o)) (from-kind f a e b runway legs o r named heads place-is starts h)
+  from-11 = eleven-from z in-13 (from-kind m h)
 
   -- the one at 3000 is ahead
   not-free : T (free (zonesIn a) y) → ⊥
   not-free t =
       let p = eqb→eq (count (zonesIn a) y) 0 t in
-      let q = eqb→eq (count (zonesIn b) y) 0 (hold-ahead f (zonesIn a) z (zonesIn b) (from-11 .is-missed) (okay-split f a e b (o .okay-line))) in
-      let m : one (eqb z y) ≡ 0 = ap one (missed-apart z (lower z (zone-in f a e b runway legs o)) (from-11 .is-missed)) in
+      let q = eqb→eq (count (zonesIn b) y) 0 (hold-ahead f (zonesIn a) z (zonesIn b) (from-11 .is-missed) (okay-split f a e b (m .orderly .okay-line))) in
+      let n : one (eqb z y) ≡ 0 = ap one (missed-apart z in-13 (from-11 .is-missed)) in
       let c = count-append (zonesIn a) (z ∷ zonesIn b) y in
-      true≢false (sym (eq-eqb (count (zonesIn a ++ z ∷ zonesIn b) y) 0 (omega arith)) ∙ sym (empty-free f a e b runway legs o r named heads place-is starts y (from-11 .above)) ∙ occupied)
+      true≢false (sym (eq-eqb (count (zonesIn a ++ z ∷ zonesIn b) y) 0 (omega arith)) ∙ sym (empty-free m y (from-11 .above)) ∙ occupied)
 
-  by-split : Split y a → After f (a ++ e ∷ b) runway legs r
+  moves-both : effectOf F r ≡ moved (moved F y (at2000 (sideOf z))) z y
   unfolding held
-  by-split s =
-      let a₁ = s .ahead in
-      let g = s .here in
-      let a₂ = s .behind in
-      let w : a ++ e ∷ b ≡ a₁ ++ g ∷ (a₂ ++ e ∷ b) = ap (λ (l : List Placed). l ++ e ∷ b) (s .whole) ∙ append-assoc a₁ (g ∷ a₂) (e ∷ b) in
-      let eff : effectOf F r ≡ moved (moved F y (at2000 (sideOf z))) z y =
+  moves-both =
       effect-at F r h
       ∙ ap (λ (v : ℕ). cond (isEmpty F (at3000 (sideOf v))) (cond (isEmpty F (at2000 (sideOf v))) (moved F v (at2000 (sideOf v))) (moved F v (at3000 (sideOf v))))
-      (moved (moved F (at3000 (sideOf v)) (at2000 (sideOf v))) v (at3000 (sideOf v)))) (zone-before f a e b runway legs o r named heads place-is starts)
-      ∙ if-false (cond (isEmpty F (at2000 (sideOf z))) (moved F z (at2000 (sideOf z))) (moved F z y)) (moved (moved F y (at2000 (sideOf z))) z y) occupied in
-      subst (λ (l : List Placed). After f l runway legs r) (sym w)
-      (after-both f a₁ g a₂ e b runway legs (subst (λ (l : List Placed). Orderly f l runway legs) w o) r named
-      (from-11 .is-missed) (s .at-zone) (subst (λ (l : List Placed). T (free (zonesIn l) z)) (s .whole) heads) h
-      (subst (λ (l : List Placed). effectOf (fieldOf f l runway legs) r ≡ moved (moved (fieldOf f l runway legs) y (at2000 (sideOf z))) z y) w eff))
+      (moved (moved F (at3000 (sideOf v)) (at2000 (sideOf v))) v (at3000 (sideOf v)))) (zone-before m)
+      ∙ if-false (cond (isEmpty F (at2000 (sideOf z))) (moved F z (at2000 (sideOf z))) (moved F z y)) (moved (moved F y (at2000 (sideOf z))) z y) occupied
+
+  by-split : Split y a → After f (a ++ e ∷ b) runway legs r
+  by-split s =
+      let w = s .whole in
+      subst (λ (l : List Placed). After f (l ++ e ∷ b) runway legs r) (sym w)
+      (after-both (s .ahead) (s .here) (s .behind) (subst (λ (l : List Placed). AtHead f l e b runway legs r) w m) (from-11 .is-missed) (s .at-zone) h
+      (subst (λ (l : List Placed). effectOf (fieldOf f (l ++ e ∷ b) runway legs) r ≡ moved (moved (fieldOf f (l ++ e ∷ b) runway legs) y (at2000 (sideOf z))) z y) w moves-both))
 
   pub after-11-both : After f (a ++ e ∷ b) runway legs r
   after-11-both = elim (first-in y a) [ inl t ↦ absurd (not-free t) | inr s ↦ by-split s ]
 
 -- ---- kinds 3 to 11
-module _ (f : Side) (line : List Placed) (runway : List Aircraft) (legs : Legs) (o : Orderly f line runway legs) (r : Request) where
+module _ {f : Side} {line : List Placed} {runway : List Aircraft} {legs : Legs} (o : Orderly f line runway legs) (r : Request) where
   abbrev G : Field
   G = fieldOf f line runway legs
 
+  -- the field as seen from one of its line
+  abbrev around : Heading f line runway legs r → List Placed
+  around h = h .ahead ++ h .here ∷ h .behind
+
   -- the aircraft of a request whose kind starts from a zone of the line
-  moving : (k : ℕ) → r .kind ≡ k → T (within 1 13 k) → (k ≡ 8 → ⊥) → firstRefused (headChecks k (placeBefore G r) (owned G r) ++ besides G r k) ≡ 0
-      → ((h : Heading f line runway legs r) → Orderly f (h .ahead ++ h .here ∷ h .behind) runway legs
-      → firstRefused (besides (fieldOf f (h .ahead ++ h .here ∷ h .behind) runway legs) r k) ≡ 0 → After f (h .ahead ++ h .here ∷ h .behind) runway legs r)
+  moving : (k : ℕ) → r .kind ≡ k → T (within 1 13 k && not (eqb k 8)) → firstRefused (headChecks k (placeBefore G r) (owned G r) ++ besides G r k) ≡ 0
+      → ((h : Heading f line runway legs r) → firstRefused (besides (fieldOf f (around h) runway legs) r k) ≡ 0 → After f (around h) runway legs r)
       → After f line runway legs r
-  moving k h t n c go =
+  moving k h t c go =
       let p = head-passed k (placeBefore G r) (owned G r) (besides G r k) c in
       let starts = ap (λ (j : ℕ). startsFrom j (zoneBefore G r)) h ∙ p .starts in
       elim (heading f line runway legs o r (p .known) (p .owned-by) starts (p .first)) [
         | inl d ↦
-            let w = d .whole in
-            subst (λ (l : List Placed). After f l runway legs r) (sym w)
-            (go d (subst (λ (l : List Placed). Orderly f l runway legs) w o) (subst (λ (l : List Placed). firstRefused (besides (fieldOf f l runway legs) r k) ≡ 0) w (p .others)))
-        | inr d ↦ absurd (n (runway-only k t (subst (λ (j : ℕ). T (startsFrom j 13)) h (d .starts))))
+            subst (λ (l : List Placed). After f l runway legs r) (sym (d .whole))
+            (go d (subst (λ (l : List Placed). firstRefused (besides (fieldOf f l runway legs) r k) ≡ 0) (d .whole) (p .others)))
+        | inr d ↦
+            let n = runway-only k (and-l (within 1 13 k) (not (eqb k 8)) t) (subst (λ (j : ℕ). T (startsFrom j 13)) h (d .starts)) in
+            absurd (subst (λ (j : ℕ). T (within 1 13 j && not (eqb j 8))) n t)
       ]
 
-  -- the one that starts from final or, first in sequence, from intermediate is the first of the line
-  leading : (h : Heading f line runway legs r) → h .ahead ≡ [] → line ≡ h .here ∷ h .behind
-  leading h e = h .whole ∙ ap (λ (l : List Placed). l ++ h .here ∷ h .behind) e
+  -- what the first of the line leaves behind
+  leading : (h : Heading f line runway legs r) → h .ahead ≡ [] → (AtHead f [] (h .here) (h .behind) runway legs r → After f (h .here ∷ h .behind) runway legs r) → After f (around h) runway legs r
+  leading h e go =
+      subst (λ (l : List Placed). After f (l ++ h .here ∷ h .behind) runway legs r) (sym e) (go (subst (λ (l : List Placed). AtHead f l (h .here) (h .behind) runway legs r) e (h .at-head)))
 
-  final-leads : (h : Heading f line runway legs r) → Orderly f (h .ahead ++ h .here ∷ h .behind) runway legs → h .here .zone ≡ 12 → h .ahead ≡ []
-  final-leads h q z =
+  -- one of the line that a kind takes from a zone of its own
+  from-zone : (h : Heading f line runway legs r) {k : ℕ} → r .kind ≡ k → (w : ℕ) → ((z : ℕ) → T (within 1 13 z) → T (startsFrom k z) → T (eqb z w)) → h .here .zone ≡ w
+  from-zone h k w only =
+      let m = h .at-head in
+      let z = h .here .zone in
+      eqb-true z w (passed (only z (lower z (zone-in f (h .ahead) (h .here) (h .behind) runway legs (m .orderly))) (from-kind m k)))
+
+  -- the one on final is the first of the line
+  final-leads : (h : Heading f line runway legs r) → h .here .zone ≡ 12 → h .ahead ≡ []
+  final-leads h z =
+      let m = h .at-head in
       no-line (h .ahead)
       (final-first f (zonesIn (h .ahead)) (zonesIn (h .behind))
-      (subst (λ (v : ℕ). T (okay f (zonesIn (h .ahead) ++ v ∷ zonesIn (h .behind)))) z (okay-split f (h .ahead) (h .here) (h .behind) (q .okay-line)))
-      (subst (λ (v : ℕ). T (free (zonesIn (h .ahead)) v)) z (h .heads)))
+      (subst (λ (v : ℕ). T (okay f (zonesIn (h .ahead) ++ v ∷ zonesIn (h .behind)))) z (okay-split f (h .ahead) (h .here) (h .behind) (m .orderly .okay-line)))
+      (subst (λ (v : ℕ). T (free (zonesIn (h .ahead)) v)) z (m .heads)))
 
-  zone-13 : (h : Heading f line runway legs r) → Orderly f (h .ahead ++ h .here ∷ h .behind) runway legs → T (within 1 13 (h .here .zone))
-  zone-13 h q = lower (h .here .zone) (zone-in f (h .ahead) (h .here) (h .behind) runway legs q)
+  -- kinds 3 to 6
+  pub three : r .kind ≡ 3 → firstRefused (headChecks 3 (placeBefore G r) (owned G r) ++ besides G r 3) ≡ 0 → After f line runway legs r
+  three k c = moving 3 k tt c (λ h d. after-3 (h .at-head) k d)
+
+  pub four : r .kind ≡ 4 → firstRefused (headChecks 4 (placeBefore G r) (owned G r) ++ besides G r 4) ≡ 0 → After f line runway legs r
+  four k c = moving 4 k tt c (λ h d. after-4 (h .at-head) k d)
+
+  pub five : r .kind ≡ 5 → firstRefused (headChecks 5 (placeBefore G r) (owned G r) ++ besides G r 5) ≡ 0 → After f line runway legs r
+  five k c = moving 5 k tt c (λ h d. after-5 (h .at-head) k d)
+
+  pub six : r .kind ≡ 6 → firstRefused (headChecks 6 (placeBefore G r) (owned G r) ++ besides G r 6) ≡ 0 → After f line runway legs r
+  six k c = moving 6 k tt c (λ h d. after-6 (h .at-head) k)
 
   -- kind 7
   pub seven : r .kind ≡ 7 → firstRefused (headChecks 7 (placeBefore G r) (owned G r) ++ besides G r 7) ≡ 0 → After f line runway legs r
   seven k c =
-      moving 7 k tt (λ u. omega arith) c
-      (λ h q d.
-      let z = eqb-true (h .here .zone) 12 (passed (land-from (h .here .zone) (zone-13 h q) (subst (λ (j : ℕ). T (startsFrom j (h .here .zone))) k (h .starts)))) in
-      let a = final-leads h q z in
-      let w : h .ahead ++ h .here ∷ h .behind ≡ h .here ∷ h .behind = ap (λ (l : List Placed). l ++ h .here ∷ h .behind) a in
-      let p = input.passed (besides (fieldOf f (h .ahead ++ h .here ∷ h .behind) runway legs) r 7) (tt, (tt, tt)) d in
-      let n : runway ≡ [] =
-      none runway (sym (how-many-runway f (h .ahead ++ h .here ∷ h .behind) runway legs) ∙ eqb-true (howMany (fieldOf f (h .ahead ++ h .here ∷ h .behind) runway legs) 13) 0 (p .1 .0)) in
-      subst (λ (l : List Placed). After f l runway legs r) (sym w)
-      (subst (λ (l : List Aircraft). After f (h .here ∷ h .behind) l legs r) (sym n)
-      (after-7 f (h .here) (h .behind) legs (subst (λ (l : List Aircraft). Orderly f (h .here ∷ h .behind) l legs) n (subst (λ (l : List Placed). Orderly f l runway legs) w q)) r (h .named) k z)))
+      moving 7 k tt c
+      (λ h d.
+      let z = from-zone h k 12 land-from in
+      let H = fieldOf f (around h) runway legs in
+      let p = input.passed (besides H r 7) (tt, (tt, tt)) d in
+      let n : runway ≡ [] = none runway (sym (how-many-runway f (around h) runway legs) ∙ eqb-true (howMany H 13) 0 (p .1 .0)) in
+      leading h (final-leads h z)
+      (subst (λ (l : List Aircraft). AtHead f [] (h .here) (h .behind) l legs r → After f (h .here ∷ h .behind) l legs r) (sym n) (λ m. after-7 m k z)))
 
   -- kind 8
   pub eight : r .kind ≡ 8 → firstRefused (headChecks 8 (placeBefore G r) (owned G r) ++ []) ≡ 0 → After f line runway legs r
@@ -174,56 +195,34 @@ module _ (f : Side) (line : List Placed) (runway : List Aircraft) (legs : Legs) 
       let starts = ap (λ (j : ℕ). startsFrom j (zoneBefore G r)) k ∙ p .starts in
       elim (heading f line runway legs o r (p .known) (p .owned-by) starts (p .first)) [
         | inl h ↦
-            let q = subst (λ (l : List Placed). Orderly f l runway legs) (h .whole) o in
-            let t = zone-in f (h .ahead) (h .here) (h .behind) runway legs q in
-            let z = eqb-true (h .here .zone) 13 (passed (taxi-from (h .here .zone) (lower (h .here .zone) t) (subst (λ (j : ℕ). T (startsFrom j (h .here .zone))) k (h .starts)))) in
+            let t = zone-in f (h .ahead) (h .here) (h .behind) runway legs (h .at-head .orderly) in
+            let z = from-zone h k 13 taxi-from in
             absurd (let u = leb→le (h .here .zone) 12 (and-r (leb 1 (h .here .zone)) (leb (h .here .zone) 12) t) in omega arith)
         | inr d ↦ subst (λ (l : List Aircraft). After f line l legs r) (sym (d .whole))
-            (after-8 f line (d .one) legs (subst (λ (l : List Aircraft). Orderly f line l legs) (d .whole) o) r (d .named) k (d .owned-by))
+            (after-8 (subst (λ (l : List Aircraft). Orderly f line l legs) (d .whole) o) r (d .named) k (d .owned-by))
       ]
 
   -- kind 9
   pub nine : r .kind ≡ 9 → firstRefused (headChecks 9 (placeBefore G r) (owned G r) ++ besides G r 9) ≡ 0 → After f line runway legs r
   nine k c =
-      moving 9 k tt (λ u. omega arith) c
-      (λ h q d.
-      let F = fieldOf f (h .ahead ++ h .here ∷ h .behind) runway legs in
-      let z = eqb-true (h .here .zone) 11 (passed (exit-from (h .here .zone) (zone-13 h q) (subst (λ (j : ℕ). T (startsFrom j (h .here .zone))) k (h .starts)))) in
-      let p = input.passed (besides F r 9) (tt, (tt, tt)) d in
-      let a : h .ahead ≡ [] = nil-line (h .ahead) (sym (first-there f (h .ahead) (h .here) (h .behind) runway legs (q .different)) ∙ ap (isFirst (F .sequence)) (sym (h .named)) ∙ p .1 .0) in
-      let w : h .ahead ++ h .here ∷ h .behind ≡ h .here ∷ h .behind = ap (λ (l : List Placed). l ++ h .here ∷ h .behind) a in
-      subst (λ (l : List Placed). After f l runway legs r) (sym w)
-      (after-9 f (h .here) (h .behind) runway legs (subst (λ (l : List Placed). Orderly f l runway legs) w q) r (h .named) k z (h .owned-by)))
+      moving 9 k tt c
+      (λ h d.
+      let H = fieldOf f (around h) runway legs in
+      let m = h .at-head in
+      let p = input.passed (besides H r 9) (tt, (tt, tt)) d in
+      let a = nil-line (h .ahead) (sym (first-there f (h .ahead) (h .here) (h .behind) runway legs (m .orderly .different)) ∙ ap (isFirst (H .sequence)) (sym (m .named)) ∙ p .1 .0) in
+      leading h a (λ m. after-9 m k (from-zone h k 11 exit-from)))
 
   -- kind 10
   pub ten : r .kind ≡ 10 → firstRefused (headChecks 10 (placeBefore G r) (owned G r) ++ []) ≡ 0 → After f line runway legs r
-  ten k c =
-      moving 10 k tt (λ u. omega arith) c
-      (λ h q d.
-      let z = eqb-true (h .here .zone) 12 (passed (miss-from (h .here .zone) (zone-13 h q) (subst (λ (j : ℕ). T (startsFrom j (h .here .zone))) k (h .starts)))) in
-      let a = final-leads h q z in
-      let w : h .ahead ++ h .here ∷ h .behind ≡ h .here ∷ h .behind = ap (λ (l : List Placed). l ++ h .here ∷ h .behind) a in
-      subst (λ (l : List Placed). After f l runway legs r) (sym w) (after-10 f (h .here) (h .behind) runway legs (subst (λ (l : List Placed). Orderly f l runway legs) w q) r (h .named) k z))
+  ten k c = moving 10 k tt c (λ h d. let z = from-zone h k 12 miss-from in leading h (final-leads h z) (λ m. after-10 m k z))
 
   -- kind 11
   pub eleven : r .kind ≡ 11 → firstRefused (headChecks 11 (placeBefore G r) (owned G r) ++ besides G r 11) ≡ 0 → After f line runway legs r
   eleven k c =
-      moving 11 k tt (λ u. omega arith) c
-      (λ h q d.
-      elim (decided (isEmpty (fieldOf f (h .ahead ++ h .here ∷ h .behind) runway legs) (at3000 (sideOf (h .here .zone))))) [
-        | inl t ↦ after-11 f (h .ahead) (h .here) (h .behind) runway legs q r (h .named) (h .heads) (h .place-is) (h .starts) k t
-        | inr t ↦ after-11-both f (h .ahead) (h .here) (h .behind) runway legs q r (h .named) (h .heads) (h .place-is) (h .starts) k t
+      moving 11 k tt c
+      (λ h d.
+      elim (decided (isEmpty (fieldOf f (around h) runway legs) (at3000 (sideOf (h .here .zone))))) [
+        | inl t ↦ after-11 (h .at-head) k t
+        | inr t ↦ after-11-both (h .at-head) k t
       ])
-
-  -- kinds 3 to 6
-  pub three : r .kind ≡ 3 → firstRefused (headChecks 3 (placeBefore G r) (owned G r) ++ besides G r 3) ≡ 0 → After f line runway legs r
-  three k c = moving 3 k tt (λ u. omega arith) c (λ h q d. after-3 f (h .ahead) (h .here) (h .behind) runway legs q r (h .named) (h .heads) (h .place-is) (h .starts) k d)
-
-  pub four : r .kind ≡ 4 → firstRefused (headChecks 4 (placeBefore G r) (owned G r) ++ besides G r 4) ≡ 0 → After f line runway legs r
-  four k c = moving 4 k tt (λ u. omega arith) c (λ h q d. after-4 f (h .ahead) (h .here) (h .behind) runway legs q r (h .named) (h .heads) (h .place-is) (h .starts) k d)
-
-  pub five : r .kind ≡ 5 → firstRefused (headChecks 5 (placeBefore G r) (owned G r) ++ besides G r 5) ≡ 0 → After f line runway legs r
-  five k c = moving 5 k tt (λ u. omega arith) c (λ h q d. after-5 f (h .ahead) (h .here) (h .behind) runway legs q r (h .named) (h .heads) (h .place-is) (h .starts) k d)
-
-  pub six : r .kind ≡ 6 → firstRefused (headChecks 6 (placeBefore G r) (owned G r) ++ besides G r 6) ≡ 0 → After f line runway legs r
-  six k c = moving 6 k tt (λ u. omega arith) c (λ h q d. after-6 f (h .ahead) (h .here) (h .behind) runway legs q r (h .named) (h .heads) (h .place-is) (h .starts) k)

@@ -26,7 +26,7 @@ use Rattle.order.specs.Model.{Side, rightSide, leftSide, num, countFix, free, p
 use Rattle.order.proofs.Facts.{enter, enter-lateral, enter-above}
 use Rattle.rules.specs.Kinds.{placeBefore, zoneBefore, absentChecks, presenceChecks, verticalNeeds, lateralNeeds, descended, entered}
 use Rattle.rules.specs.Step.{checksOf}
-use Rattle.field.proofs.TestLaws.{passed, failed, pass, decided, each-zone}
+use Rattle.field.proofs.TestLaws.{passed, failed, pass, decided, each-operation}
 use Rattle.field.proofs.NumberLists.{absent-both, absent-left, absent-right, or-false-left}
 use Rattle.line.proofs.AheadInLists.{map-append}
 use Rattle.line.proofs.Line.{Placed, zonesIn, numbersOf, fieldOf}
@@ -39,7 +39,8 @@ use Rattle.moves.proofs.Heads.{find-line}
 use Rattle.rules.proofs.Checks.{besides, owned, checks-at, effect-at}
 use Rattle.field.proofs.ArrivalLaws.{into-arrived}
 use Rattle.moves.proofs.Moves.{into, same-numbers}
-use Rattle.moves.proofs.EnterAbove.{enters-empty, enters-occupied, lowered, lowered-is, lowered-orderly, after-above}
+use Rattle.moves.proofs.Carried.{WentAlong, onward-into}
+use Rattle.moves.proofs.EnterAbove.{enters-empty, enters-occupied, lowered, lowered-is, lowered-orderly, MayDescend, after-above}
 use Rattle.moves.proofs.AtEnds.{after-entry, after-12}
 use Rattle.moves.proofs.EachMove.{three, four, five, six, seven, eight, nine, ten, eleven}
 
@@ -123,10 +124,48 @@ module _ (f : Side) (line : List Placed) (runway : List Aircraft) (legs : Legs) 
       into-empty : (l : List Placed) → Orderly f l runway legs → numbersOf line ≡ numbersOf l → T (mayEnter f (zonesIn l) (num s))
           → isEmpty (fieldOf f l runway legs) (at3000 (r .side)) ≡ true → After f l runway legs r
       into-empty l q ns may e =
-          after-entry s f l runway legs q r (at3000 (num s)) (v .high-in) (v .high-waits) side (subst (λ (j : ℕ). T (isEntry j)) (sym k) tt)
-          (enters-empty (fieldOf f l runway legs) r k e ∙ ap (λ (n : ℕ). entered (fieldOf f l runway legs) r (at3000 n)) side)
-          (enter f s (zonesIn l) (q .okay-line) may) (known .number) (subst (λ (m : List ℕ). isIn (r .number) (m ++ numbers runway) ≡ false) ns (new-number (needs-met .0)))
-          (record { least = known .speed-low; most = known .speed-high }) (known .desk) (λ u. let n : 12 ≡ 1 = sym u ∙ k in omega arith) (subst (λ (j : ℕ). T (not (eqb j 8 || eqb j 9))) (sym k) tt)
+          after-entry
+          (record {
+            orderly = q;
+            entry = subst (λ (j : ℕ). T (isEntry j)) (sym k) tt;
+            known = known;
+            side-is = side;
+            new-number = subst (λ (m : List ℕ). isIn (r .number) (m ++ numbers runway) ≡ false) ns (new-number (needs-met .0));
+            inside = v .high-in;
+            not-flown = v .high-waits;
+            effect = enters-empty (fieldOf f l runway legs) r k e ∙ ap (λ (n : ℕ). entered (fieldOf f l runway legs) r (at3000 n)) side;
+            okay-after = enter f s (zonesIn l) (q .okay-line) may;
+          })
+
+      second-holds : {p q : Bool} → p ≡ false → (p || q) ≡ true → q ≡ true
+      second-holds {q = q} h u = sym (ap (λ (t : Bool). t || q) h) ∙ u
+
+      -- the zones of the line, split at the first one at 3000
+      zones-at : (d : Split (at3000 (num s)) line) → zs ≡ zonesIn (d .ahead) ++ d .here .zone ∷ zonesIn (d .behind)
+      zones-at d = ap zonesIn (d .whole) ∙ zones-split (d .ahead) (d .here) (d .behind)
+
+      -- the one at 3000 may descend
+      may-descend : isEmpty F (at3000 (r .side)) ≡ false → (d : Split (at3000 (num s)) line) → MayDescend f (d .ahead) (d .here) (d .behind) runway legs
+      may-descend e d =
+          let zones = zonesIn (d .ahead) ++ d .here .zone ∷ zonesIn (d .behind) in
+          let low = subst (λ (l : List ℕ). T (free l (at2000 (num s)))) (zones-at d) (empty-zone at2000 (v .low-in) (second-holds e (needs-met .1 .1 .1 .1 .1 .0))) in
+          record {
+            orderly = subst (λ (l : List Placed). Orderly f l runway legs) (d .whole) o;
+            heads = subst (λ (z : ℕ). T (free (zonesIn (d .ahead)) z)) (sym (d .at-zone)) (d .none-ahead);
+            needs-met = subst (λ (z : ℕ). T (within 1 2 z && free zones (at2000 z))) (sym (d .at-zone)) (and-i (within 1 2 (num s)) (free zones (at2000 (num s))) (v .high) low);
+          }
+
+      -- and once it has, another may enter
+      may-follow : (e : isEmpty F (at3000 (r .side)) ≡ false) (d : Split (at3000 (num s)) line) → T (mayEnter f (zonesIn (lowered (may-descend e d))) (num s))
+      may-follow e d =
+          let a = d .ahead in
+          let g = d .here in
+          let b = d .behind in
+          let down = may-descend e d in
+          let come = subst (λ (z : ℕ). T (mayComeIn f (zonesIn a ++ g .zone ∷ zonesIn b) z)) (sym (d .at-zone)) (subst (λ (l : List ℕ). T (mayComeIn f l (num s))) (zones-at d) may-come) in
+          subst (λ (z : ℕ). T (mayEnter f (zonesIn (lowered down)) z)) (d .at-zone)
+          (subst (λ (ys : List ℕ). T (mayEnter f ys (g .zone))) (sym (zones-split a (into legs (at2000 (g .zone)) g) b))
+          (enter-above f (zonesIn a) (g .zone) (zonesIn b) (okay-split f a g b (down .orderly .okay-line)) (down .needs-met) come))
 
       -- beside one at 3000, with nobody at 2000
       beside : isEmpty F (at3000 (r .side)) ≡ false → Split (at3000 (num s)) line → After f line runway legs r
@@ -134,28 +173,17 @@ module _ (f : Side) (line : List Placed) (runway : List Aircraft) (legs : Legs) 
           let a = d .ahead in
           let g = d .here in
           let b = d .behind in
-          let q = subst (λ (l : List Placed). Orderly f l runway legs) (d .whole) o in
-          let zones : zs ≡ zonesIn a ++ g .zone ∷ zonesIn b = ap zonesIn (d .whole) ∙ zones-split a g b in
-          let low = subst (λ (l : List ℕ). T (free l (at2000 (num s)))) zones (empty-zone at2000 (v .low-in) (second-holds e (needs-met .1 .1 .1 .1 .1 .0))) in
-          let heads = subst (λ (z : ℕ). T (free (zonesIn a) z)) (sym (d .at-zone)) (d .none-ahead) in
-          let may =
-          subst (λ (z : ℕ). T (within 1 2 z && free (zonesIn a ++ g .zone ∷ zonesIn b) (at2000 z))) (sym (d .at-zone))
-          (and-i (within 1 2 (num s)) (free (zonesIn a ++ g .zone ∷ zonesIn b) (at2000 (num s))) (v .high) low) in
-          let come = subst (λ (z : ℕ). T (mayComeIn f (zonesIn a ++ g .zone ∷ zonesIn b) z)) (sym (d .at-zone)) (subst (λ (l : List ℕ). T (mayComeIn f l (num s))) zones may-come) in
-          let l = lowered f a g b runway legs q heads may in
-          let enters =
-          subst (λ (z : ℕ). T (mayEnter f (zonesIn l) z)) (d .at-zone)
-          (subst (λ (ys : List ℕ). T (mayEnter f ys (g .zone))) (sym (zones-split a (into legs (at2000 (g .zone)) g) b))
-          (enter-above f (zonesIn a) (g .zone) (zonesIn b) (okay-split f a g b (q .okay-line)) may come)) in
-          let free-above = empty-there l (and-r (mayComeIn f (zonesIn l) (num s)) (free (zonesIn l) (at3000 (num s))) enters) in
+          let down = may-descend e d in
+          let l = lowered down in
           let F₀ = fieldOf f (a ++ g ∷ b) runway legs in
+          let enters = may-follow e d in
+          let free-above = empty-there l (and-r (mayComeIn f (zonesIn l) (num s)) (free (zonesIn l) (at3000 (num s))) enters) in
           subst (λ (m : List Placed). After f m runway legs r) (sym (d .whole))
-          (after-above f a g b runway legs q heads may r k (other-than d) (ap isFlyingZone (d .at-zone) ∙ failed {b = isFlyingZone (at3000 (num s))} (v .high-waits))
-          (ap (λ (z : ℕ). isFlyingZone (at2000 z)) (d .at-zone) ∙ failed {b = isFlyingZone (at2000 (num s))} (v .low-waits))
+          (after-above down r k (goes-along d)
           (enters-occupied F₀ r k (subst (λ (m : List Placed). isEmpty (fieldOf f m runway legs) (at3000 (r .side)) ≡ false) (d .whole) e)
-          ∙ ap (λ (h : Field). entered h r (at3000 (r .side))) (ap (descended F₀) (side ∙ sym (d .at-zone)) ∙ lowered-is f a g b runway legs q heads may)
+          ∙ ap (λ (h : Field). entered h r (at3000 (r .side))) (ap (descended F₀) (side ∙ sym (d .at-zone)) ∙ lowered-is down)
           ∙ sym (enters-empty (fieldOf f l runway legs) r k free-above))
-          (into-empty l (lowered-orderly f a g b runway legs q heads may)
+          (into-empty l (lowered-orderly down)
           (ap numbersOf (d .whole) ∙ same-numbers a g (into legs (at2000 (g .zone)) g) b (sym (into-arrived legs (at2000 (g .zone)) (g .aircraft) .number))) enters free-above))
         where
           -- the one at 3000 has another number than the one that enters
@@ -169,8 +197,15 @@ module _ (f : Side) (line : List Placed) (runway : List Aircraft) (legs : Legs) 
               let here = or-false-left (eqb (g .aircraft .number) (r .number)) (isIn (r .number) (numbersOf b)) (absent-right (r .number) (numbersOf a) (numbersOf (g ∷ b)) split) in
               true≢false (sym (eq-eqb (g .aircraft .number) (r .number) n) ∙ here)
 
-          second-holds : {p q : Bool} → p ≡ false → (p || q) ≡ true → q ≡ true
-          second-holds {q = q} h u = sym (ap (λ (t : Bool). t || q) h) ∙ u
+          -- the one at 3000 goes along
+          goes-along : (d : Split (at3000 (num s)) line) → WentAlong legs r (d .here) (into legs (at2000 (d .here .zone)) (d .here))
+          goes-along d =
+              record {
+                onward = onward-into legs (at2000 (d .here .zone)) (d .here);
+                not-named = other-than d;
+                waited-before = ap isFlyingZone (d .at-zone) ∙ failed {b = isFlyingZone (at3000 (num s))} (v .high-waits);
+                waits-after = ap (λ (z : ℕ). isFlyingZone (at2000 z)) (d .at-zone) ∙ failed {b = isFlyingZone (at2000 (num s))} (v .low-waits);
+              }
 
     entry-1 : r .kind ≡ 1 → EntryKnown r → firstRefused (absentChecks (placeBefore F r) ++ verticalNeeds F (r .side)) ≡ 0 → Above → After f line runway legs r
     entry-1 k known c v =
@@ -184,10 +219,18 @@ module _ (f : Side) (line : List Placed) (runway : List Aircraft) (legs : Legs) 
     entry-2 k known c tl tf =
         let p = input.passed (absentChecks (placeBefore F r) ++ lateralNeeds F (r .side)) (tt, (tt, tt)) c in
         let t16 : eqb (potential f zs (num s)) 0 ≡ true = ap (λ (n : ℕ). eqb n 0) (sym (potential-is f line runway legs (o .alternates) (num s)) ∙ ap (potentialOf F) (sym side)) ∙ p .1 .0 in
-        after-entry s f line runway legs o r (lateral (num s)) tl tf side (subst (λ (j : ℕ). T (isEntry j)) (sym k) tt)
-        (effect-at F r k ∙ ap (λ (n : ℕ). entered F r (lateral n)) side)
-        (enter-lateral f s zs (o .okay-line) (pass t16)) (known .number) (new-number (p .0)) (record { least = known .speed-low; most = known .speed-high })
-        (known .desk) (λ u. let n : 12 ≡ 2 = sym u ∙ k in omega arith) (subst (λ (j : ℕ). T (not (eqb j 8 || eqb j 9))) (sym k) tt)
+        after-entry
+        (record {
+          orderly = o;
+          entry = subst (λ (j : ℕ). T (isEntry j)) (sym k) tt;
+          known = known;
+          side-is = side;
+          new-number = new-number (p .0);
+          inside = tl;
+          not-flown = tf;
+          effect = effect-at F r k ∙ ap (λ (n : ℕ). entered F r (lateral n)) side;
+          okay-after = enter-lateral f s zs (o .okay-line) (pass t16);
+        })
 
   one-side : (s : Side) → r .side ≡ num s → r .kind ≡ 1 → EntryKnown r → firstRefused (absentChecks (placeBefore F r) ++ verticalNeeds F (r .side)) ≡ 0 → After f line runway legs r
   unfolding isFlyingZone
@@ -205,43 +248,20 @@ module _ (f : Side) (line : List Placed) (runway : List Aircraft) (legs : Legs) 
       let known = kind-known r i in
       let at-kind : (k : ℕ) → r .kind ≡ k → firstRefused (presenceChecks k (placeBefore F r) (owned F r) ++ besides F r k) ≡ 0 = λ k h. ap firstRefused (sym (checks-at F r h)) ∙ c in
       let side : r .kind ≤ 2 → (s : Side) × (r .side ≡ num s) = λ h. let e = entry-known r i (known .low) h in side-known (r .side) (e .side-low) (e .side-high) in
-      each-zone (λ (k : ℕ). r .kind ≡ k → After f line runway legs r) (
+      each-operation (λ (k : ℕ). r .kind ≡ k → After f line runway legs r) (
         (λ h. let s = side (omega arith) in one-side (s .0) (s .1) h (entry-known r i (known .low) (omega arith)) (at-kind 1 h)),
-        (
-          (λ h. let s = side (omega arith) in two-side (s .0) (s .1) h (entry-known r i (known .low) (omega arith)) (at-kind 2 h)),
-          (
-            (λ h. three f line runway legs o r h (at-kind 3 h)),
-            (
-              (λ h. four f line runway legs o r h (at-kind 4 h)),
-              (
-                (λ h. five f line runway legs o r h (at-kind 5 h)),
-                (
-                  (λ h. six f line runway legs o r h (at-kind 6 h)),
-                  (
-                    (λ h. seven f line runway legs o r h (at-kind 7 h)),
-                    (
-                      (λ h. eight f line runway legs o r h (at-kind 8 h)),
-                      (
-                        (λ h. nine f line runway legs o r h (at-kind 9 h)),
-                        (
-                          (λ h. ten f line runway legs o r h (at-kind 10 h)),
-                          (
-                            (λ h. eleven f line runway legs o r h (at-kind 11 h)),
-                            (
-                              (λ h. let t = tick-known r i h in after-12 f line runway legs o r h (record { least = t .amount-low; most = t .amount-high })),
-                              ((λ h. absurd (let u = known .high in omega arith)), tt),
-                            ),
-                          ),
-                        ),
-                      ),
-                    ),
-                  ),
-                ),
-              ),
-            ),
-          ),
-        ),
+        (λ h. let s = side (omega arith) in two-side (s .0) (s .1) h (entry-known r i (known .low) (omega arith)) (at-kind 2 h)),
+        (λ h. three o r h (at-kind 3 h)),
+        (λ h. four o r h (at-kind 4 h)),
+        (λ h. five o r h (at-kind 5 h)),
+        (λ h. six o r h (at-kind 6 h)),
+        (λ h. seven o r h (at-kind 7 h)),
+        (λ h. eight o r h (at-kind 8 h)),
+        (λ h. nine o r h (at-kind 9 h)),
+        (λ h. ten o r h (at-kind 10 h)),
+        (λ h. eleven o r h (at-kind 11 h)),
+        (λ h. let t = tick-known r i h in after-12 o r h (record { least = t .amount-low; most = t .amount-high })),
       )
       (r .kind)
-      (and-i (leb 1 (r .kind)) (leb (r .kind) 13) (le→leb 1 (r .kind) (known .low)) (le→leb (r .kind) 13 (let u = known .high in omega arith)))
+      (and-i (leb 1 (r .kind)) (leb (r .kind) 12) (le→leb 1 (r .kind) (known .low)) (le→leb (r .kind) 12 (known .high)))
       refl

@@ -46,16 +46,23 @@ find-line n (e ∷ line) = go (decided (eqb (e .aircraft .number) n)) (find-line
     go (inr b) (inr h) = inr (ap (λ (t : Bool). t || isIn n (numbersOf line)) b ∙ h)
 
 -- ---- at the head of its zone
+
+-- a request names e, of the orderly line a, e, b, at the head of a zone that the request's kind starts from
+pub record AtHead (f : Side) (a : List Placed) (e : Placed) (b : List Placed) (runway : List Aircraft) (legs : Legs) (r : Request) : Type 0 where
+  pub orderly : Orderly f (a ++ e ∷ b) runway legs
+  pub named : r .number ≡ e .aircraft .number
+  pub heads : T (free (zonesIn a) (e .zone))
+  pub place-is : placeOf (fieldOf f (a ++ e ∷ b) runway legs) (r .number) ≡ at (e .zone) 1
+  pub starts : T (startsFrom (r .kind) (e .zone))
+  pub owned-by : r .desk ≡ e .aircraft .desk
+
+-- it names one of the line
 pub record Heading (f : Side) (line : List Placed) (runway : List Aircraft) (legs : Legs) (r : Request) : Type 0 where
   pub ahead : List Placed
   pub here : Placed
   pub behind : List Placed
   pub whole : line ≡ ahead ++ here ∷ behind
-  pub named : r .number ≡ here .aircraft .number
-  pub heads : T (free (zonesIn ahead) (here .zone))
-  pub place-is : placeOf (fieldOf f (ahead ++ here ∷ behind) runway legs) (r .number) ≡ at (here .zone) 1
-  pub starts : T (startsFrom (r .kind) (here .zone))
-  pub owned-by : r .desk ≡ here .aircraft .desk
+  pub at-head : AtHead f ahead here behind runway legs r
 
 -- the one on the runway
 pub record Landed (f : Side) (line : List Placed) (runway : List Aircraft) (legs : Legs) (r : Request) : Type 0 where
@@ -104,11 +111,15 @@ module _ (f : Side) (line : List Placed) (runway : List Aircraft) (legs : Legs) 
           here = e;
           behind = b;
           whole = i .whole;
-          named = i .named;
-          heads = pass (eq-eqb (count (zonesIn a) (e .zone)) 0 (omega arith));
-          place-is = p ∙ ap (at (e .zone)) k;
-          starts = pass (ap (λ (x : Place). startsFrom (r .kind) (x .zone)) (sym (q ∙ p)) ∙ from);
-          owned-by = desk-is (ap (λ (l : List Placed). fieldOf f l runway legs) (i .whole)) p (aircraft-there f a e b runway legs (o₂ .different) (zone-in f a e b runway legs o₂));
+          at-head =
+              record {
+                orderly = o₂;
+                named = i .named;
+                heads = pass (eq-eqb (count (zonesIn a) (e .zone)) 0 (omega arith));
+                place-is = p ∙ ap (at (e .zone)) k;
+                starts = pass (ap (λ (x : Place). startsFrom (r .kind) (x .zone)) (sym (q ∙ p)) ∙ from);
+                owned-by = desk-is (ap (λ (l : List Placed). fieldOf f l runway legs) (i .whole)) p (aircraft-there f a e b runway legs (o₂ .different) (zone-in f a e b runway legs o₂));
+              };
         }
 
     on-the-runway : (rw : List Aircraft) → runway ≡ rw → length rw ≤ 1 → isIn n (numbersOf line) ≡ false → Landed f line runway legs r

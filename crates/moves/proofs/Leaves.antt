@@ -96,7 +96,7 @@ module _ (f : Side) (e : Placed) (b : List Placed) (legs : Legs) (h : e .zone �
       ap (λ (y : Aircraft). withZone (withZone F₇ 12 P) 13 (withTail (zoneOf (withZone F₇ 12 P) 13) (arrived legs 13 y)))
       (ap (λ (w : ℕ). aircraftAt F₇ w 1) (sym h) ∙ head-there f [] e b [] legs d t refl)
       ∙ ap (λ (q : Zone). withZone (withZone F₇ 12 P) 13 (withTail q x)) (zone-other G H S N legs 12 13 P tt tt refl)
-      ∙ two-zones G H S N legs 12 13 P (withTail (G 13) x) tt tt
+      ∙ two-zones G H S N legs 12 13 tt tt
       (ap (λ (w : ℕ). withoutHead (zoneOf F₇ w)) (sym h) ∙ left-zone f e b [] legs t room ∙ ap (λ (w : ℕ). zoneFor (inside w b)) h)
       (tail-for [] x (omega arith))
       (λ y u p q. ap (λ (l : List Aircraft). cond (eqb y 13) (zoneFor []) (zoneFor l)) (others f e b [] legs t room y (ap (eqb y) h ∙ p))

@@ -42,10 +42,10 @@ module _ (g h : ℕ → Zone) (s : Sequence) (next : ℕ) (legs : Legs) where
         | inr b ↦ if-false q (g y) b ∙ k y u b
       ])
 
-  pub two-zones : (z w : ℕ) (p q : Zone) → T (within 1 13 z) → T (within 1 13 w) → p ≡ h z → q ≡ h w
+  pub two-zones : (z w : ℕ) {p q : Zone} → T (within 1 13 z) → T (within 1 13 w) → p ≡ h z → q ≡ h w
       → ((y : ℕ) → T (within 1 13 y) → eqb y z ≡ false → eqb y w ≡ false → g y ≡ h y)
       → withZone (withZone (fieldBy g s next legs) z p) w q ≡ fieldBy h s next legs
-  two-zones z w p q t u e i k =
+  two-zones z w {p} {q} t u e i k =
       ap (λ (f : Field). withZone f w q) (with-by g s next legs z p t)
       ∙ with-by (λ y. cond (eqb y z) p (g y)) s next legs w q u
       ∙ by-zones (λ y. cond (eqb y w) q (cond (eqb y z) p (g y))) s next legs h
@@ -167,5 +167,5 @@ module _ (f : Side) (a : List Placed) (e : Placed) (b : List Placed) (runway : L
       ap (λ (y : Aircraft). withZone (withZone F z (withoutHead (zoneOf F z))) w (withTail (zoneOf (withZone F z (withoutHead (zoneOf F z))) w) (arrived legs w y))) head-is
       ∙ ap (λ (q : Zone). withZone (withZone F z (withoutHead (zoneOf F z))) w (withTail q x))
       (zone-other G H S N legs z w (withoutHead (zoneOf F z)) (lower z (m .from-zone)) (lower w (m .to-zone)) (m .other-zone))
-      ∙ two-zones G H S N legs z w (withoutHead (zoneOf F z)) (withTail (G w) x) (lower z (m .from-zone)) (lower w (m .to-zone)) left-zone entered-zone kept-zone
+      ∙ two-zones G H S N legs z w (lower z (m .from-zone)) (lower w (m .to-zone)) left-zone entered-zone kept-zone
       ∙ after-is
