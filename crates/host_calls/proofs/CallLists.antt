@@ -12,7 +12,8 @@ use Rattle.history.specs.declared.History.{History}
 use Rattle.history.specs.History.{startOf}
 use Rattle.taken_back.specs.Calls.{Call, request, back, called, playedCalls, afterCalls}
 use Rattle.host.specs.Calls.{HostCall, start, Reply, numberAlone}
-use Rattle.host_calls.specs.HostCalls.{replyOf, leftBy, repliesOf, leftByAll}
+use Rattle.host.specs.Calls.{replyOf, leftBy}
+use Rattle.host_calls.specs.HostCalls.{repliesOf, leftByAll}
 use Rattle.host_calls.specs.FromStart.{asHostCall, replyTo, AsCalled, BegunAnew}
 
 -- ---- requests and steps back

@@ -48,7 +48,8 @@ use Rattle.layout.proofs.CallsReadBack.{start-held, legs-in-64ths-held}
 use Rattle.replies.specs.Replies.{endNumber}
 use Rattle.host.specs.Calls.{spacingsOf, listingOf}
 use Rattle.host.specs.Calls.{HostCall, start, ask, back, press, holdDown, spaced, listed, builtFrom}
-use Rattle.host_calls.specs.HostCalls.{replyOf, leftBy, leftByAll}
+use Rattle.host.specs.Calls.{replyOf, leftBy}
+use Rattle.host_calls.specs.HostCalls.{leftByAll}
 use Rattle.host_calls.specs.FromStart.{goesOn, callsOf, allCallsOf, buildsField, onlyFieldsReply, FromStart}
 use Rattle.host_calls.proofs.Held.{all-held}
 use Rattle.host_calls.proofs.Button.{asked-calls, held-same}

@@ -26,7 +26,8 @@ use Rattle.layout.proofs.StaysHeld.{zone-held, with-tail-held, with-zone-held, 
 use Rattle.layout.proofs.CallsReadBack.{with-index-held, start-with-held, start-held, legs-in-64ths-held, step-history-held, step-back-held}
 use Rattle.host.specs.Calls.{startNumber}
 use Rattle.host.specs.Calls.{HostCall, start, ask, back, press, holdDown, spaced, listed, builtFrom}
-use Rattle.host_calls.specs.HostCalls.{leftBy, leftByAll}
+use Rattle.host.specs.Calls.{leftBy}
+use Rattle.host_calls.specs.HostCalls.{leftByAll}
 
 -- ---- the field that a classroom list builds
 

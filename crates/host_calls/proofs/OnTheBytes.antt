@@ -34,17 +34,17 @@ use Rattle.layout.proofs.PartSizes.{state-size}
 use Rattle.layout.proofs.HistoryReadBack.{read-back}
 use Rattle.layout.proofs.CallsReadBack.{start-held, legs-in-64ths-held}
 use Rattle.replies.specs.Replies.{endNumber}
-use Rattle.host.specs.Calls.{startNumber, askedOf, steppedBackOf, pressedOf, heldOnState, Reply, replyOn, bytesLeft}
+use Rattle.host.specs.Calls.{startNumber, Reply, replyOf, leftBy, replyOn, bytesLeft}
 use Rattle.host.specs.Calls.{HostCall, start, ask, back as stepBackBy, press, holdDown, spaced, listed, builtFrom}
-use Rattle.host_calls.specs.HostCalls.{replyOf, leftBy, repliesOf, leftByAll, repliesOn, bytesLeftByAll, OnTheBytes}
+use Rattle.host_calls.specs.HostCalls.{repliesOf, leftByAll, repliesOn, bytesLeftByAll, OnTheBytes}
 use Rattle.host_calls.proofs.Held.{left-held, all-held}
 
 -- ---- one call
 
 -- what begins anew, or leaves the state
-begun : (test : Bool) (h g : History) → cond test (historyBytes g) (historyBytes h) ≡ historyBytes (cond test g h)
-begun true h g = refl
-begun false h g = refl
+begun : (test : Bool) (h g read : History) → cond test (historyBytes (cond test g read)) (historyBytes h) ≡ historyBytes (cond test g h)
+begun true h g read = refl
+begun false h g read = refl
 
 -- a request or a step back: one that is refused leaves the history
 called-bytes : (h : History) (c : Call) → stateAfter (historyBytes h) (called h c .answer .number) (called h c .after) ≡ historyBytes (called h c .after)
@@ -81,8 +81,8 @@ held-bytes h =
     ]
 
 left-bytes : (h : History) (c : HostCall) → HistoryHeld h → bytesLeft (historyBytes h) c ≡ historyBytes (leftBy h c)
-unfolding askedOf steppedBackOf pressedOf heldOnState pressKept
-left-bytes h (start legs) k = begun (eqb (startNumber legs) 0) h (startOf (legsInMiles legs))
+unfolding pressKept
+left-bytes h (start legs) k = begun (eqb (startNumber legs) 0) h (startOf (legsInMiles legs)) (readHistory (historyBytes h))
 left-bytes h (ask r) k = ap (λ (g : History). stateAfter (historyBytes h) (stepHistory g r .answer .number) (stepHistory g r .after)) (read-back h k) ∙ called-bytes h (request r)
 left-bytes h (stepBackBy desk) k = ap (λ (g : History). stateAfter (historyBytes h) (stepBack g desk .answer .number) (stepBack g desk .after)) (read-back h k) ∙ called-bytes h (back desk)
 left-bytes h press k =
@@ -90,22 +90,10 @@ left-bytes h press k =
 left-bytes h holdDown k = ap (λ (g : History). stateAfter (historyBytes h) (endNumber (heldKept g .ending)) (heldKept g .after)) (read-back h k) ∙ held-bytes h
 left-bytes h (spaced n) k = refl
 left-bytes h listed k = refl
-left-bytes h (builtFrom legs speed bytes) k = begun (eqb (fieldOfList legs speed bytes .number) 0) h (startWith (fieldOfList legs speed bytes .after))
-
--- what it replies is read off the history that the bytes are
-reply-read : (b : List ℕ) (c : HostCall) → replyOn b c ≡ replyOf (readHistory b) c
-unfolding askedOf steppedBackOf pressedOf heldOnState
-reply-read b (start legs) = refl
-reply-read b (ask r) = refl
-reply-read b (stepBackBy desk) = refl
-reply-read b press = refl
-reply-read b holdDown = refl
-reply-read b (spaced n) = refl
-reply-read b listed = refl
-reply-read b (builtFrom legs speed bytes) = refl
+left-bytes h (builtFrom legs speed bytes) k = begun (eqb (fieldOfList legs speed bytes .number) 0) h (startWith (fieldOfList legs speed bytes .after)) (readHistory (historyBytes h))
 
 reply-same : (h : History) (c : HostCall) → HistoryHeld h → replyOn (historyBytes h) c ≡ replyOf h c
-reply-same h c k = reply-read (historyBytes h) c ∙ ap (λ (g : History). replyOf g c) (read-back h k)
+reply-same h c k = ap (λ (g : History). replyOf g c) (read-back h k)
 
 -- ---- any list
 
@@ -127,7 +115,7 @@ on-the-bytes h cs k =
 
 -- an accepted start writes the bytes of the start, whatever stood there; from there on, any list
 pub started : (b : List ℕ) (legs : FileLegs) → legsAllowed legs ≡ true → bytesLeft b (start legs) ≡ historyBytes (startOf (legsInMiles legs))
-started b legs e = ap (λ (n : ℕ). stateAfter b n (startOf (legsInMiles legs))) (if-true 0 7 e)
+started b legs e = ap (λ (n : ℕ). stateAfter b n (cond (eqb n 0) (startOf (legsInMiles legs)) (readHistory b))) (if-true 0 7 e)
 
 pub on-the-bytes-from-start : (legs : FileLegs) (cs : List HostCall) → OnTheBytes (startOf (legsInMiles legs)) cs
 on-the-bytes-from-start legs cs =

@@ -54,7 +54,8 @@ use Rattle.layout.proofs.CallsReadBack.{start-held, legs-in-64ths-held}
 use Rattle.replies.specs.Replies.{endNumber}
 use Rattle.host.specs.Calls.{startNumber, spacingsOf, listingOf}
 use Rattle.host.specs.Calls.{HostCall, start, ask, back, press, holdDown, spaced, listed, builtFrom}
-use Rattle.host_calls.specs.HostCalls.{replyOf, leftBy, repliesOf}
+use Rattle.host.specs.Calls.{replyOf, leftBy}
+use Rattle.host_calls.specs.HostCalls.{repliesOf}
 use Rattle.host_calls.specs.FromStart.{neverReplied, StaysWithin}
 use Rattle.host_calls.proofs.Held.{left-held}
 use Rattle.host_calls.proofs.Button.{now-within, field-within, answered-same, proposed-same, step-within, asked-within}

@@ -28,7 +28,8 @@ use Rattle.taken_back.specs.Calls.{Call, playedCalls, afterCalls, historyOf}
 use Rattle.taken_back.specs.TakenBack.{TakenBack}
 use Rattle.replies.specs.Replies.{answerNumbers}
 use Rattle.host.specs.Calls.{HostCall, start, ask, back, press, holdDown, spaced, listed, builtFrom, Reply, numberAlone, spacingsOf}
-use Rattle.host_calls.specs.HostCalls.{replyOf, leftBy, repliesOf, leftByAll}
+use Rattle.host.specs.Calls.{replyOf, leftBy}
+use Rattle.host_calls.specs.HostCalls.{repliesOf, leftByAll}
 
 -- ---- a call as requests and steps back
 
