@@ -62,7 +62,7 @@ line-ticked : (w : WholeLegs) (amount : ℕ) → Between 1 longestTick amount �
     → Each (KnownBy w (λ n. ticking (s n) amount)) (map (tickPlaced amount) line)
 line-ticked w amount fits s [] t p = tt
 line-ticked w amount fits s (e ∷ line) t p =
-    let here = known-ticked w amount fits (s (e .aircraft .number)) (e .zone) (e .aircraft) (and-l (placedFits (inMiles w) e) (every (placedFits (inMiles w)) line) t) (p .0) in (
+    let here = known-ticked fits (and-l (placedFits (inMiles w) e) (every (placedFits (inMiles w)) line) t) (p .0) in (
       subst (λ (n : ℕ). Known w (ticking (s n) amount) (e .zone) (tickPlaced amount e .aircraft)) (sym (number-kept amount (e .zone) (e .aircraft))) here,
       line-ticked w amount fits s line (and-r (placedFits (inMiles w) e) (every (placedFits (inMiles w)) line) t) (p .1),
     )
@@ -70,7 +70,7 @@ line-ticked w amount fits s (e ∷ line) t p =
 runway-ticked : (w : WholeLegs) (amount : ℕ) (s : ℕ → Flight) (runway : List Aircraft) → Each (KnownBy w s) (map onRunway runway) → Each (KnownBy w (λ n. ticking (s n) amount)) (map onRunway runway)
 unfolding isFlyingZone
 runway-ticked w amount s [] p = tt
-runway-ticked w amount s (x ∷ runway) p = (known-waiting w amount (s (x .number)) 13 x refl (p .0), runway-ticked w amount s runway (p .1))
+runway-ticked w amount s (x ∷ runway) p = (known-waiting amount refl (p .0), runway-ticked w amount s runway (p .1))
 
 -- ---- where each one is found
 module _ (f : Side) (line : List Placed) (runway : List Aircraft) (legs : Legs) (o : Orderly f line runway legs) where
@@ -159,7 +159,7 @@ module _ (w : WholeLegs) (f : Side) (line : List Placed) (runway : List Aircraft
       came g (went e p on n k) q =
           let here = on .same-number ∙ n in
           let m = g .aircraft .number in
-          let known = known-onward w (s (e .aircraft .number)) zone e g p on (answered g here q) in
+          let known = known-onward p on (answered g here q) in
           let entered = or-false-left (isEntry (r .kind)) (eqb (r .kind) 10) k in
           let missed = or-false-right (isEntry (r .kind)) (eqb (r .kind) 10) k in
           let by : by-name m ≡ onward w (s m) zone = if-false (entry (r .amount) zone) _ entered ∙ if-false (afterMiss w (s m) zone) (onward w (s m) zone) missed in
@@ -167,15 +167,15 @@ module _ (w : WholeLegs) (f : Side) (line : List Placed) (runway : List Aircraft
       came g (turned e p on n k) q =
           let here = on .turned-number ∙ n in
           let m = g .aircraft .number in
-          let known = known-turned w (s (e .aircraft .number)) zone e g p on (answered g here q) in
+          let known = known-turned p on (answered g here q) in
           let by : by-name m ≡ afterMiss w (s m) zone = if-false (entry (r .amount) zone) _ (ap isEntry k) ∙ if-true (afterMiss w (s m) zone) (onward w (s m) zone) (eq-eqb (r .kind) 10 k) in
           subst (λ (x : Flight). Known w x (g .zone) (g .aircraft)) (ap (λ (m : ℕ). afterMiss w (s m) zone) (sym (on .turned-number)) ∙ sym by ∙ named m here) known
       came g (followed e p on d i j) q =
           subst (λ (x : Flight). Known w x (g .zone) (g .aircraft))
-          (ap s (sym (on .same-number)) ∙ others (g .aircraft .number) (λ n. d (sym (on .same-number) ∙ n))) (known-along w (s (e .aircraft .number)) e g p on i j)
+          (ap s (sym (on .same-number)) ∙ others (g .aircraft .number) (λ n. d (sym (on .same-number) ∙ n))) (known-along p on i j)
       came g (came-in v) q =
           subst (λ (x : Flight). Known w x (g .zone) (g .aircraft)) (sym (if-true (entry (r .amount) zone) _ (v .an-entry)) ∙ named (g .aircraft .number) (v .new-number))
-          (known-entry w (r .amount) zone (g .zone) (g .aircraft) (v .new-speed) (v .none-waited) (v .no-leg) (v .not-flown) (answered g (v .new-number) q))
+          (known-entry (v .new-speed) (v .none-waited) (v .no-leg) (v .not-flown) (answered g (v .new-number) q))
 
   -- everyone after an accepted request
   accepted-known : Each (KnownBy w s) line → Each (KnownBy w s) (map onRunway runway) → (a : Accepted f line runway (inMiles w) r)
