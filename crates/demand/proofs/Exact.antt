@@ -1,5 +1,5 @@
 -- Exactness holds after every list of requests from an empty field with legs in whole 64ths. Assumes nothing.
-use mathlib.Core.Path.{_≡_, refl, sym, ap, _∙_, subst}
+use mathlib.Core.Path.{_≡_, refl, sym, ap, _∙_, subst, subst⁻¹}
 use mathlib.Core.Logic.{_⊎_, inl, inr}
 use mathlib.Core.Bool.{Bool, true, false, cond, _&&_}
 use mathlib.Core.List.{List, [], _∷_, _++_, map, append-assoc}
@@ -41,13 +41,13 @@ use Rattle.demand.proofs.Demand.{empty-orderly}
 use Rattle.demand.proofs.Flights.{legs-legal, Known, known-waiting, known-ticked, known-onward, known-turned, known-along, known-entry}
 
 -- ---- each one of a line
-each-map : (P Q : Placed → Type 0) (line : List Placed) → ((e : Placed) → P e → Q e) → Each P line → Each Q line
-each-map P Q [] h p = tt
-each-map P Q (e ∷ line) h p = (h e (p .0), each-map P Q line h (p .1))
+each-map : {P Q : Placed → Type 0} (line : List Placed) → ((e : Placed) → P e → Q e) → Each P line → Each Q line
+each-map [] h p = tt
+each-map (e ∷ line) h p = (h e (p .0), each-map line h (p .1))
 
-each-both : (P Q R : Placed → Type 0) (line : List Placed) → ((e : Placed) → P e → Q e → R e) → Each P line → Each Q line → Each R line
-each-both P Q R [] h p q = tt
-each-both P Q R (e ∷ line) h p q = (h e (p .0) (q .0), each-both P Q R line h (p .1) (q .1))
+each-both : {P Q R : Placed → Type 0} (line : List Placed) → ((e : Placed) → P e → Q e → R e) → Each P line → Each Q line → Each R line
+each-both [] h p q = tt
+each-both (e ∷ line) h p q = (h e (p .0) (q .0), each-both line h (p .1) (q .1))
 
 -- one by the flight of its number
 abbrev KnownBy : WholeLegs → (ℕ → Flight) → Placed → Type 0
@@ -58,22 +58,23 @@ known-same : (w : WholeLegs) (s t : ℕ → Flight) (e : Placed) → s (e .aircr
 known-same w s t e h p = subst (λ (x : Flight). Known w x (e .zone) (e .aircraft)) h p
 
 -- ---- a tick
-line-ticked : (w : WholeLegs) (amount : ℕ) → Between 1 longestTick amount → (s : ℕ → Flight) (line : List Placed) → T (every (placedFits (inMiles w)) line) → Each (KnownBy w s) line
-    → Each (KnownBy w (λ n. ticking (s n) amount)) (map (tickPlaced amount) line)
-line-ticked w amount fits s [] t p = tt
-line-ticked w amount fits s (e ∷ line) t p =
-    let here = known-ticked w amount fits (s (e .aircraft .number)) (e .zone) (e .aircraft) (and-l (placedFits (inMiles w) e) (every (placedFits (inMiles w)) line) t) (p .0) in (
-      subst (λ (n : ℕ). Known w (ticking (s n) amount) (e .zone) (tickPlaced amount e .aircraft)) (sym (number-kept amount (e .zone) (e .aircraft))) here,
-      line-ticked w amount fits s line (and-r (placedFits (inMiles w) e) (every (placedFits (inMiles w)) line) t) (p .1),
-    )
+module _ (w : WholeLegs) (s : ℕ → Flight) where
+  line-ticked : {amount : ℕ} → Between 1 longestTick amount → (line : List Placed) → T (every (placedFits (inMiles w)) line) → Each (KnownBy w s) line
+      → Each (KnownBy w (λ n. ticking (s n) amount)) (map (tickPlaced amount) line)
+  line-ticked fits [] t p = tt
+  line-ticked {amount} fits (e ∷ line) t p =
+      let here = known-ticked fits (and-l (placedFits (inMiles w) e) (every (placedFits (inMiles w)) line) t) (p .0) in (
+        subst (λ (n : ℕ). Known w (ticking (s n) amount) (e .zone) (tickPlaced amount e .aircraft)) (sym (number-kept amount (e .zone) (e .aircraft))) here,
+        line-ticked fits line (and-r (placedFits (inMiles w) e) (every (placedFits (inMiles w)) line) t) (p .1),
+      )
 
-runway-ticked : (w : WholeLegs) (amount : ℕ) (s : ℕ → Flight) (runway : List Aircraft) → Each (KnownBy w s) (map onRunway runway) → Each (KnownBy w (λ n. ticking (s n) amount)) (map onRunway runway)
-unfolding isFlyingZone
-runway-ticked w amount s [] p = tt
-runway-ticked w amount s (x ∷ runway) p = (known-waiting w amount (s (x .number)) 13 x refl (p .0), runway-ticked w amount s runway (p .1))
+  runway-ticked : (amount : ℕ) (runway : List Aircraft) → Each (KnownBy w s) (map onRunway runway) → Each (KnownBy w (λ n. ticking (s n) amount)) (map onRunway runway)
+  unfolding isFlyingZone
+  runway-ticked amount [] p = tt
+  runway-ticked amount (x ∷ runway) p = (known-waiting amount refl (p .0), runway-ticked amount runway (p .1))
 
 -- ---- where each one is found
-module _ (f : Side) (line : List Placed) (runway : List Aircraft) (legs : Legs) (o : Orderly f line runway legs) where
+module _ {f : Side} {line : List Placed} {runway : List Aircraft} {legs : Legs} (o : Orderly f line runway legs) where
   abbrev Found : Placed → Type 0
   Found e = placeOf (fieldOf f line runway legs) (e .aircraft .number) .zone ≡ e .zone
 
@@ -89,21 +90,27 @@ module _ (f : Side) (line : List Placed) (runway : List Aircraft) (legs : Legs) 
   found-line : Each Found line
   found-line = found-from [] line refl
 
-found-runway : (f : Side) (line : List Placed) (runway : List Aircraft) (legs : Legs) (o : Orderly f line runway legs) → Each (Found f line runway legs o) (map onRunway runway)
-found-runway f line [] legs o = tt
-found-runway f line (x ∷ []) legs o = (ap (λ (p : Place). p .zone) (located-runway f line x legs (alone (numbersOf line) (x .number) [] (o .different) .ahead)), tt)
-found-runway f line (x ∷ y ∷ rest) legs o = absurd (let h = o .one-landed in omega arith)
+found-runway : {f : Side} {line : List Placed} (runway : List Aircraft) {legs : Legs} (o : Orderly f line runway legs) → Each (Found o) (map onRunway runway)
+found-runway [] o = tt
+found-runway {f} {line} (x ∷ []) {legs} o = (ap (λ (p : Place). p .zone) (located-runway f line x legs (alone (numbersOf line) (x .number) [] (o .different) .ahead)), tt)
+found-runway (x ∷ y ∷ rest) o = absurd (let h = o .one-landed in omega arith)
 
 -- ---- every list
-record Kept (w : WholeLegs) (g : Field) (s : ℕ → Flight) (rs : List Request) : Type 0 where
-  first-then : Side
-  line-then : List Placed
-  runway-then : List Aircraft
-  stands : fieldAfter g rs ≡ fieldOf first-then line-then runway-then (inMiles w)
-  known-line : Each (KnownBy w (λ n. flightAfter w n (s n) (played g rs))) line-then
-  known-runway : Each (KnownBy w (λ n. flightAfter w n (s n) (played g rs))) (map onRunway runway-then)
+-- everyone of an orderly line and on the runway is known by the flight of its number
+record AllKnown (w : WholeLegs) (s : ℕ → Flight) (f : Side) (line : List Placed) (runway : List Aircraft) : Type 0 where
+  orderly : Orderly f line runway (inMiles w)
+  known-line : Each (KnownBy w s) line
+  known-runway : Each (KnownBy w s) (map onRunway runway)
 
-module _ (w : WholeLegs) (f : Side) (line : List Placed) (runway : List Aircraft) (o : Orderly f line runway (inMiles w)) (r : Request) (s : ℕ → Flight) where
+-- and such a line stands for the field
+record KnownOn (w : WholeLegs) (s : ℕ → Flight) (g : Field) : Type 0 where
+  first : Side
+  line : List Placed
+  runway : List Aircraft
+  stands : g ≡ fieldOf first line runway (inMiles w)
+  known : AllKnown w s first line runway
+
+module _ {w : WholeLegs} {s : ℕ → Flight} {f : Side} {line : List Placed} {runway : List Aircraft} (k : AllKnown w s f line runway) (r : Request) where
   abbrev F : Field
   F = fieldOf f line runway (inMiles w)
 
@@ -122,7 +129,7 @@ module _ (w : WholeLegs) (f : Side) (line : List Placed) (runway : List Aircraft
 
   refused-known : (numberOf F r ≡ 0 → ⊥) → (l : List Placed) → Each (KnownBy w s) l → Each (KnownBy w more) l
   refused-known h l =
-      each-map (KnownBy w s) (KnownBy w more) l (λ e. known-same w s more e (sym (more-by (e .aircraft .number) (ne-eqb (stepOf F r .answer .number) 0 (λ q. h (sym (number-is F r) ∙ q))))))
+      each-map l (λ e. known-same w s more e (sym (more-by (e .aircraft .number) (ne-eqb (stepOf F r .answer .number) 0 (λ q. h (sym (number-is F r) ∙ q))))))
 
   module _ (a : Accepted f line runway (inMiles w) r) where
     b0 : eqb (stepOf F r .answer .number) 0 ≡ true
@@ -130,7 +137,7 @@ module _ (w : WholeLegs) (f : Side) (line : List Placed) (runway : List Aircraft
 
     ticked-known : r .kind ≡ 12 → (l : List Placed) → Each (KnownBy w (λ n. ticking (s n) (r .amount))) l → Each (KnownBy w more) l
     ticked-known h l =
-        each-map (KnownBy w (λ n. ticking (s n) (r .amount))) (KnownBy w more) l
+        each-map l
         (λ e. let n = e .aircraft .number in known-same w (λ n. ticking (s n) (r .amount)) more e
         (sym (more-by n b0 ∙ if-true (ticking (s n) (r .amount)) (cond (eqb (r .number) n) (by-name n) (s n)) (eq-eqb (r .kind) 12 h))))
 
@@ -159,7 +166,7 @@ module _ (w : WholeLegs) (f : Side) (line : List Placed) (runway : List Aircraft
       came g (went e p on n k) q =
           let here = on .same-number ∙ n in
           let m = g .aircraft .number in
-          let known = known-onward w (s (e .aircraft .number)) zone e g p on (answered g here q) in
+          let known = known-onward p on (answered g here q) in
           let entered = or-false-left (isEntry (r .kind)) (eqb (r .kind) 10) k in
           let missed = or-false-right (isEntry (r .kind)) (eqb (r .kind) 10) k in
           let by : by-name m ≡ onward w (s m) zone = if-false (entry (r .amount) zone) _ entered ∙ if-false (afterMiss w (s m) zone) (onward w (s m) zone) missed in
@@ -167,61 +174,70 @@ module _ (w : WholeLegs) (f : Side) (line : List Placed) (runway : List Aircraft
       came g (turned e p on n k) q =
           let here = on .turned-number ∙ n in
           let m = g .aircraft .number in
-          let known = known-turned w (s (e .aircraft .number)) zone e g p on (answered g here q) in
+          let known = known-turned p on (answered g here q) in
           let by : by-name m ≡ afterMiss w (s m) zone = if-false (entry (r .amount) zone) _ (ap isEntry k) ∙ if-true (afterMiss w (s m) zone) (onward w (s m) zone) (eq-eqb (r .kind) 10 k) in
           subst (λ (x : Flight). Known w x (g .zone) (g .aircraft)) (ap (λ (m : ℕ). afterMiss w (s m) zone) (sym (on .turned-number)) ∙ sym by ∙ named m here) known
       came g (followed e p on d i j) q =
           subst (λ (x : Flight). Known w x (g .zone) (g .aircraft))
-          (ap s (sym (on .same-number)) ∙ others (g .aircraft .number) (λ n. d (sym (on .same-number) ∙ n))) (known-along w (s (e .aircraft .number)) e g p on i j)
+          (ap s (sym (on .same-number)) ∙ others (g .aircraft .number) (λ n. d (sym (on .same-number) ∙ n))) (known-along p on i j)
       came g (came-in v) q =
           subst (λ (x : Flight). Known w x (g .zone) (g .aircraft)) (sym (if-true (entry (r .amount) zone) _ (v .an-entry)) ∙ named (g .aircraft .number) (v .new-number))
-          (known-entry w (r .amount) zone (g .zone) (g .aircraft) (v .new-speed) (v .none-waited) (v .no-leg) (v .not-flown) (answered g (v .new-number) q))
+          (known-entry (v .new-speed) (v .none-waited) (v .no-leg) (v .not-flown) (answered g (v .new-number) q))
 
   -- everyone after an accepted request
-  accepted-known : Each (KnownBy w s) line → Each (KnownBy w s) (map onRunway runway) → (a : Accepted f line runway (inMiles w) r)
-      → Each (KnownBy w more) (a .after .line-after) × Each (KnownBy w more) (map onRunway (a .after .runway-after))
-  accepted-known p q a = elim (decided (eqb (r .kind) 12)) [ inl e ↦ by-tick (eqb-true (r .kind) 12 e) | inr e ↦ by-other (eqb-false (r .kind) 12 e) ]
+  accepted-known : (a : Accepted f line runway (inMiles w) r) → AllKnown w more (a .after .first-after) (a .after .line-after) (a .after .runway-after)
+  accepted-known a = elim (decided (eqb (r .kind) 12)) [ inl e ↦ by-tick (eqb-true (r .kind) 12 e) | inr e ↦ by-other (eqb-false (r .kind) 12 e) ]
     where
-      by-tick : r .kind ≡ 12 → Each (KnownBy w more) (a .after .line-after) × Each (KnownBy w more) (map onRunway (a .after .runway-after))
-      by-tick h =
-          let t = tick-known r (input-of F r (a .number-0)) h in (
-            subst (Each (KnownBy w more)) (sym (a .after .ticked-on h))
-                (ticked-known a h (map (tickPlaced (r .amount)) line) (line-ticked w (r .amount) (record { least = t .amount-low; most = t .amount-high }) s line (o .fit-line) p)),
-            subst (λ (l : List Aircraft). Each (KnownBy w more) (map onRunway l)) (sym (a .after .runway-on h)) (ticked-known a h (map onRunway runway) (runway-ticked w (r .amount) s runway q)),
-          )
+      KnownAfter : Type 0
+      KnownAfter = AllKnown w more (a .after .first-after) (a .after .line-after) (a .after .runway-after)
 
-      by-other : (r .kind ≡ 12 → ⊥) → Each (KnownBy w more) (a .after .line-after) × Each (KnownBy w more) (map onRunway (a .after .runway-after))
+      by-tick : r .kind ≡ 12 → KnownAfter
+      by-tick h =
+          let t = a .after in
+          let known = tick-known r (input-of F r (a .number-0)) h in
+          let fits : Between 1 longestTick (r .amount) = record { least = known .amount-low; most = known .amount-high } in
+          record {
+            orderly = t .orderly;
+            known-line =
+                subst (Each (KnownBy w more)) (sym (t .ticked-on h))
+                (ticked-known a h (map (tickPlaced (r .amount)) line) (line-ticked w s fits line (k .orderly .fit-line) (k .known-line)));
+            known-runway =
+                subst (λ (l : List Aircraft). Each (KnownBy w more) (map onRunway l)) (sym (t .runway-on h))
+                (ticked-known a h (map onRunway runway) (runway-ticked w s (r .amount) runway (k .known-runway)));
+          }
+
+      by-other : (r .kind ≡ 12 → ⊥) → KnownAfter
       by-other h =
           let t = a .after in
-          let both = t .carried h .carry (KnownBy w s) p q in
-          let found = Found (t .first-after) (t .line-after) (t .runway-after) (inMiles w) (t .orderly) in (
-            each-both (Came (inMiles w) r (KnownBy w s)) found (KnownBy w more) (t .line-after) (came a h)
-                (both .0) (found-line (t .first-after) (t .line-after) (t .runway-after) (inMiles w) (t .orderly)),
-            each-both (Came (inMiles w) r (KnownBy w s)) found (KnownBy w more) (map onRunway (t .runway-after)) (came a h)
-                (both .1) (found-runway (t .first-after) (t .line-after) (t .runway-after) (inMiles w) (t .orderly)),
-          )
+          let (on-line, on-runway) = t .carried h .carry (KnownBy w s) (k .known-line) (k .known-runway) in
+          record {
+            orderly = t .orderly;
+            known-line = each-both (t .line-after) (came a h) on-line (found-line (t .orderly));
+            known-runway = each-both (map onRunway (t .runway-after)) (came a h) on-runway (found-runway (t .runway-after) (t .orderly));
+          }
 
-exact-runs : (w : WholeLegs) (rs : List Request) (f : Side) (line : List Placed) (runway : List Aircraft) → Orderly f line runway (inMiles w) → (s : ℕ → Flight)
-    → Each (KnownBy w s) line → Each (KnownBy w s) (map onRunway runway)
-    → Kept w (fieldOf f line runway (inMiles w)) s rs
-exact-runs w [] f line runway o s p q = record { first-then = f; line-then = line; runway-then = runway; stands = refl; known-line = p; known-runway = q }
-exact-runs w (r ∷ rs) f line runway o s p q =
-    let g = fieldOf f line runway (inMiles w) in
-    let more : ℕ → Flight = λ n. flightWith w n (s n) (r, stepOf g r .answer) in
-    let one-more : Kept w (stepOf g r .field) more rs → Kept w g s (r ∷ rs) =
-    λ k. record { first-then = k .first-then; line-then = k .line-then; runway-then = k .runway-then; stands = k .stands; known-line = k .known-line; known-runway = k .known-runway } in
-    elim (outcome f line runway (inMiles w) o r) [
-      | inl a ↦
-          let b = a .after in
-          let e : stepOf g r .field ≡ fieldOf (b .first-after) (b .line-after) (b .runway-after) (inMiles w) = field-accepted g r (a .number-0) ∙ b .effect in
-          let both = accepted-known w f line runway o r s p q a in
-          one-more (subst (λ (h : Field). Kept w h more rs) (sym e) (exact-runs w rs (b .first-after) (b .line-after) (b .runway-after) (b .orderly) more (both .0) (both .1)))
-      | inr t ↦
-          let z : numberOf g r ≡ 0 → ⊥ = λ q. let n = t .not-0 in omega arith in
-          let e : stepOf g r .field ≡ g = field-refused g r z in
-          one-more (subst (λ (h : Field). Kept w h more rs) (sym e)
-          (exact-runs w rs f line runway o more (refused-known w f line runway o r s z line p) (refused-known w f line runway o r s z (map onRunway runway) q)))
-    ]
+  -- everyone after a request, accepted or refused
+  step-known : KnownOn w more (stepOf F r .field)
+  step-known =
+      elim (outcome f line runway (inMiles w) (k .orderly) r) [
+        | inl a ↦
+            let b = a .after in
+            record { first = b .first-after; line = b .line-after; runway = b .runway-after; stands = field-accepted F r (a .number-0) ∙ b .effect; known = accepted-known a }
+        | inr t ↦
+            let z : numberOf F r ≡ 0 → ⊥ = λ q. let n = t .not-0 in omega arith in
+            record {
+              first = f;
+              line = line;
+              runway = runway;
+              stands = field-refused F r z;
+              known = record { orderly = k .orderly; known-line = refused-known z line (k .known-line); known-runway = refused-known z (map onRunway runway) (k .known-runway) };
+            }
+      ]
+
+exact-runs : {w : WholeLegs} {s : ℕ → Flight} {g : Field} (rs : List Request) → KnownOn w s g → KnownOn w (λ n. flightAfter w n (s n) (played g rs)) (fieldAfter g rs)
+exact-runs [] k = k
+exact-runs {w} {s} {g} (r ∷ rs) k =
+    exact-runs rs (subst⁻¹ (λ (h : Field). KnownOn w (λ n. flightWith w n (s n) (r, stepOf h r .answer)) (stepOf h r .field)) (k .stands) (step-known (k .known) r))
 
 -- ---- by zone
 module _ (w : WholeLegs) (s : ℕ → Flight) where
@@ -245,12 +261,13 @@ module _ (w : WholeLegs) (s : ℕ → Flight) where
 pub exactness : (w : WholeLegs) (rs : List Request) → Exact w rs
 exactness w rs =
     let g = emptyField (inMiles w) in
-    let none : ℕ → Flight = λ n. noFlight in
-    let k : Kept w g none rs = subst (λ (h : Field). Kept w h none rs) (sym (empty-is (inMiles w))) (exact-runs w rs rightSide [] [] (empty-orderly (inMiles w) (legs-legal w)) none tt tt) in
+    let start : KnownOn w (λ n. noFlight) g =
+    record { first = rightSide; line = []; runway = []; stands = empty-is (inMiles w); known = record { orderly = empty-orderly (inMiles w) (legs-legal w); known-line = tt; known-runway = tt } } in
+    let k = exact-runs rs start in
     let s : ℕ → Flight = λ n. flightAfter w n noFlight (played g rs) in
     let In : ℕ → Type 0 = λ z. Each (AccountIn w s z) (inZone (fieldAfter g rs) z) in
     zone-split {P = In}
-    (subst (Each (AccountIn w s 13)) (sym (ap (λ (h : Field). inZone h 13) (k .stands) ∙ on-runway (k .first-then) (k .line-then) (k .runway-then) (inMiles w)))
-    (runway-each w s (k .runway-then) (k .known-runway)))
-    (λ z t. subst (Each (AccountIn w s z)) (sym (ap (λ (h : Field). inZone h z) (k .stands) ∙ in-line (k .first-then) (k .line-then) (k .runway-then) (inMiles w) z t))
-    (inside-each w s z (k .line-then) (k .known-line)))
+    (subst (Each (AccountIn w s 13)) (sym (ap (λ (h : Field). inZone h 13) (k .stands) ∙ on-runway (k .first) (k .line) (k .runway) (inMiles w)))
+    (runway-each w s (k .runway) (k .known .known-runway)))
+    (λ z t. subst (Each (AccountIn w s z)) (sym (ap (λ (h : Field). inZone h z) (k .stands) ∙ in-line (k .first) (k .line) (k .runway) (inMiles w) z t))
+    (inside-each w s z (k .line) (k .known .known-line)))

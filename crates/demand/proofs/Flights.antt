@@ -145,8 +145,8 @@ joined-past m b k s t a =
     ∙ ap (min m) (add-assoc b (s * t - k) (min k (s * t) + s * a - k) ∙ ap (λ (n : ℕ). b + n) (in-two k (s * t) (s * a) ∙ ap (λ (n : ℕ). n - k) (sym (mul-add s t a))))
 
 -- a tick adds nothing in a zone that is not flown in
-pub known-waiting : (w : WholeLegs) (amount : ℕ) (s : Flight) (z : ℕ) (a : Aircraft) → isFlyingZone z ≡ false → Known w s z a → Known w (ticking s amount) z a
-known-waiting w amount s z a e p =
+pub known-waiting : {w : WholeLegs} {s : Flight} {z : ℕ} {a : Aircraft} (amount : ℕ) → isFlyingZone z ≡ false → Known w s z a → Known w (ticking s amount) z a
+known-waiting {s = s} {z} {a} amount e p =
     record {
       account = record {
         leg = p .account .leg;
@@ -160,7 +160,7 @@ known-waiting w amount s z a e p =
       same-flown = p .same-flown;
     }
 
-module _ (w : WholeLegs) (amount : ℕ) (fits : Between 1 longestTick amount) (s : Flight) (z : ℕ) (a : Aircraft) (fit : T (fitsZone (inMiles w) z a)) (p : Known w s z a) where
+module _ {w : WholeLegs} {amount : ℕ} {s : Flight} {z : ℕ} {a : Aircraft} (fits : Between 1 longestTick amount) (fit : T (fitsZone (inMiles w) z a)) (p : Known w s z a) where
   flies : isFlyingZone z ≡ true → Known w (ticking s amount) z (tickedAircraft amount a)
   unfolding tickedAircraft
   flies e =
@@ -194,7 +194,7 @@ module _ (w : WholeLegs) (amount : ℕ) (fits : Between 1 longestTick amount) (s
 
   -- in its zone after a tick
   pub known-ticked : Known w (ticking s amount) z (tickedAt amount z a)
-  known-ticked = either-way (λ (x : Aircraft). Known w (ticking s amount) z x) (isFlyingZone z) (tickedAircraft amount a) a flies (λ e. known-waiting w amount s z a e p)
+  known-ticked = either-way (λ (x : Aircraft). Known w (ticking s amount) z x) (isFlyingZone z) (tickedAircraft amount a) a flies (λ e. known-waiting amount e p)
 
 -- ---- any other accepted request: a leg begins at 0 miles
 begun : (k z : ℕ) (a : Aircraft) → a .progress ≡ progressInto z → T (isFlyingZone z) → FlownExactly (a .progress) (min k (a .speed * 0))
@@ -207,39 +207,40 @@ begun k z a h u =
 none-yet : (z k v n : ℕ) → n ≡ n + pastIn z k (v * 0)
 none-yet z k v n = let h : pastIn z k (v * 0) ≡ 0 = ap (pastIn z k) (mul-zero v) ∙ past-none z k in omega arith
 
--- one that has come into another zone with the request: what its leg before gave is added up
-module _ (w : WholeLegs) (s : Flight) (e g : Placed) (p : Known w s (e .zone) (e .aircraft)) (speed : g .aircraft .speed ≡ e .aircraft .speed)
-    (waited : g .aircraft .waited ≡ e .aircraft .waited) (begins : g .aircraft .progress ≡ progressInto (g .zone)) where
+-- e has come into another zone, as g, with its speed and its miles waited
+record Arrived (e g : Placed) : Type 0 where
+  speed : g .aircraft .speed ≡ e .aircraft .speed
+  waited : g .aircraft .waited ≡ e .aircraft .waited
+  begins : g .aircraft .progress ≡ progressInto (g .zone)
+
+module _ {w : WholeLegs} {s : Flight} {e g : Placed} (p : Known w s (e .zone) (e .aircraft)) (i : Arrived e g) where
   -- what it has flown past the ends, by the field and by its flight
   so-far : s .before + pastIn (e .zone) (s .leg) (e .aircraft .speed * s .ticks) ≡ pastSoFar s
   so-far =
       ap (λ (b : Bool). s .before + cond b (e .aircraft .speed * s .ticks - s .leg) 0) (sym (p .same-flown))
       ∙ ap (λ (v : ℕ). s .before + pastIn (s .zone) (s .leg) (v * s .ticks)) (p .same-speed)
 
-  known-into : (t : Flight) → t .speed ≡ s .speed → t .zone ≡ g .zone → t .ticks ≡ 0 → t .before ≡ pastSoFar s → Exactly (g .aircraft .leg) (t .leg)
-      → LegKnown w (g .zone) (t .leg) → Known w t (g .zone) (g .aircraft)
-  known-into t same zone ticks before exact own =
-      let v = g .aircraft .speed in
-      let sum : s .before + pastIn (e .zone) (s .leg) (e .aircraft .speed * s .ticks) ≡ t .before + pastIn (g .zone) (t .leg) (v * 0) =
-      so-far ∙ sym before ∙ none-yet (g .zone) (t .leg) v (t .before) in
+  -- with a leg of k / 4096 miles that begins: what its leg before gave is added up
+  known-into : {zone k : ℕ} → zone ≡ g .zone → Exactly (g .aircraft .leg) k → LegKnown w (g .zone) k
+      → Known w (record { speed = s .speed; zone = zone; leg = k; ticks = 0; before = pastSoFar s }) (g .zone) (g .aircraft)
+  known-into {zone} {k} there exact own =
       record {
         account = record {
           leg = exact;
-          miles = λ u. subst (λ (n : ℕ). FlownExactly (g .aircraft .progress) (min (t .leg) (v * n))) (sym ticks) (begun (t .leg) (g .zone) (g .aircraft) begins u);
+          miles = λ u. begun k (g .zone) (g .aircraft) (i .begins) u;
           waited =
-              subst (λ (n : ℕ). Exactly (g .aircraft .waited) (min mostIn4096ths (t .before + pastIn (g .zone) (t .leg) (v * n)))) (sym ticks)
-              (subst (λ (x : Float). Exactly x (min mostIn4096ths (t .before + pastIn (g .zone) (t .leg) (v * 0))))
-              (sym waited) (subst (λ (n : ℕ). Exactly (e .aircraft .waited) (min mostIn4096ths n)) sum (p .account .waited)));
+              subst (λ (x : Float). Exactly x (min mostIn4096ths (pastSoFar s + pastIn (g .zone) k (g .aircraft .speed * 0)))) (sym (i .waited))
+              (subst (λ (n : ℕ). Exactly (e .aircraft .waited) (min mostIn4096ths n)) (so-far ∙ none-yet (g .zone) k (g .aircraft .speed) (pastSoFar s)) (p .account .waited));
         };
-        same-speed = speed ∙ p .same-speed ∙ sym same;
+        same-speed = i .speed ∙ p .same-speed;
         own-leg = own;
-        same-flown = ap isFlyingZone zone;
+        same-flown = ap isFlyingZone there;
       }
 
-pub known-onward : (w : WholeLegs) (s : Flight) (zone : ℕ) (e g : Placed) → Known w s (e .zone) (e .aircraft) → Onward (inMiles w) e g → zone ≡ g .zone
+pub known-onward : {w : WholeLegs} {s : Flight} {zone : ℕ} {e g : Placed} → Known w s (e .zone) (e .aircraft) → Onward (inMiles w) e g → zone ≡ g .zone
     → Known w (onward w s zone) (g .zone) (g .aircraft)
-known-onward w s zone e g p on h =
-    known-into w s e g p (on .same-speed) (on .same-waited) (on .begins) (onward w s zone) refl h refl refl
+known-onward {w} {g = g} p on h =
+    known-into p (record { speed = on .same-speed; waited = on .same-waited; begins = on .begins }) h
     (subst (λ (y : ℕ). Exactly (g .aircraft .leg) (zoneLegIn4096ths w y)) (sym h) (subst (λ (x : Float). Exactly x (zoneLegIn4096ths w (g .zone))) (sym (on .leg-is)) (zone-leg-exact w (g .zone))))
     (subst (λ (y : ℕ). LegKnown w (g .zone) (zoneLegIn4096ths w y)) (sym h) (zone-leg-known w (g .zone)))
 
@@ -247,10 +248,10 @@ known-onward w s zone e g p on h =
 left-of : (j k x : ℕ) → j + (k - min k x) ≡ j + (k - x)
 left-of j k x = omega arith
 
-pub known-turned : (w : WholeLegs) (s : Flight) (zone : ℕ) (e g : Placed) → Known w s (e .zone) (e .aircraft) → Turned (inMiles w) e g → zone ≡ g .zone
+pub known-turned : {w : WholeLegs} {s : Flight} {zone : ℕ} {e g : Placed} → Known w s (e .zone) (e .aircraft) → Turned (inMiles w) e g → zone ≡ g .zone
     → Known w (afterMiss w s zone) (g .zone) (g .aircraft)
 unfolding isFlyingZone
-known-turned w s zone e g p on h =
+known-turned {w} {s} {zone} {e} {g} p on h =
     let j = 64 * w .missed-leg in
     let k = s .leg in
     let v = e .aircraft .speed in
@@ -265,7 +266,7 @@ known-turned w s zone e g p on h =
     missed-leg-exact (sixtyFourths (w .missed-leg)) (e .aircraft .leg) (e .aircraft .progress) j k m
     (sixty-fourths-in-4096ths (w .missed-leg) (w .missed-fits) .exact) (p .account .leg) flown (omega arith) (omega arith) in
     let same : j + (k - m) ≡ j + n = left-of j k (v * s .ticks) ∙ ap (λ (x : ℕ). j + (k - x * s .ticks)) (p .same-speed) in
-    known-into w s e g p (on .turned-speed) (on .turned-waited) (on .begins-anew) (afterMiss w s zone) refl h refl refl
+    known-into p (record { speed = on .turned-speed; waited = on .turned-waited; begins = on .begins-anew }) h
     (subst (Exactly (g .aircraft .leg)) same (subst (λ (x : Float). Exactly x (j + (k - m))) (sym (on .leg-ahead)) ahead))
     (record {
       range = λ u. record { least = omega arith; most = omega arith };
@@ -274,10 +275,10 @@ known-turned w s zone e g p on h =
     })
 
 -- one that has gone along from a zone that is not flown in to another
-pub known-along : (w : WholeLegs) (s : Flight) (e g : Placed) → Known w s (e .zone) (e .aircraft) → Onward (inMiles w) e g → isFlyingZone (e .zone) ≡ false
+pub known-along : {w : WholeLegs} {s : Flight} {e g : Placed} → Known w s (e .zone) (e .aircraft) → Onward (inMiles w) e g → isFlyingZone (e .zone) ≡ false
     → isFlyingZone (g .zone) ≡ false → Known w s (g .zone) (g .aircraft)
 unfolding ofInt
-known-along w s e g p on i j =
+known-along {w} {s} {e} {g} p on i j =
     let same : pastIn (e .zone) (s .leg) (e .aircraft .speed * s .ticks) ≡ pastIn (g .zone) (s .leg) (g .aircraft .speed * s .ticks) =
     past-waiting (e .zone) (s .leg) (e .aircraft .speed * s .ticks) i ∙ sym (past-waiting (g .zone) (s .leg) (g .aircraft .speed * s .ticks) j) in
     let none : s .leg ≡ 0 = p .own-leg .none i in
@@ -298,9 +299,9 @@ known-along w s e g p on i j =
     final-flown z = false≢true (sym j ∙ passed {b = isFlyingZone (g .zone)} (flown-final (g .zone) z))
 
 -- one that has entered
-pub known-entry : (w : WholeLegs) (speed zone z : ℕ) (a : Aircraft) → a .speed ≡ speed → a .waited ≡ whole 0 → a .leg ≡ whole 0 → isFlyingZone z ≡ false → zone ≡ z → Known w (entry speed zone) z a
+pub known-entry : {w : WholeLegs} {speed zone z : ℕ} {a : Aircraft} → a .speed ≡ speed → a .waited ≡ whole 0 → a .leg ≡ whole 0 → isFlyingZone z ≡ false → zone ≡ z → Known w (entry speed zone) z a
 unfolding ofInt
-known-entry w speed zone z a v x l j h =
+known-entry {z = z} {a} v x l j h =
     record {
       account = record {
         leg = subst (λ (y : Float). Exactly y 0) (sym l) (refl, refl);

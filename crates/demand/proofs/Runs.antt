@@ -1,14 +1,13 @@
 -- Any list of requests from a field that an orderly line stands for leads to such a field; with the counts over its answers.
 -- Assumes nothing.
-use mathlib.Core.Path.{_≡_, refl, sym, ap, _∙_, subst}
+use mathlib.Core.Path.{_≡_, refl, sym, ap, _∙_, subst, subst⁻¹}
 use mathlib.Core.Logic.{inl, inr}
 use mathlib.Core.Bool.{Bool, true, false, cond, not, _&&_, _||_}
 use mathlib.Core.List.{List, [], _∷_}
 use Prim.Native.Nat.{ℕ, _+_, _≤_}
 use native.Mathlib.Omega.{arith}
-use lib.Dec.{T, leb, eqb, leb→le}
-use lib.ListN.{length}
-use lib.Ieee.Fits.{and-i, and-l, and-r}
+use lib.Dec.{T, eqb}
+use lib.Ieee.Fits.{and-i}
 use borrow.Author.Tests.{eqb-true, eq-eqb, ne-eqb}
 use Rattle.request.specs.Input.{within, isEntry}
 use Rattle.request.specs.declared.Request.{Request}
@@ -20,7 +19,7 @@ use Rattle.rules.specs.declared.Answer.{Answer}
 use Rattle.rules.specs.Step.{numberOf, stepOf}
 use Rattle.rules.specs.Play.{fieldAfter, played, isAccepted, accepted, letIn, taxiedOff, exitedFrom, moves, addsMoves}
 use Rattle.demand.specs.Demand.{neverAnswers}
-use Rattle.field.proofs.TestLaws.{pass, fail, decided}
+use Rattle.field.proofs.TestLaws.{fail, decided}
 use Rattle.line.proofs.Line.{Placed, fieldOf}
 use Rattle.line.proofs.Orderly.{Orderly}
 use Rattle.moves.proofs.After.{leaves, weightOf}
@@ -87,10 +86,10 @@ leaves-one k t = elim (decided (eqb k 8)) [ inl e ↦ eight e | inr e ↦ other 
     other true b e = absurd (mathlib.Core.Bool.true≢false e)
     other false b e = omega arith
 
-module _ (legs : Legs) (g : Field) (r : Request) (rs : List Request) where
+module _ {legs : Legs} {g : Field} {r : Request} {rs : List Request} {p : (ℕ → Bool) → ℕ} {w : ℕ} where
   -- after a refusal
-  refused-then : (p : (ℕ → Bool) → ℕ) (w : ℕ) → NeverOthers (numberOf g r) → Run legs (stepOf g r .field) p w rs → Run legs g p w (r ∷ rs)
-  refused-then p w n run =
+  refused-then : NeverOthers (numberOf g r) → Run legs (stepOf g r .field) p w rs → Run legs g p w (r ∷ rs)
+  refused-then n run =
       let b : eqb (stepOf g r .answer .number) 0 ≡ false = ne-eqb (stepOf g r .answer .number) 0 (λ e. let z = n .not-0 in let q = sym (number-is g r) ∙ e in omega arith) in
       let ps = played (stepOf g r .field) rs in
       record {
@@ -117,10 +116,10 @@ module _ (legs : Legs) (g : Field) (r : Request) (rs : List Request) where
       }
 
   -- after an acceptance that changes the counts as said
-  accepted-then : (p p′ : (ℕ → Bool) → ℕ) (w w′ : ℕ) → numberOf g r ≡ 0
+  accepted-then : {p′ : (ℕ → Bool) → ℕ} {w′ : ℕ} → numberOf g r ≡ 0
       → ((who : ℕ → Bool) → p′ who + one (leaves (r .kind) && who (r .desk)) ≡ p who + one (isEntry (r .kind) && who (r .desk))) → (addsMoves (r .kind) ≡ false → w′ + one (within 3 11 (r .kind)) ≤ w)
       → Run legs (stepOf g r .field) p′ w′ rs → Run legs g p w (r ∷ rs)
-  accepted-then p p′ w w′ z bal light run =
+  accepted-then z bal light run =
       let b : eqb (stepOf g r .answer .number) 0 ≡ true = eq-eqb (stepOf g r .answer .number) 0 (number-is g r ∙ z) in
       let ps = played (stepOf g r .field) rs in
       record {
@@ -155,6 +154,10 @@ module _ (legs : Legs) (g : Field) (r : Request) (rs : List Request) where
       zero-one false e = refl
 
 -- ---- every list
+-- after a list from a field, by the line and the runway that it started with
+abbrev RunFrom : Legs → List Placed → List Aircraft → List Request → Field → Type 0
+RunFrom legs line runway rs g = Run legs g (λ who. owners who line runway) (weightOf line runway) rs
+
 pub runs : (legs : Legs) (rs : List Request) (f : Side) (line : List Placed) (runway : List Aircraft) → Orderly f line runway legs
     → Run legs (fieldOf f line runway legs) (λ who. owners who line runway) (weightOf line runway) rs
 runs legs [] f line runway o =
@@ -164,13 +167,10 @@ runs legs (r ∷ rs) f line runway o =
     elim (outcome f line runway legs o r) [
       | inl a ↦
           let b = a .after in
-          let w = weightOf (b .line-after) (b .runway-after) in
-          let p : (ℕ → Bool) → ℕ = λ who. owners who (b .line-after) (b .runway-after) in
           let e : stepOf g r .field ≡ fieldOf (b .first-after) (b .line-after) (b .runway-after) legs = field-accepted g r (a .number-0) ∙ b .effect in
-          accepted-then legs g r rs (λ who. owners who line runway) p (weightOf line runway) w (a .number-0) (b .balance) (b .lighter)
-          (subst (λ (h : Field). Run legs h p w rs) (sym e) (runs legs rs (b .first-after) (b .line-after) (b .runway-after) (b .orderly)))
+          accepted-then (a .number-0) (b .balance) (b .lighter)
+          (subst⁻¹ (RunFrom legs (b .line-after) (b .runway-after) rs) e (runs legs rs (b .first-after) (b .line-after) (b .runway-after) (b .orderly)))
       | inr n ↦
           let e : stepOf g r .field ≡ g = field-refused g r (λ q. let z = n .not-0 in omega arith) in
-          refused-then legs g r rs (λ who. owners who line runway) (weightOf line runway) n
-          (subst (λ (h : Field). Run legs h (λ who. owners who line runway) (weightOf line runway) rs) (sym e) (runs legs rs f line runway o))
+          refused-then n (subst⁻¹ (RunFrom legs line runway rs) e (runs legs rs f line runway o))
     ]

@@ -1,7 +1,8 @@
 -- Somebody can always move: on a field that an orderly line stands for, with everyone's leg flown out, the one on the runway taxies off,
 -- and where there is none the first of the sequence goes on. Assumes nothing.
-use mathlib.Core.Path.{_≡_, refl, sym, ap, _∙_, subst}
-use mathlib.Core.Bool.{Bool, true, false, cond, not, _||_}
+use mathlib.Core.Path.{_≡_, refl, ap, _∙_, subst}
+use mathlib.Core.Logic.{inl, inr}
+use mathlib.Core.Bool.{Bool, true, false, cond, _||_}
 use mathlib.Core.List.{List, [], _∷_, _++_}
 use Prim.Native.Nat.{ℕ, _+_, _≤_, _<_}
 use native.Mathlib.Nat.{pos-of-ne-zero}
@@ -9,7 +10,7 @@ use native.Mathlib.Omega.{arith}
 use lib.Dec.{T, leb, eqb, leb→le}
 use lib.ListN.{length}
 use lib.Ieee.Fits.{and-l, and-r}
-use borrow.Author.Tests.{eqb-false, eq-eqb}
+use borrow.Author.Tests.{eqb-true, eqb-false, eq-eqb, ne-eqb}
 use Rattle.request.specs.Input.{within, firstRefused}
 use Rattle.request.specs.declared.Request.{Request}
 use Rattle.request.proofs.InputTests as input
@@ -18,18 +19,17 @@ use Rattle.field.specs.declared.Aircraft.{Aircraft}
 use Rattle.field.specs.declared.Legs.{Legs}
 use Rattle.field.specs.declared.Field.{Field}
 use Rattle.questions.specs.declared.Place.{Place}
-use Rattle.field.specs.Airspace.{sideOf, opposite, at2000, inZone, isFlyingZone, legFlownOut, zonesFrom}
+use Rattle.field.specs.Airspace.{sideOf, opposite, at2000, inZone, isFlyingZone, legFlownOut}
 use Rattle.questions.specs.Counts.{howMany, isEmpty}
 use Rattle.questions.specs.Find.{placeOf, aircraftAt, isFirst, leaderZone}
 use Rattle.field.specs.Lists.{every}
 use Rattle.fits.specs.Fits.{fitsZone}
-use Rattle.order.specs.Model as model
 use Rattle.order.specs.Model.{Side, count, free, needs}
 use Rattle.order.proofs.Facts.{headKind, head-moves}
-use Rattle.rules.specs.Kinds.{placeBefore, zoneBefore, startsFrom, belongsTo, headChecks, mayApproach, mayMerge, baseFree}
+use Rattle.rules.specs.Kinds.{placeBefore, startsFrom, belongsTo, headChecks, mayApproach, mayMerge, baseFree}
 use Rattle.rules.specs.Step.{checksOf}
 use Rattle.demand.specs.Demand.{allFlownOut, movesOn, MovesOn}
-use Rattle.field.proofs.TestLaws.{passed, failed, each-operation, every-from}
+use Rattle.field.proofs.TestLaws.{decided, passed, failed, each-operation, every-from}
 use Rattle.field.proofs.NumberLists.{alone}
 use Rattle.line.proofs.AheadInLists.{every-right}
 use Rattle.line.proofs.Line.{Placed, zonesIn, numbersOf, inside, fieldOf}
@@ -49,165 +49,197 @@ use Rattle.moves.proofs.Outcomes.{accepted-by}
 abbrev pub move : ℕ → Aircraft → Request
 move kind a = record { kind = kind; side = 0; number = a .number; amount = 0; desk = a .desk }
 
-positive : (n : ℕ) → T (nonzero n) → 1 ≤ n
-positive n t = pos-of-ne-zero (eqb-false n 0 (failed {b = eqb n 0} t))
+-- ---- the kinds by which somebody goes on
+
+-- kinds 3 to 8 and 11 lie between 3 and 11
+pub moves-low : (k : ℕ) → T (movesOn k) → (3 ≤ k) × (k ≤ 11)
+moves-low k t =
+    elim (decided (within 3 8 k)) [
+      | inl e ↦ (let l = input.within-low 3 8 k e in let h = input.within-high 3 8 k e in (l, omega arith))
+      | inr e ↦ (let q = eqb-true k 11 (passed (subst (λ (b : Bool). T (b || eqb k 11)) e t)) in (omega arith, omega arith))
+    ]
+
+-- such a request asks for 12, 26, 13 and 14, and for what its kind needs besides
+pub checks-of-move : (f : Field) (r : Request) → T (movesOn (r .kind)) → checksOf f r ≡ headChecks (r .kind) (placeBefore f r) (owned f r) ++ besides f r (r .kind)
+checks-of-move f r m =
+    let k = r .kind in
+    let (low, high) = moves-low k m in
+    checks-at f r {k = k} refl ∙ simp (input.within-above 1 2 k (omega arith), ne-eqb k 12 (λ q. omega arith))
+
+-- ---- one at the head of zone z, as it asks for a move
+record AtHead (f : Field) (z : ℕ) (a : Aircraft) : Type 0 where
+  place : placeOf f (a .number) ≡ at z 1
+  here : aircraftAt f z 1 ≡ a
+  zone : 1 ≤ z
+  named : T (nonzero (a .number))
+  desk : DeskKnown (a .desk)
 
 -- an aircraft that fits its zone has a desk
 desk-of : (legs : Legs) (z : ℕ) (a : Aircraft) → T (fitsZone legs z a) → DeskKnown (a .desk)
 desk-of legs z a t = let d = fits-parts legs z a t .desk in record { low = d .least; high = d .most }
 
-module _ (f : Side) (line : List Placed) (runway : List Aircraft) (legs : Legs) (o : Orderly f line runway legs) (k : ℕ) (a : Aircraft) where
+module _ {f : Side} {line : List Placed} {runway : List Aircraft} {legs : Legs} (o : Orderly f line runway legs) {z : ℕ} {a : Aircraft} (h : AtHead (fieldOf f line runway legs) z a) where
   abbrev F : Field
   F = fieldOf f line runway legs
 
-  abbrev r : Request
-  r = move k a
+  -- 12, 26, 13 and 14 pass for a kind that starts from its zone
+  head-checks : (k : ℕ) → T (startsFrom k z) → (rest : List (ℕ × Bool)) → firstRefused rest ≡ 0 → firstRefused (headChecks k (placeOf F (a .number)) (owned F (move k a)) ++ rest) ≡ 0
+  unfolding belongsTo
+  head-checks k starts rest e =
+      let low = h .zone in
+      let own : eqb (aircraftAt F z 1 .desk) (a .desk) ≡ true = eq-eqb (aircraftAt F z 1 .desk) (a .desk) (ap (λ (x : Aircraft). x .desk) (h .here)) in
+      ap (λ (q : Place). firstRefused (headChecks k q (belongsTo F q (a .desk)) ++ rest)) (h .place) ∙ simp (ne-eqb z 0 (λ q. omega arith), own, passed {b = startsFrom k z} starts) e
 
-  -- a move whose checks pass is accepted
-  accept : 3 ≤ k → k ≤ 11 → T (movesOn k) → T (nonzero (a .number)) → DeskKnown (a .desk) → firstRefused (checksOf F r) ≡ 0 → MovesOn F
-  accept l h t z d c =
+  -- its move is accepted where what the kind needs besides is met
+  goes-on : (k : ℕ) → T (movesOn k) → T (startsFrom k z) → firstRefused (besides F (move k a) k) ≡ 0 → MovesOn F
+  goes-on k t starts met =
+      let r = move k a in
+      let range = moves-low k t in
+      let number = pos-of-ne-zero (eqb-false (a .number) 0 (failed {b = eqb (a .number) 0} (h .named))) in
+      let input = move-allowed r (range .0) (range .1) (record { side = refl; number = number; amount = refl }) (h .desk) in
       record {
         request = r;
         kind = t;
-        accepted = number-is F r ∙ accepted-by f line runway legs o r (move-allowed r l h (record { side = refl; number = positive (a .number) z; amount = refl }) d) c .number-0;
+        accepted = number-is F r ∙ accepted-by f line runway legs o r input (ap firstRefused (checks-of-move F r t) ∙ head-checks k starts (besides F r k) met) .number-0;
       }
 
-  -- 12, 26, 13 and 14 pass for the one at the head of a zone that the kind starts from
-  head-checks : (z : ℕ) → placeOf F (a .number) ≡ at z 1 → aircraftAt F z 1 ≡ a → T (not (eqb z 0)) → T (startsFrom k z) → (rest : List (ℕ × Bool))
-      → firstRefused rest ≡ 0 → firstRefused (headChecks k (placeBefore F r) (owned F r) ++ rest) ≡ 0
-  unfolding belongsTo
-  head-checks z p w t u rest e =
-      ap (λ (q : Place). firstRefused ((12, not (eqb (q .zone) 0)) ∷ (26, eqb (aircraftAt F (q .zone) (q .place) .desk) (a .desk)) ∷ (13, startsFrom k (q .zone)) ∷ (14, eqb (q .place) 1) ∷ rest)) p
-      ∙ ap (λ (b : Bool). cond b (firstRefused ((26, eqb (aircraftAt F z 1 .desk) (a .desk)) ∷ (13, startsFrom k z) ∷ rest)) 12) (passed {b = not (eqb z 0)} t)
-      ∙ ap (λ (b : Bool). cond b (firstRefused ((13, startsFrom k z) ∷ rest)) 26) (eq-eqb (aircraftAt F z 1 .desk) (a .desk) (ap (λ (x : Aircraft). x .desk) w))
-      ∙ ap (λ (b : Bool). cond b (firstRefused rest) 13) (passed {b = startsFrom k z} u)
-      ∙ e
-
--- ---- the one on the runway
-taxi : (f : Side) (line : List Placed) (x : Aircraft) (legs : Legs) → Orderly f line (x ∷ []) legs → MovesOn (fieldOf f line (x ∷ []) legs)
+-- ---- the one on the runway taxies off
+taxi : {f : Side} {line : List Placed} {x : Aircraft} {legs : Legs} → Orderly f line (x ∷ []) legs → MovesOn (fieldOf f line (x ∷ []) legs)
 unfolding startsFrom
-taxi f line x legs o =
-    let F = fieldOf f line (x ∷ []) legs in
-    let al = alone (numbersOf line) (x .number) [] (o .different) in
-    accept f line (x ∷ []) legs o 8 x (omega arith) (omega arith) tt (and-l (nonzero (x .number)) true (every-right nonzero (numbersOf line) (x .number ∷ []) (o .nonzeros)))
-    (desk-of legs 13 x (and-l (fitsZone legs 13 x) true (o .fit-runway)))
-    (ap firstRefused (checks-at F (move 8 x) {k = 8} refl) ∙ head-checks f line (x ∷ []) legs o 8 x 13 (located-runway f line x legs (al .ahead)) (runway-head f line x legs) tt tt [] refl)
+taxi {f} {line} {x} {legs} o =
+    goes-on o
+    (record {
+      place = located-runway f line x legs (alone (numbersOf line) (x .number) [] (o .different) .ahead);
+      here = runway-head f line x legs;
+      zone = omega arith;
+      named = and-l (nonzero (x .number)) true (every-right nonzero (numbersOf line) (x .number ∷ []) (o .nonzeros));
+      desk = desk-of legs 13 x (and-l (fitsZone legs 13 x) true (o .fit-runway));
+    })
+    8 tt tt refl
 
--- ---- the first of the sequence, with nobody on the runway
-module _ (f : Side) (e : Placed) (b : List Placed) (legs : Legs) (o : Orderly f (e ∷ b) [] legs) (flown : T (allFlownOut (fieldOf f (e ∷ b) [] legs))) where
-  abbrev G : Field
-  G = fieldOf f (e ∷ b) [] legs
+-- ---- the first of the sequence, x with b behind it, and nobody on the runway
+module _ (f : Side) (x : Aircraft) (b : List Placed) (legs : Legs) where
+  -- the line, and the field, with x in zone z
+  abbrev lineFrom : ℕ → List Placed
+  lineFrom z = record { zone = z; aircraft = x } ∷ b
 
-  abbrev z : ℕ
-  z = e .zone
+  abbrev G : ℕ → Field
+  G z = fieldOf f (lineFrom z) [] legs
 
-  abbrev x : Aircraft
-  x = e .aircraft
+  -- the line is orderly, and every leg is flown out
+  record FirstIn (z : ℕ) : Type 0 where
+    orderly : Orderly f (lineFrom z) [] legs
+    flown : T (allFlownOut (G z))
 
-  abbrev m : ℕ
-  m = x .number
+  module _ {z : ℕ} (s : FirstIn z) where
+    abbrev e : Placed
+    e = record { zone = z; aircraft = x }
 
-  z-in : T (within 1 12 z)
-  z-in = zone-in f [] e b [] legs o
+    z-in : T (within 1 12 z)
+    z-in = zone-in f [] e b [] legs (s .orderly)
 
-  named : T (nonzero m)
-  named = and-l (nonzero m) (every nonzero (numbersOf b ++ [])) (o .nonzeros)
+    place : placeOf (G z) (x .number) ≡ at z 1
+    place = located f [] e b [] legs (s .orderly .different) z-in
 
-  place : placeOf G m ≡ at z 1
-  place = located f [] e b [] legs (o .different) z-in
+    here : aircraftAt (G z) z 1 ≡ x
+    here = head-there f [] e b [] legs (s .orderly .different) z-in refl
 
-  before-is : (k : ℕ) → zoneBefore G (move k x) ≡ z
-  before-is k = ap (λ (p : Place). p .zone) place
+    heads : AtHead (G z) z x
+    heads =
+        record {
+          place = place;
+          here = here;
+          zone = leb→le 1 z (and-l (leb 1 z) (leb z 12) z-in);
+          named = and-l (nonzero (x .number)) (every nonzero (numbersOf b ++ [])) (s .orderly .nonzeros);
+          desk = desk-of legs z x (fit-here f [] e b [] legs (s .orderly));
+        }
 
-  first : isFirst (G .sequence) m ≡ true
-  first = first-there f [] e b [] legs (o .different)
+    zone-before : placeOf (G z) (x .number) .zone ≡ z
+    zone-before = ap (λ (p : Place). p .zone) place
 
-  legs-are : G .legs ≡ legs
-  unfolding fieldOf
-  legs-are = refl
+    -- nobody is ahead of it, whatever is asked of the leader's zone
+    leads : (low high : ℕ) → (isFirst (G z .sequence) (x .number) || within low high (leaderZone (G z) (x .number))) ≡ true
+    leads low high = ap (λ (c : Bool). c || within low high (leaderZone (G z) (x .number))) (first-there f [] e b [] legs (s .orderly .different))
 
-  -- its leg is flown out, where it flies
-  flown-in : (y : ℕ) → T (isFlyingZone y) → T (every (λ y. every legFlownOut (inZone G y)) (zonesFrom 7 6)) → T (every legFlownOut (inZone G y))
-  unfolding isFlyingZone
-  flown-in y u t =
-      every-from (λ y. every legFlownOut (inZone G y)) 7 6 t y (leb→le 7 y (and-l (leb 7 y) (leb y 12) u)) (let h = leb→le y 12 (and-r (leb 7 y) (leb y 12) u) in omega arith)
+    -- its leg is flown out, where it flies
+    flown-out : T (isFlyingZone z) → legFlownOut (aircraftAt (G z) (placeOf (G z) (x .number) .zone) 1) ≡ true
+    unfolding allFlownOut isFlyingZone
+    flown-out u =
+        let low = leb→le 7 z (and-l (leb 7 z) (leb z 12) u) in
+        let high = leb→le z 12 (and-r (leb 7 z) (leb z 12) u) in
+        let t = every-from (λ y. every legFlownOut (inZone (G z) y)) 7 6 (s .flown) z low (omega arith) in
+        let q = subst (λ (l : List Aircraft). T (every legFlownOut l)) (in-line f (lineFrom z) [] legs z z-in ∙ inside-at [] e b) t in
+        ap (λ (y : ℕ). legFlownOut (aircraftAt (G z) y 1)) zone-before ∙ ap legFlownOut here ∙ passed (and-l (legFlownOut x) (every legFlownOut (inside z b)) q)
 
-  flown-out : (k : ℕ) → T (isFlyingZone z) → legFlownOut (aircraftAt G (zoneBefore G (move k x)) 1) ≡ true
-  unfolding allFlownOut
-  flown-out k u =
-      let t = flown-in z u flown in
-      let q = subst (λ (l : List Aircraft). T (every legFlownOut l)) (in-line f (e ∷ b) [] legs z z-in ∙ inside-at [] e b) t in
-      ap (λ (y : ℕ). legFlownOut (aircraftAt G y 1)) (before-is k)
-      ∙ ap legFlownOut (head-there f [] e b [] legs (o .different) z-in refl)
-      ∙ passed (and-l (legFlownOut (e .aircraft)) (every legFlownOut (inside z b)) q)
+    -- how many are in a zone, by the model
+    counted : (w : ℕ) → T (within 1 12 w) → howMany (G z) w ≡ count (z ∷ zonesIn b) w
+    counted w t = how-many f (lineFrom z) [] legs w t
 
-  free-empty : (w : ℕ) → T (within 1 12 w) → T (free (z ∷ zonesIn b) w) → isEmpty G w ≡ true
-  free-empty w t u = ap (λ (c : ℕ). eqb c 0) (how-many f (e ∷ b) [] legs w t) ∙ passed u
+    -- it descends where 2000 is free
+    descends : T (startsFrom 3 z) → T (within 1 12 (at2000 z)) → T (free (z ∷ zonesIn b) (at2000 z)) → MovesOn (G z)
+    descends starts t u =
+        goes-on (s .orderly) heads 3 tt starts
+        (ap (λ (v : ℕ). cond (isEmpty (G z) (at2000 v)) 0 21) zone-before ∙ ap (λ (c : Bool). cond c 0 21) (ap (λ (c : ℕ). eqb c 0) (counted (at2000 z) t) ∙ passed u))
 
-  -- a kind whose other checks pass
-  starts-by-kind : (k : ℕ) → 3 ≤ k → k ≤ 11 → T (movesOn k) → T (startsFrom k z)
-      → checksOf G (move k x) ≡ headChecks k (placeBefore G (move k x)) (owned G (move k x)) ++ besides G (move k x) k → firstRefused (besides G (move k x) k) ≡ 0 → MovesOn G
-  starts-by-kind k l h t s c d =
-      accept f (e ∷ b) [] legs o k x l h t named (desk-of legs z x (fit-here f [] e b [] legs o))
-      (ap firstRefused c ∙ head-checks f (e ∷ b) [] legs o k x z place (head-there f [] e b [] legs (o .different) z-in refl) (not-zero z z-in) s (besides G (move k x) k) d)
-    where
-      not-zero : (y : ℕ) → T (within 1 12 y) → T (not (eqb y 0))
-      not-zero y t = Rattle.field.proofs.TestLaws.fail (borrow.Author.Tests.ne-eqb y 0 (λ q. let l = leb→le 1 y (and-l (leb 1 y) (leb y 12) t) in omega arith))
+    -- it approaches where it comes from a lateral zone, or the opposite base is free
+    approaches : T (startsFrom 4 z) → (within 5 6 z || baseFree (G z) (sideOf z)) ≡ true → MovesOn (G z)
+    unfolding mayApproach
+    approaches starts u =
+        goes-on (s .orderly) heads 4 tt starts
+        (input.none-refused (besides (G z) (move 4 x) 4) (
+          (ap (λ (c : Bool). within 5 6 (placeOf (G z) (x .number) .zone) || c) (leads 9 12) ∙ or-true (within 5 6 (placeOf (G z) (x .number) .zone))),
+          ((ap (λ (v : ℕ). within 5 6 v || baseFree (G z) (sideOf v)) zone-before ∙ u), tt),
+        ))
+      where
+        or-true : (c : Bool) → (c || true) ≡ true
+        or-true true = refl
+        or-true false = refl
 
-  pub first-moves : MovesOn G
-  unfolding startsFrom isFlyingZone mayApproach mayMerge baseFree sideOf opposite
+    -- from 2000 the base w opposite to it is free
+    base-free : (w : ℕ) → T (within 1 12 w) → T (leb (count (z ∷ zonesIn b) w) 1) → leb (howMany (G z) w) 1 ≡ true
+    base-free w t u = ap (λ (c : ℕ). leb c 1) (counted w t) ∙ passed u
+
+    -- it merges from a base
+    merges : T (startsFrom 5 z) → T (isFlyingZone z) → MovesOn (G z)
+    unfolding mayMerge
+    merges starts u = goes-on (s .orderly) heads 5 tt starts (input.none-refused (besides (G z) (move 5 x) 5) (flown-out u, (leads 11 12, tt)))
+
+    -- it goes to final
+    to-final : T (startsFrom 6 z) → T (isFlyingZone z) → MovesOn (G z)
+    to-final starts u = goes-on (s .orderly) heads 6 tt starts (input.none-refused (besides (G z) (move 6 x) 6) (flown-out u, tt))
+
+    -- it holds
+    holds : T (startsFrom 11 z) → T (isFlyingZone z) → MovesOn (G z)
+    holds starts u = goes-on (s .orderly) heads 11 tt starts (input.none-refused (besides (G z) (move 11 x) 11) (flown-out u, tt))
+
+    -- it lands on the runway, which is empty
+    lands : T (startsFrom 7 z) → T (isFlyingZone z) → MovesOn (G z)
+    lands starts u =
+        goes-on (s .orderly) heads 7 tt starts
+        (input.none-refused (besides (G z) (move 7 x) 7) (flown-out u, (ap (λ (c : ℕ). eqb c 0) (how-many-runway f (lineFrom z) [] legs), tt)))
+
+  -- in each of the twelve zones it can go on, by what the model says of the first
+  first-moves : (z : ℕ) → T (within 1 12 z) → FirstIn z → T (eqb z 12 || needs (headKind z) [] z (zonesIn b)) → MovesOn (G z)
+  unfolding startsFrom isFlyingZone baseFree sideOf opposite
   first-moves =
-      let hm = head-moves f z (zonesIn b) (o .okay-line) in
-      let holds = each-operation (λ (y : ℕ). z ≡ y → T (eqb y 12 || needs (headKind y) [] y (zonesIn b)) → MovesOn G) in
-      let down : (y : ℕ) → z ≡ y → T (startsFrom 3 y) → T (within 1 12 (at2000 y)) → T (free (y ∷ zonesIn b) (at2000 y)) → MovesOn G =
-      λ y q s t u.
-      starts-by-kind 3 (omega arith) (omega arith) tt (subst (λ (v : ℕ). T (startsFrom 3 v)) (sym q) s) (checks-at G (move 3 x) {k = 3} refl)
-      (ap (λ (v : ℕ). cond (isEmpty G (at2000 v)) 0 21) (before-is 3 ∙ q)
-      ∙ ap (λ (c : Bool). cond c 0 21) (free-empty (at2000 y) t (subst (λ (v : ℕ). T (free (v ∷ zonesIn b) (at2000 y))) (sym q) u))) in
-      let led : (low high : ℕ) → (isFirst (G .sequence) m || within low high (leaderZone G m)) ≡ true = λ low high. ap (λ (c : Bool). c || within low high (leaderZone G m)) first in
-      let in-to-base : (y : ℕ) → z ≡ y → T (startsFrom 4 y) → (within 5 6 y || baseFree G (sideOf y)) ≡ true → MovesOn G =
-      λ y q s u.
-      starts-by-kind 4 (omega arith) (omega arith) tt (subst (λ (v : ℕ). T (startsFrom 4 v)) (sym q) s) (checks-at G (move 4 x) {k = 4} refl)
-      (input.none-refused (besides G (move 4 x) 4) (
-        (ap (λ (c : Bool). within 5 6 (zoneBefore G (move 4 x)) || c) (led 9 12) ∙ or-true (within 5 6 (zoneBefore G (move 4 x)))),
-        ((ap (λ (v : ℕ). within 5 6 v || baseFree G (sideOf v)) (before-is 4 ∙ q) ∙ u), tt),
-      )) in
-      let base-of : (y w : ℕ) → z ≡ y → T (within 1 12 w) → T (leb (count (y ∷ zonesIn b) w) 1) → leb (howMany G w) 1 ≡ true =
-      λ y w q t u. ap (λ (c : ℕ). leb c 1) (how-many f (e ∷ b) [] legs w t) ∙ passed (subst (λ (v : ℕ). T (leb (count (v ∷ zonesIn b) w) 1)) (sym q) u) in
-      let flies : (k y : ℕ) → z ≡ y → T (isFlyingZone y) → legFlownOut (aircraftAt G (zoneBefore G (move k x)) 1) ≡ true = λ k y q u. flown-out k (subst (λ (v : ℕ). T (isFlyingZone v)) (sym q) u) in
-      let merges : (y : ℕ) → z ≡ y → T (startsFrom 5 y) → T (isFlyingZone y) → MovesOn G =
-      λ y q s u.
-      starts-by-kind 5 (omega arith) (omega arith) tt (subst (λ (v : ℕ). T (startsFrom 5 v)) (sym q) s) (checks-at G (move 5 x) {k = 5} refl)
-      (input.none-refused (besides G (move 5 x) 5) (flies 5 y q u, (led 11 12, tt))) in
-      let holding : (y : ℕ) → z ≡ y → T (startsFrom 11 y) → T (isFlyingZone y) → MovesOn G =
-      λ y q s u.
-      starts-by-kind 11 (omega arith) (omega arith) tt (subst (λ (v : ℕ). T (startsFrom 11 v)) (sym q) s) (checks-at G (move 11 x) {k = 11} refl)
-      (input.none-refused (besides G (move 11 x) 11) (flies 11 y q u, tt)) in
-      holds (
-        (λ q u. down 1 q tt tt u),
-        (λ q u. down 2 q tt tt u),
-        (λ q u. in-to-base 3 q tt (base-of 3 10 q tt u)),
-        (λ q u. in-to-base 4 q tt (base-of 4 9 q tt u)),
-        (λ q u. in-to-base 5 q tt refl),
-        (λ q u. in-to-base 6 q tt refl),
-        (λ q u. holding 7 q tt tt),
-        (λ q u. holding 8 q tt tt),
-        (λ q u. merges 9 q tt tt),
-        (λ q u. merges 10 q tt tt),
-        (λ q u. starts-by-kind 6 (omega arith) (omega arith) tt (subst (λ (v : ℕ). T (startsFrom 6 v)) (sym q) tt)
-            (checks-at G (move 6 x) {k = 6} refl) (input.none-refused (besides G (move 6 x) 6) (flies 6 11 q tt, tt))),
-        (λ q u. starts-by-kind 7 (omega arith) (omega arith) tt (subst (λ (v : ℕ). T (startsFrom 7 v)) (sym q) tt) (checks-at G (move 7 x) {k = 7} refl)
-            (input.none-refused (besides G (move 7 x) 7) (flies 7 12 q tt, (ap (λ (c : ℕ). eqb c 0) (how-many-runway f (e ∷ b) [] legs), tt)))),
+      each-operation (λ (z : ℕ). FirstIn z → T (eqb z 12 || needs (headKind z) [] z (zonesIn b)) → MovesOn (G z)) (
+        (λ s u. descends s tt tt u),
+        (λ s u. descends s tt tt u),
+        (λ s u. approaches s tt (base-free s 10 tt u)),
+        (λ s u. approaches s tt (base-free s 9 tt u)),
+        (λ s u. approaches s tt refl),
+        (λ s u. approaches s tt refl),
+        (λ s u. holds s tt tt),
+        (λ s u. holds s tt tt),
+        (λ s u. merges s tt tt),
+        (λ s u. merges s tt tt),
+        (λ s u. to-final s tt tt),
+        (λ s u. lands s tt tt),
       )
-      z z-in refl hm
-    where
-      or-true : (c : Bool) → (c || true) ≡ true
-      or-true true = refl
-      or-true false = refl
 
 pub unstuck : (f : Side) (line : List Placed) (runway : List Aircraft) (legs : Legs) → Orderly f line runway legs → 0 < length line + length runway
     → T (allFlownOut (fieldOf f line runway legs)) → MovesOn (fieldOf f line runway legs)
 unstuck f [] [] legs o p t = absurd (omega arith)
-unstuck f (e ∷ b) [] legs o p t = first-moves f e b legs o t
-unstuck f line (x ∷ []) legs o p t = taxi f line x legs o
+unstuck f (e ∷ b) [] legs o p t = first-moves f (e .aircraft) b legs (e .zone) (zone-in f [] e b [] legs o) (record { orderly = o; flown = t }) (head-moves f (e .zone) (zonesIn b) (o .okay-line))
+unstuck f line (x ∷ []) legs o p t = taxi o
 unstuck f line (x ∷ y ∷ rest) legs o p t = absurd (let h = o .one-landed in omega arith)

@@ -1,10 +1,10 @@
 -- A press on any field within the bounds: none exactly where nobody is present, a request that is accepted, and a tick only where no move is.
 -- Assumes nothing.
 use mathlib.Core.Path.{_≡_, refl, sym, ap, _∙_, subst}
-use mathlib.Core.Logic.{_⊎_, inl, inr}
+use mathlib.Core.Logic.{inl, inr}
 use mathlib.Core.Bool.{Bool, true, false, cond, not, _&&_, _||_, true≢false}
-use mathlib.Core.List.{List, [], _∷_, _++_}
-use Prim.Native.Nat.{ℕ, _+_, _≤_, _<_}
+use mathlib.Core.List.{List, [], _∷_}
+use Prim.Native.Nat.{ℕ, _≤_}
 use native.Mathlib.Omega.{arith}
 use lib.Dec.{T, eqb, leb, leb→le, le→leb}
 use lib.ListN.{length, getD}
@@ -14,22 +14,23 @@ use Rattle.limits.specs.Limits.{fastest, longestTick}
 use Rattle.request.specs.Input.{within, isEntry, isTick, inRange, range, firstRefused}
 use Rattle.request.specs.declared.Request.{Request}
 use Rattle.request.proofs.ByKind.{keeps}
-use Rattle.request.proofs.InputTests.{within-low, within-high, nonzero-known, both-left, both-right}
+use Rattle.request.proofs.InputTests.{within-high, within-above, nonzero-known, both-left, both-right}
 use Rattle.field.specs.declared.Field.{Field}
 use Rattle.field.specs.declared.Aircraft.{Aircraft}
 use Rattle.field.specs.Airspace.{everywhere, zonesFrom, inZone, nobody}
 use Rattle.field.specs.Lists.{isIn, every}
-use Rattle.field.proofs.TestLaws.{passed, pass, decided, each-zone, every-from, implies, implied, if-true, if-false}
+use Rattle.field.proofs.TestLaws.{pass, decided, each-zone, every-from, implies, implied, if-true}
 use Rattle.questions.specs.Counts.{howMany, presentOn, total}
 use Rattle.questions.specs.Find.{aircraftAt, numbersIn}
 use Rattle.questions.proofs.FindLaws.{found-exactly, found-there, place-within}
 use Rattle.bounds.specs.Bounds.{withinBounds}
-use Rattle.rules.specs.Kinds.{placeBefore, startsFrom, absentChecks, belongsTo, headChecks, presenceChecks}
-use Rattle.rules.specs.Step.{checksOf, numberOf}
-use Rattle.rules.proofs.Checks.{checks-at, besides, owned, HeadPassed, head-passed}
+use Rattle.rules.specs.Kinds.{placeBefore, startsFrom, belongsTo}
+use Rattle.rules.specs.Step.{numberOf}
+use Rattle.rules.proofs.Checks.{besides, owned, HeadPassed, head-passed}
 use Rattle.rules.proofs.Refusals.{passes}
 use Rattle.rules.proofs.StepLaws.{number-is, input-of}
 use Rattle.demand.specs.Demand.{movesOn}
+use Rattle.demand.proofs.Unstuck.{moves-low, checks-of-move}
 use Rattle.press.specs.declared.Proposal.{Proposal}
 use Rattle.press.specs.declared.Proposal.the-variants.{None, Play}
 use Rattle.press.specs.Press.{candidates, headMove, longTick, firstAccepted, proposalOf, playedBy, pressOf}
@@ -57,32 +58,19 @@ candidate k z m kl kh zl zh s =
     (every-from (listed k) 1 13 (every-from (λ k. every (listed k) (zonesFrom 1 13)) 3 9 all-listed k kl (omega arith)) z zl (omega arith))
     (and-i (movesOn k) (startsFrom k z) m s)
 
--- kinds 3 to 8 and 11 lie between 3 and 11
-moves-low : (k : ℕ) → T (movesOn k) → (3 ≤ k) × (k ≤ 11)
-moves-low k t =
-    elim (decided (within 3 8 k)) [
-      | inl e ↦ (let l = within-low 3 8 k e in let h = within-high 3 8 k e in (l, omega arith))
-      | inr e ↦ (let q = eqb-true k 11 (passed (subst (λ (b : Bool). T (b || eqb k 11)) e t)) in (omega arith, omega arith))
-    ]
-
 module _ (f : Field) (r : Request) (m : T (movesOn (r .kind))) (e : numberOf f r ≡ 0) where
   abbrev k : ℕ
   k = r .kind
 
   no-entry : isEntry k ≡ false
-  no-entry = elim (decided (isEntry k)) [ inl y ↦ absurd (let l = moves-low k m in let h = within-high 1 2 k y in omega (arith, l .0)) | inr y ↦ y ]
+  no-entry = within-above 1 2 k (omega (arith, moves-low k m .0))
 
   no-tick : isTick k ≡ false
-  no-tick = ne-eqb k 12 (λ q. let l = moves-low k m in omega (arith, l .1))
+  no-tick = ne-eqb k 12 (λ q. omega (arith, moves-low k m .1))
 
   -- its aircraft stands at the head of a zone that the kind starts from
   heads : HeadPassed k (placeBefore f r) (owned f r) (besides f r k)
-  heads =
-      let at = placeBefore f r in
-      let all = headChecks k at (owned f r) in
-      let presence : presenceChecks k at (owned f r) ≡ all = if-false (absentChecks at) (cond (isTick k) [] all) no-entry ∙ if-false [] all no-tick in
-      let checks : checksOf f r ≡ all ++ besides f r k = checks-at f r {k = k} refl ∙ ap (λ (l : List (ℕ × Bool)). l ++ besides f r k) presence in
-      head-passed k at (owned f r) (besides f r k) (sym (ap firstRefused checks) ∙ passes f r e .checks)
+  heads = head-passed k (placeBefore f r) (owned f r) (besides f r k) (sym (ap firstRefused (checks-of-move f r m)) ∙ passes f r e .checks)
 
   abbrev z : ℕ
   z = placeBefore f r .zone
