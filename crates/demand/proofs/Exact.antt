@@ -177,9 +177,10 @@ module _ {w : WholeLegs} {s : ℕ → Flight} {f : Side} {line : List Placed} {r
           let known = known-turned p on (answered g here q) in
           let by : by-name m ≡ afterMiss w (s m) zone = if-false (entry (r .amount) zone) _ (ap isEntry k) ∙ if-true (afterMiss w (s m) zone) (onward w (s m) zone) (eq-eqb (r .kind) 10 k) in
           subst (λ (x : Flight). Known w x (g .zone) (g .aircraft)) (ap (λ (m : ℕ). afterMiss w (s m) zone) (sym (on .turned-number)) ∙ sym by ∙ named m here) known
-      came g (followed e p on d i j) q =
+      came g (followed e p along) q =
+          let same = along .onward .same-number in
           subst (λ (x : Flight). Known w x (g .zone) (g .aircraft))
-          (ap s (sym (on .same-number)) ∙ others (g .aircraft .number) (λ n. d (sym (on .same-number) ∙ n))) (known-along p on i j)
+          (ap s (sym same) ∙ others (g .aircraft .number) (λ n. along .not-named (sym same ∙ n))) (known-along p along)
       came g (came-in v) q =
           subst (λ (x : Flight). Known w x (g .zone) (g .aircraft)) (sym (if-true (entry (r .amount) zone) _ (v .an-entry)) ∙ named (g .aircraft .number) (v .new-number))
           (known-entry (v .new-speed) (v .none-waited) (v .no-leg) (v .not-flown) (answered g (v .new-number) q))

@@ -14,6 +14,7 @@ use Rattle.leg.specs.declared.Progress.{Progress}
 use Rattle.leg.specs.declared.Progress.the-variants.{Flying}
 use Rattle.leg.proofs.ProgressLaws.{zero-exact, sixty-fourths-in-4096ths, sixty-fourths-legal, one-tick-exact-in-4096ths, one-tick-waited-in-4096ths, missed-leg-exact}
 use Rattle.request.specs.Input.{within}
+use Rattle.request.specs.declared.Request.{Request}
 use Rattle.field.specs.declared.Aircraft.{Aircraft}
 use Rattle.field.specs.Airspace.{right, left, missed, finalApproach, isFlyingZone, legOf, progressInto}
 use Rattle.fits.specs.Fits.{fitsZone, legalLegs}
@@ -24,7 +25,7 @@ use Rattle.field.proofs.ArrivalLaws.{progress-by, leg-not-flown}
 use Rattle.laws.proofs.Fits.{fits-parts, missed-flown}
 use Rattle.laws.proofs.TickLaws.{tickedAt}
 use Rattle.line.proofs.Line.{Placed}
-use Rattle.moves.proofs.Carried.{Onward, Turned}
+use Rattle.moves.proofs.Carried.{Onward, Turned, WentAlong}
 
 -- what holds of each of the thirteen zones, one after the other
 each-of-thirteen : (P : ℕ → Type 0) → P 1 × P 2 × P 3 × P 4 × P 5 × P 6 × P 7 × P 8 × P 9 × P 10 × P 11 × P 12 × P 13 → (z : ℕ) → T (within 1 13 z) → P z
@@ -275,10 +276,12 @@ known-turned {w} {s} {zone} {e} {g} p on h =
     })
 
 -- one that has gone along from a zone that is not flown in to another
-pub known-along : {w : WholeLegs} {s : Flight} {e g : Placed} → Known w s (e .zone) (e .aircraft) → Onward (inMiles w) e g → isFlyingZone (e .zone) ≡ false
-    → isFlyingZone (g .zone) ≡ false → Known w s (g .zone) (g .aircraft)
+pub known-along : {w : WholeLegs} {s : Flight} {r : Request} {e g : Placed} → Known w s (e .zone) (e .aircraft) → WentAlong (inMiles w) r e g → Known w s (g .zone) (g .aircraft)
 unfolding ofInt
-known-along {w} {s} {e} {g} p on i j =
+known-along {w} {s} {r} {e} {g} p along =
+    let on = along .onward in
+    let i = along .waited-before in
+    let j = along .waits-after in
     let same : pastIn (e .zone) (s .leg) (e .aircraft .speed * s .ticks) ≡ pastIn (g .zone) (s .leg) (g .aircraft .speed * s .ticks) =
     past-waiting (e .zone) (s .leg) (e .aircraft .speed * s .ticks) i ∙ sym (past-waiting (g .zone) (s .leg) (g .aircraft .speed * s .ticks) j) in
     let none : s .leg ≡ 0 = p .own-leg .none i in
@@ -296,7 +299,7 @@ known-along {w} {s} {e} {g} p on i j =
     }
   where
     final-flown : g .zone ≡ finalApproach → ⊥
-    final-flown z = false≢true (sym j ∙ passed {b = isFlyingZone (g .zone)} (flown-final (g .zone) z))
+    final-flown z = false≢true (sym (along .waits-after) ∙ passed {b = isFlyingZone (g .zone)} (flown-final (g .zone) z))
 
 -- one that has entered
 pub known-entry : {w : WholeLegs} {speed zone z : ℕ} {a : Aircraft} → a .speed ≡ speed → a .waited ≡ whole 0 → a .leg ≡ whole 0 → isFlyingZone z ≡ false → zone ≡ z → Known w (entry speed zone) z a

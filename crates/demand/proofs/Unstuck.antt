@@ -67,7 +67,7 @@ checks-of-move f r m =
     checks-at f r {k = k} refl ∙ simp (input.within-above 1 2 k (omega arith), ne-eqb k 12 (λ q. omega arith))
 
 -- ---- one at the head of zone z, as it asks for a move
-record AtHead (f : Field) (z : ℕ) (a : Aircraft) : Type 0 where
+record HeadOfZone (f : Field) (z : ℕ) (a : Aircraft) : Type 0 where
   place : placeOf f (a .number) ≡ at z 1
   here : aircraftAt f z 1 ≡ a
   zone : 1 ≤ z
@@ -78,7 +78,7 @@ record AtHead (f : Field) (z : ℕ) (a : Aircraft) : Type 0 where
 desk-of : (legs : Legs) (z : ℕ) (a : Aircraft) → T (fitsZone legs z a) → DeskKnown (a .desk)
 desk-of legs z a t = let d = fits-parts legs z a t .desk in record { low = d .least; high = d .most }
 
-module _ {f : Side} {line : List Placed} {runway : List Aircraft} {legs : Legs} (o : Orderly f line runway legs) {z : ℕ} {a : Aircraft} (h : AtHead (fieldOf f line runway legs) z a) where
+module _ {f : Side} {line : List Placed} {runway : List Aircraft} {legs : Legs} (o : Orderly f line runway legs) {z : ℕ} {a : Aircraft} (h : HeadOfZone (fieldOf f line runway legs) z a) where
   abbrev F : Field
   F = fieldOf f line runway legs
 
@@ -144,7 +144,7 @@ module _ (f : Side) (x : Aircraft) (b : List Placed) (legs : Legs) where
     here : aircraftAt (G z) z 1 ≡ x
     here = head-there f [] e b [] legs (s .orderly .different) z-in refl
 
-    heads : AtHead (G z) z x
+    heads : HeadOfZone (G z) z x
     heads =
         record {
           place = place;
