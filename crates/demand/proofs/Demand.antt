@@ -29,7 +29,7 @@ use Rattle.line.proofs.Line.{Placed, zonesIn, inside, fieldOf, empty-is}
 use Rattle.line.proofs.CountedOnLine.{total-same, in-line, on-runway, in-operation, all-counted, how-many-runway}
 use Rattle.line.proofs.Orderly.{Orderly, length-zones}
 use Rattle.line.proofs.LineWithin.{a-holds, b-holds, c-holds, d-holds}
-use Rattle.moves.proofs.After.{weightOf}
+use Rattle.moves.proofs.AfterAccepted.{weightOf}
 use Rattle.moves.proofs.Owners.{owners, owners-all, owned-in, owned-on}
 use Rattle.demand.proofs.Runs.{askedBy, Run, runs}
 use Rattle.demand.proofs.Unstuck.{unstuck}

@@ -34,9 +34,9 @@ use Rattle.line.proofs.Orderly.{Orderly}
 use Rattle.moves.proofs.TickOnLine.{tickPlaced}
 use Rattle.moves.proofs.StaysOrderly.{placedFits}
 use Rattle.moves.proofs.Carried.{onRunway, Came, stayed, went, turned, followed, came-in}
-use Rattle.moves.proofs.After.{zone-in}
+use Rattle.moves.proofs.AfterAccepted.{zone-in}
 use Rattle.rules.proofs.StepLaws.{number-is, field-accepted, field-refused, input-of, zone-answered}
-use Rattle.moves.proofs.Outcomes.{Accepted, outcome}
+use Rattle.moves.proofs.AcceptedOrRefused.{Accepted, outcome}
 use Rattle.demand.proofs.Demand.{empty-orderly}
 use Rattle.demand.proofs.Flights.{legs-legal, Known, known-waiting, known-ticked, known-onward, known-turned, known-along, known-entry}
 

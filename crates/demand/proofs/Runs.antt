@@ -22,9 +22,9 @@ use Rattle.demand.specs.Demand.{neverAnswers}
 use Rattle.field.proofs.TestLaws.{fail, decided}
 use Rattle.line.proofs.Line.{Placed, fieldOf}
 use Rattle.line.proofs.Orderly.{Orderly}
-use Rattle.moves.proofs.After.{leaves, weightOf}
+use Rattle.moves.proofs.AfterAccepted.{leaves, weightOf}
 use Rattle.rules.proofs.StepLaws.{number-is, field-accepted, field-refused}
-use Rattle.moves.proofs.Outcomes.{outcome}
+use Rattle.moves.proofs.AcceptedOrRefused.{outcome}
 use Rattle.moves.proofs.Owners.{owners}
 use Rattle.rules.proofs.Checks.{NeverOthers}
 

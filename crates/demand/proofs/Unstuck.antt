@@ -38,12 +38,12 @@ use Rattle.questions.proofs.FindLaws.{at}
 use Rattle.line.proofs.Located.{located, located-runway, inside-at, first-there, head-there}
 use Rattle.line.proofs.Leaders.{nonzero}
 use Rattle.line.proofs.Orderly.{Orderly}
-use Rattle.moves.proofs.After.{zone-in, fit-here}
+use Rattle.moves.proofs.AfterAccepted.{zone-in, fit-here}
 use Rattle.moves.proofs.Heads.{runway-head}
 use Rattle.laws.proofs.Fits.{fits-parts}
 use Rattle.rules.proofs.Checks.{checks-at, besides, owned}
 use Rattle.rules.proofs.StepLaws.{number-is}
-use Rattle.moves.proofs.Outcomes.{accepted-by}
+use Rattle.moves.proofs.AcceptedOrRefused.{accepted-by}
 
 -- a request of a kind for an aircraft, by its own desk
 abbrev pub move : ℕ → Aircraft → Request

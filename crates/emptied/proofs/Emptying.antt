@@ -33,8 +33,8 @@ use Rattle.rules.proofs.StepLaws.{number-is, field-accepted}
 use Rattle.line.proofs.Line.{Placed, fieldOf}
 use Rattle.line.proofs.Orderly.{Orderly}
 use Rattle.line.proofs.LineWithin.{within-bounds}
-use Rattle.moves.proofs.After.{balance-all, After, leaves, weightOf}
-use Rattle.moves.proofs.Outcomes.{outcome}
+use Rattle.moves.proofs.AfterAccepted.{balance-all, After, leaves, weightOf}
+use Rattle.moves.proofs.AcceptedOrRefused.{outcome}
 use Rattle.demand.specs.Demand.{allFlownOut, movesOn, MovesOn}
 use Rattle.demand.proofs.Unstuck.{unstuck}
 use Rattle.demand.proofs.Demand.{from-empty, present-is, light, demand-3}

@@ -38,7 +38,7 @@ use Rattle.moves.proofs.TickOnLine.{tickPlaced, ticks, zones-same}
 use Rattle.moves.proofs.Owners.{passing, owners, one-more, desks-ticked}
 use Rattle.moves.proofs.StaysOrderly.{side-fits, first-gone, landed-on, runway-left, come, ticked-orderly}
 use Rattle.moves.proofs.Carried.{each-append, onRunway, onward-into, Turned, Entered, Came, went, turned, came-in, stay-all, stay-runway, apart-in}
-use Rattle.moves.proofs.After.{After, leaves, one-le, zone-in, room-for, fit-here}
+use Rattle.moves.proofs.AfterAccepted.{After, leaves, one-le, zone-in, room-for, fit-here}
 use Rattle.moves.proofs.Heads.{AtHead}
 use Rattle.rules.proofs.Checks.{effect-at}
 

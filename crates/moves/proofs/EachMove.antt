@@ -29,7 +29,7 @@ use Rattle.questions.proofs.FindLaws.{at}
 use Rattle.line.proofs.Located.{first-there}
 use Rattle.line.proofs.Members.{count-append}
 use Rattle.line.proofs.Orderly.{Orderly, Split, first-in}
-use Rattle.moves.proofs.After.{After, zone-in, okay-split}
+use Rattle.moves.proofs.AfterAccepted.{After, zone-in, okay-split}
 use Rattle.moves.proofs.Heads.{AtHead, Heading, heading}
 use Rattle.rules.proofs.Checks.{effect-at, head-passed, besides, owned}
 use Rattle.moves.proofs.OnLine.{MissedZone, eleven-from, zone-before, from-kind, empty-free, after-3, after-4, after-5, after-6, after-11}

@@ -24,7 +24,7 @@ use Rattle.line.proofs.Orderly.{Orderly}
 use Rattle.moves.proofs.Moves.{into}
 use Rattle.moves.proofs.Owners.{passing, same-desks}
 use Rattle.moves.proofs.Carried.{WentAlong, followed-first}
-use Rattle.moves.proofs.After.{After, ZonesAllow, by-model, okay-split, moved-is, moved-orderly}
+use Rattle.moves.proofs.AfterAccepted.{After, ZonesAllow, by-model, okay-split, moved-is, moved-orderly}
 
 -- ---- by whether 3000 is empty
 module _ (f : Field) (r : Request) (k : r .kind ≡ 1) where

@@ -34,7 +34,7 @@ use Rattle.line.proofs.CountedOnLine.{how-many, approach-holds, potential-is}
 use Rattle.questions.proofs.FindLaws.{numbers, at}
 use Rattle.line.proofs.Located.{located, located-runway}
 use Rattle.line.proofs.Orderly.{Orderly, Split, first-in}
-use Rattle.moves.proofs.After.{After, zone-in, zones-split, okay-split}
+use Rattle.moves.proofs.AfterAccepted.{After, zone-in, zones-split, okay-split}
 use Rattle.moves.proofs.Heads.{find-line}
 use Rattle.rules.proofs.Checks.{besides, owned, checks-at, effect-at}
 use Rattle.field.proofs.ArrivalLaws.{into-arrived}

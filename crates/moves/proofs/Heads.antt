@@ -25,7 +25,7 @@ use Rattle.line.proofs.CountedOnLine.{on-runway, length-inside}
 use Rattle.questions.proofs.FindLaws.{at}
 use Rattle.line.proofs.Located.{located, located-runway, not-located, aircraft-there}
 use Rattle.line.proofs.Orderly.{Orderly}
-use Rattle.moves.proofs.After.{zone-in}
+use Rattle.moves.proofs.AfterAccepted.{zone-in}
 
 -- ---- a number in a line
 pub record InLine (n : ℕ) (line : List Placed) : Type 0 where

@@ -30,7 +30,7 @@ use Rattle.line.proofs.Orderly.{Orderly}
 use Rattle.moves.proofs.Moves.{into}
 use Rattle.moves.proofs.Owners.{passing, desksIn, desksOn, same-desks}
 use Rattle.moves.proofs.Carried.{WentAlong, onward-into, Carried, apart-in, carried-one, followed-first}
-use Rattle.moves.proofs.After.{After, ZonesAllow, one-le, zone-in, moved-is, moved-orderly, zones-split}
+use Rattle.moves.proofs.AfterAccepted.{After, ZonesAllow, one-le, zone-in, moved-is, moved-orderly, zones-split}
 use Rattle.moves.proofs.Heads.{AtHead}
 
 -- what is nowhere in a list is nowhere in its parts

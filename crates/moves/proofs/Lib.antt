@@ -5,7 +5,7 @@ pub mod TickOnLine
 pub mod Owners
 pub mod StaysOrderly
 pub mod Carried
-pub mod After
+pub mod AfterAccepted
 pub mod Heads
 pub mod OnLine
 pub mod HoldBoth
@@ -13,4 +13,4 @@ pub mod AtEnds
 pub mod EnterAbove
 pub mod EachMove
 pub mod EveryKind
-pub mod Outcomes
+pub mod AcceptedOrRefused

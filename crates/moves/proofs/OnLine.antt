@@ -35,7 +35,7 @@ use Rattle.line.proofs.Leaders.{nonzero, leader-zone}
 use Rattle.moves.proofs.Owners.{passing, same-desks}
 use Rattle.moves.proofs.Moves.{into}
 use Rattle.moves.proofs.Carried.{onward-into, carried-one}
-use Rattle.moves.proofs.After.{After, leaves, one-le, zones-split, okay-split, zone-in, ZonesAllow, by-model, moved-is, moved-orderly}
+use Rattle.moves.proofs.AfterAccepted.{After, leaves, one-le, zones-split, okay-split, zone-in, ZonesAllow, by-model, moved-is, moved-orderly}
 use Rattle.moves.proofs.Heads.{AtHead}
 use Rattle.rules.proofs.Checks.{effect-at, besides}
 

@@ -19,7 +19,7 @@ use Rattle.field.proofs.TestLaws.{passed, decided, if-true, if-false}
 use Rattle.line.proofs.Line.{Placed, fieldOf}
 use Rattle.line.proofs.Orderly.{Orderly}
 use Rattle.line.proofs.LineWithin.{within-bounds}
-use Rattle.moves.proofs.After.{After}
+use Rattle.moves.proofs.AfterAccepted.{After}
 use Rattle.rules.proofs.Checks.{NeverOthers, needNumbers, need-never, input-never, refused-by, refused-append, checks-numbered, checks-refuse, input-numbered}
 use Rattle.rules.proofs.Refusals.{accepts}
 use Rattle.moves.proofs.EveryKind.{accepted-after}
