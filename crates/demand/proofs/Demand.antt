@@ -1,6 +1,6 @@
 -- Demand 3 holds of every list of requests from an empty field with legal legs. Assumes nothing.
 use mathlib.Core.Path.{_≡_, refl, sym, ap, _∙_, subst}
-use mathlib.Core.Bool.{true, cond, _&&_}
+use mathlib.Core.Bool.{Bool, true, cond, _&&_}
 use mathlib.Core.List.{List, [], _∷_}
 use Prim.Native.Nat.{ℕ, _+_, _≤_, _<_}
 use native.Mathlib.Omega.{arith}
@@ -119,12 +119,24 @@ module _ (legs : Legs) (l : T (legalLegs legs)) (rs : List Request) where
   carry : (P : Field → Type 0) → P (fieldOf (from-empty .first-then) (from-empty .line-then) (from-empty .runway-then) legs) → P (fieldAfter (emptyField legs) rs)
   carry P p = subst P (sym (from-empty .stands)) p
 
+  -- the balance of those who pass a test of the owner: ps are their requests with the answers, and n of them are present
+  balanced : (who : ℕ → Bool) {ps : List (Request × Answer)} {n : ℕ} → askedBy who (played (emptyField legs) rs) ≡ ps → n ≡ owners who (from-empty .line-then) (from-empty .runway-then)
+      → letIn ps ≡ taxiedOff ps + exitedFrom ps + n
+  balanced who asked present =
+      let b = from-empty .balance who in
+      let i = ap letIn asked in
+      let j = ap taxiedOff asked in
+      let x = ap exitedFrom asked in
+      omega arith
+
   pub demand-3 : Demand3 legs rs
   demand-3 =
       let f = from-empty .first-then in
       let line = from-empty .line-then in
       let runway = from-empty .runway-then in
       let o = from-empty .orderly in
+      let stands = from-empty .stands in
+      let answers = played (emptyField legs) rs in
       let present = present-is f line runway legs o in
       record {
         no-10 = from-empty .no-10;
@@ -133,25 +145,8 @@ module _ (legs : Legs) (l : T (legalLegs legs)) (rs : List Request) where
         areas = carry (λ (g : Field). (side : ℕ) → T (within 1 2 side) → inArea g side ≤ 2) (two-in-area f line runway legs o);
         fixes = carry (λ (g : Field). (side : ℕ) → T (within 1 2 side) → perFix g side ≤ 2) (two-per-fix f line runway legs o);
         holdings = carry (λ (g : Field). (zone : ℕ) → T (within 1 4 zone) → howMany g zone ≤ 1) (one-in-holding f line runway legs o);
-        balance =
-            let p : presentOn (fieldAfter (emptyField legs) rs) ≡ length line + length runway = ap presentOn (from-empty .stands) ∙ present in
-            let b = from-empty .balance (λ d. true) in
-            let k = owners-all line runway in
-            let every-one = asked-by-all (played (emptyField legs) rs) in
-            let i = ap letIn every-one in
-            let j = ap taxiedOff every-one in
-            let x = ap exitedFrom every-one in
-            omega arith;
-        balance-each =
-            λ desk.
-            let p : presentFor (fieldAfter (emptyField legs) rs) desk ≡ owners (λ d. eqb d desk) line runway =
-            ap (λ (g : Field). presentFor g desk) (from-empty .stands) ∙ present-for f line runway legs o desk in
-            let b = from-empty .balance (λ d. eqb d desk) in
-            let own = asked-by-desk desk (played (emptyField legs) rs) in
-            let i = ap letIn own in
-            let j = ap taxiedOff own in
-            let x = ap exitedFrom own in
-            omega arith;
+        balance = balanced (λ d. true) (asked-by-all answers) (ap presentOn stands ∙ present ∙ sym (owners-all line runway));
+        balance-each = λ desk. balanced (λ d. eqb d desk) (asked-by-desk desk answers) (ap (λ (g : Field). presentFor g desk) stands ∙ present-for f line runway legs o desk);
         never-stuck =
             carry (λ (g : Field). 0 < presentOn g → T (allFlownOut g) → MovesOn g)
             (λ p t. unstuck f line runway legs o (subst (λ (n : ℕ). 0 < n) present p) t);
