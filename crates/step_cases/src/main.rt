@@ -253,13 +253,17 @@ fn past_a_length() {
     );
 }
 
-// Bound g.
+// Bound g, of fix, desk and speed.
 fn not_as_said() {
     tick(b"g: fix 3", with_nine(entering(9, 3, 64, 1)));
     tick(b"g: desk 0", with_nine(entering(9, 1, 64, 0)));
     tick(b"g: desk 3", with_nine(entering(9, 1, 64, 3)));
     tick(b"g: speed 0", with_nine(entering(9, 1, 0, 1)));
     tick(b"g: speed 513", with_nine(entering(9, 1, 513, 1)));
+}
+
+// Bound g, of miles flown and waited, and of the field's legs.
+fn miles_not_as_said() {
     tick(
         b"g: flying at 3000",
         with_nine(on_leg(entering(9, 1, 64, 1), Progress::Flying(0.0), 0.0)),
@@ -348,6 +352,7 @@ fn main() {
     out_of_order();
     past_a_length();
     not_as_said();
+    miles_not_as_said();
     own_legs();
     miles_waited();
     legs_ahead();
