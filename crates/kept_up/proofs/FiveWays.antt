@@ -1,41 +1,29 @@
 -- What an accepted request can do to the queues, in five ways, and how a move from zone to zone is shown. Assumes nothing.
 use mathlib.Core.Path.{_≡_, ap, _∙_, subst⁻¹}
 use mathlib.Core.Logic.{_≢_}
-use mathlib.Core.Bool.{true, false, not}
+use mathlib.Core.Bool.{true, false}
 use Prim.Native.Nat.{ℕ, _+_, _≤_}
 use native.Mathlib.Omega.{arith}
-use lib.Dec.{T, leb, le→leb}
-use lib.Ieee.Fits.{and-i}
 use Rattle.leg.specs.Ticks.{Between}
-use Rattle.request.specs.Input.{within, isEntry, isTick}
+use Rattle.request.specs.Input.{within}
 use Rattle.request.specs.declared.Request.{Request}
 use Rattle.field.specs.declared.Field.{Field}
 use Rattle.field.specs.Airspace.{left, sideOf, opposite, at3000, at2000, base, finalApproach, inZone}
-use Rattle.field.proofs.TestLaws.{pass}
 use Rattle.questions.specs.Counts.{howMany}
 use Rattle.questions.specs.Find.{aircraftAt}
 use Rattle.questions.proofs.FindLaws.{at}
-use Rattle.bounds.specs.Bounds.{withinBounds}
-use Rattle.laws.proofs.EditLaws.{Shaped}
 use Rattle.rules.specs.Kinds.{placeBefore, zoneBefore, zoneAhead, moved, madeRoom}
-use Rattle.rules.specs.Step.{effectOf, numberOf}
-use Rattle.rules.proofs.Refusals.{passes}
+use Rattle.rules.specs.Step.{effectOf}
 use Rattle.kept_up.specs.KeptUp.{leadsTo}
 use Rattle.kept_up.proofs.Moved.{Left, Come}
-use Rattle.kept_up.proofs.HeadOfRequest.{heads, some}
-use Rattle.kept_up.proofs.Queues.{Led, led-same, moved-led, room-in}
+use Rattle.kept_up.proofs.HeadOfRequest.{Accepted, bounded, heads, some}
+use Rattle.kept_up.proofs.Queues.{Led, MayGo, MayMakeRoom, led-same, moved-led, room-in}
 
--- a zone that is one of the thirteen, or of the operation area
+-- a zone that is one of the thirteen
 pub in-area : (z : ℕ) → 1 ≤ z → z ≤ 13 → Between 1 13 z
 in-area z a b = record { least = a; most = b }
 
-pub in-operation : (z : ℕ) → 1 ≤ z → z ≤ 12 → T (within 1 12 z)
-in-operation z a b = and-i (leb 1 z) (leb z 12) (le→leb 1 z a) (le→leb z 12 b)
-
-module _ (f : Field) (sh : Shaped f) (r : Request) (e : numberOf f r ≡ 0) where
-  pub bounded : T (withinBounds f)
-  bounded = pass (passes f r e .before)
-
+module _ (f : Field) (r : Request) where
   abbrev from : ℕ
   from = zoneBefore f r
 
@@ -66,9 +54,7 @@ module _ (f : Field) (sh : Shaped f) (r : Request) (e : numberOf f r ≡ 0) wher
   -- .. or to 3000, where whoever was there has made room, ..
   pub record Rises (w : ℕ) : Type 0 where
     pub staying : within 8 9 (r .kind) ≡ false
-    pub lowest : 1 ≤ w
-    pub side : w ≤ 2
-    pub clear : 1 ≤ howMany f w → howMany f (2 + w) ≡ 0
+    pub above : MayMakeRoom f w
     pub start : 3 ≤ from
     pub apart : from ≢ 2 + w
     pub head : placeBefore f r ≡ at from 1
@@ -85,22 +71,31 @@ module _ (f : Field) (sh : Shaped f) (r : Request) (e : numberOf f r ≡ 0) wher
   pub record ComesAbove (w : ℕ) : Type 0 where
     pub staying : within 8 9 (r .kind) ≡ false
     pub absent : from ≡ 0
-    pub lowest : 1 ≤ w
-    pub side : w ≤ 2
-    pub clear : 1 ≤ howMany f w → howMany f (2 + w) ≡ 0
+    pub above : MayMakeRoom f w
     pub come : Come (madeRoom f w) g w n
 
-  -- ---- how a way is shown
-  -- a move to zone w, by what it does to the queues
-  pub moves : (k w : ℕ) → r .kind ≡ k → within 8 9 k ≡ false → to k ≡ w → 3 ≤ w → Led f g n from w → Moves
-  moves k w q s p low led =
+  -- ---- how a move is shown
+  -- by what it does to the queues, where kind k leads to zone w
+  pub moves : {k w : ℕ} → r .kind ≡ k → within 8 9 k ≡ false → to k ≡ w → 3 ≤ w → Led f g n from w → Moves
+  moves {w = w} q s p low led =
       let there : to (r .kind) ≡ w = ap to q ∙ p in
       record { staying = ap (within 8 9) q ∙ s; not-above = subst⁻¹ (λ (v : ℕ). 3 ≤ v) there low; led = subst⁻¹ (Led f g n from) there led }
 
-  -- the head of its zone to the tail of zone w
-  module _ (k w : ℕ) (q : r .kind ≡ k) (a : isEntry k ≡ false) (b : isTick k ≡ false) where
-    pub steps : 1 ≤ from → from ≤ 12 → 1 ≤ w → w ≤ 12 → w ≢ from → ((y : ℕ) → inZone g y ≡ inZone (moved f from w) y) → Led f g n from w
-    steps fl fh wl wh apart same =
-        led-same same
-        (moved-led f sh from w n (in-area from fl (omega arith)) (in-area w wl (omega arith)) apart
-        (room-in f bounded from w (in-operation from fl fh) (in-operation w wl wh) apart (some f r e k q a b)) (heads f r e k q a b))
+  -- by the field after it, where the kind leads from one zone of the operation area to another, w
+  pub record Steps (k w : ℕ) : Type 0 where
+    pub leads : to k ≡ w
+    pub start : Between 1 12 from
+    pub not-above : 3 ≤ w
+    pub last : w ≤ 12
+    pub apart : w ≢ from
+    pub effect : g ≡ moved f from w
+
+-- the head of its zone to the tail of zone w
+pub steps : {f : Field} {r : Request} {k w : ℕ} → Accepted f r → r .kind ≡ k → within 3 11 k ≡ true → within 8 9 k ≡ false → Steps f r k w → Moves f r
+steps {f} {r} {k} {w} a q m stays s =
+    let in-operation : Between 1 12 w = record { least = omega arith; most = s .last } in
+    let room = room-in f (bounded a) (s .start) in-operation (s .apart) (some a q m) in
+    let start : Between 1 13 (zoneBefore f r) = record { least = s .start .least; most = omega arith } in
+    let may : MayGo f (r .number) (zoneBefore f r) w =
+    record { from-zone = start; to-zone = in-area w (omega arith) (omega arith); other-zone = s .apart; room = room; heads = heads a q m } in
+    moves f r q stays (s .leads) (s .not-above) (led-same (λ y. ap (λ (x : Field). inZone x y) (s .effect)) (moved-led (a .shaped) may))

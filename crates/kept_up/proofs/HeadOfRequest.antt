@@ -1,28 +1,30 @@
 -- What an accepted request that is no entry and no tick tells of the field: where its aircraft is, and the queue there. Assumes nothing.
 use mathlib.Core.Path.{_≡_, refl, sym, ap, _∙_, subst}
-use mathlib.Core.Bool.{Bool, true, false, cond, not, true≢false}
+use mathlib.Core.Bool.{Bool, true, false, not, true≢false}
 use mathlib.Core.List.{List, [], _∷_, _++_}
 use Prim.Native.Nat.{ℕ, _≤_}
 use native.Mathlib.Omega.{arith}
-use borrow.Author.Tests.{eqb-true}
-use lib.Dec.{eqb}
+use borrow.Author.Tests.{eqb-true, ne-eqb}
+use lib.Dec.{T, eqb}
 use lib.ListN.{length, getD}
-use Rattle.request.specs.Input.{within, isEntry, isTick, firstRefused}
+use Rattle.request.specs.Input.{within, firstRefused}
 use Rattle.request.specs.declared.Request.{Request}
-use Rattle.request.proofs.InputTests.{within-low, within-high}
+use Rattle.request.proofs.InputTests.{within-low, within-high, within-above, Passed, passed}
 use Rattle.field.specs.declared.Aircraft.{Aircraft}
 use Rattle.field.specs.declared.Field.{Field}
 use Rattle.field.specs.Airspace.{nobody, sideOf, everywhere, inZone}
 use Rattle.field.specs.Lists.{isIn}
-use Rattle.field.proofs.TestLaws.{if-false, each-from}
+use Rattle.field.proofs.TestLaws.{pass, each-from}
 use Rattle.questions.specs.declared.Place.{Place}
 use Rattle.questions.specs.Counts.{howMany}
 use Rattle.questions.specs.Find.{aircraftAt, numbersIn}
 use Rattle.questions.proofs.FindLaws.{at, found-exactly, found-there}
-use Rattle.rules.specs.Kinds.{placeBefore, zoneBefore, absentChecks, headChecks, presenceChecks, startsFrom}
-use Rattle.rules.specs.Step.{numberOf}
-use Rattle.rules.proofs.Checks.{HeadPassed, besides, owned, checks-at, head-passed}
-use Rattle.rules.proofs.Refusals.{passes}
+use Rattle.bounds.specs.Bounds.{withinBounds}
+use Rattle.laws.proofs.EditLaws.{Shaped}
+use Rattle.rules.specs.Kinds.{placeBefore, zoneBefore, headChecks, presenceChecks, startsFrom}
+use Rattle.rules.specs.Step.{checksOf}
+use Rattle.rules.proofs.Checks.{HeadPassed, besides, owned, checks-at, head-passed, checks-refuse}
+use Rattle.rules.proofs.Refusals.{Passes}
 use Rattle.kept_up.proofs.Queues.{Heads}
 
 -- the side of a side
@@ -34,20 +36,35 @@ side-own s low high = each-from 1 2 (λ s. sideOf s ≡ s) (refl, (refl, tt)) s 
 pub only : (n z : ℕ) → within n n z ≡ true → z ≡ n
 only n z t = let l = within-low n n z t in let h = within-high n n z t in omega (arith, l, h)
 
-module _ (f : Field) (r : Request) (e : numberOf f r ≡ 0) where
+-- a request that is accepted, of a field whose arrays have their places
+pub record Accepted (f : Field) (r : Request) : Type 0 where
+  pub shaped : Shaped f
+  pub passed : Passes f r
+
+module _ {f : Field} {r : Request} (a : Accepted f r) where
   abbrev from : ℕ
   from = zoneBefore f r
 
   abbrev n : ℕ
   n = r .number
 
-  module _ (k : ℕ) (q : r .kind ≡ k) (no-entry : isEntry k ≡ false) (no-tick : isTick k ≡ false) where
+  -- the field is within the bounds
+  pub bounded : T (withinBounds f)
+  bounded = pass (a .passed .before)
+
+  -- every check of its kind passes
+  pub all-pass : {k : ℕ} → r .kind ≡ k → Passed (presenceChecks k (placeBefore f r) (owned f r) ++ besides f r k)
+  all-pass q = subst Passed (checks-at f r q) (passed (checksOf f r) (checks-refuse f r) (a .passed .checks))
+
+  -- of a kind that is no entry and no tick
+  module _ {k : ℕ} (q : r .kind ≡ k) (m : within 3 11 k ≡ true) where
     pub heading : HeadPassed k (placeBefore f r) (owned f r) (besides f r k)
     heading =
-        let here = placeBefore f r in
-        let heads = headChecks k here (owned f r) in
-        let all : presenceChecks k here (owned f r) ≡ heads = if-false (absentChecks here) (cond (isTick k) [] heads) no-entry ∙ if-false [] heads no-tick in
-        head-passed k here (owned f r) (besides f r k) (ap (λ (l : List (ℕ × Bool)). firstRefused (l ++ besides f r k)) (sym all) ∙ sym (ap firstRefused (checks-at f r q)) ∙ passes f r e .checks)
+        let low = within-low 3 11 k m in
+        let high = within-high 3 11 k m in
+        let all : presenceChecks k (placeBefore f r) (owned f r) ≡ headChecks k (placeBefore f r) (owned f r) = simp (within-above 1 2 k (omega arith), ne-eqb k 12 (λ t. omega arith)) in
+        head-passed k (placeBefore f r) (owned f r) (besides f r k)
+        (ap (λ (l : List (ℕ × Bool)). firstRefused (l ++ besides f r k)) (sym all) ∙ sym (ap firstRefused (checks-at f r q)) ∙ a .passed .checks)
 
     pub found : placeBefore f r ≡ at from 1
     found = ap (at from) (eqb-true (placeBefore f r .place) 1 (heading .first))
@@ -74,4 +91,4 @@ module _ (f : Field) (r : Request) (e : numberOf f r ≡ 0) where
   -- a miss finds somebody on final
   pub on-final : r .kind ≡ 10 → 1 ≤ howMany f 12
   unfolding startsFrom
-  on-final q = subst (λ (z : ℕ). 1 ≤ howMany f z) (only 12 from (heading 10 q refl refl .starts)) (some 10 q refl refl)
+  on-final q = subst (λ (z : ℕ). 1 ≤ howMany f z) (only 12 from (heading q refl .starts)) (some q refl)

@@ -62,7 +62,7 @@ with-last k m [] a h = if-false _ _ (ne-eqb (a .number) m h)
 with-last k m (x ∷ xs) a h = ap (cond (eqb (x .number) m) k) (with-last (suc k) m xs a h)
 
 -- ---- the head has left
-module _ (f g : Field) (z n : ℕ) (l : Left f g z n) where
+module _ {f g : Field} {z n : ℕ} (l : Left f g z n) where
   -- Every other one is where it was, or a place further ahead; ..
   module _ (m : ℕ) (other : m ≢ n) where
     not-head : eqb (l .head .number) m ≡ false
@@ -152,8 +152,20 @@ module _ (f g : Field) (z n : ℕ) (l : Left f g z n) where
             let t = passed (every-listed (within 1 13) everywhere z tt e) in
             record { least = within-low 1 13 z t; most = within-high 1 13 z t }
 
+  -- One less is present.
+  pub left-total : presentOn f ≡ presentOn g + 1
+  unfolding presentOn howMany
+  left-total =
+      let t = total-changed (howMany f) (howMany g) z (λ y h. sym (ap length (l .elsewhere y h))) everywhere tt in
+      let listed = zone-listed z (l .zone) in
+      let before = if-true (howMany f z) 0 listed in
+      let after = if-true (howMany g z) 0 listed in
+      let more = ap length (l .here) in
+      let less = ap length (l .after) in
+      omega (arith, t, before, after, more, less)
+
 -- ---- one more has come
-module _ (f g : Field) (z n : ℕ) (c : Come f g z n) where
+module _ {f g : Field} {z n : ℕ} (c : Come f g z n) where
   -- Every other one is where it was; ..
   pub others-come : (m : ℕ) → m ≢ n → placeOf g m ≡ placeOf f m
   unfolding placeOf
@@ -209,16 +221,3 @@ module _ (f g : Field) (z n : ℕ) (c : Come f g z n) where
       let after = if-true (howMany g z) 0 listed in
       let more = ap length (c .there) ∙ length-append (inZone f z) (c .last ∷ []) in
       omega (arith, t, before, after, more)
-
-module _ (f g : Field) (z n : ℕ) (l : Left f g z n) where
-  -- One less is present.
-  pub left-total : presentOn f ≡ presentOn g + 1
-  unfolding presentOn howMany
-  left-total =
-      let t = total-changed (howMany f) (howMany g) z (λ y h. sym (ap length (l .elsewhere y h))) everywhere tt in
-      let listed = zone-listed z (l .zone) in
-      let before = if-true (howMany f z) 0 listed in
-      let after = if-true (howMany g z) 0 listed in
-      let more = ap length (l .here) in
-      let less = ap length (l .after) in
-      omega (arith, t, before, after, more, less)

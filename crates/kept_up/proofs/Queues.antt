@@ -10,7 +10,7 @@ use lib.Dec.{T, eqb, leb, ltb, leb→le}
 use lib.Ieee.Fits.{and-l}
 use lib.ListN.{length, getD, drop}
 use Rattle.leg.specs.Ticks.{Between}
-use Rattle.request.specs.Input.{within}
+use Rattle.request.proofs.InputTests.{within-yes}
 use Rattle.field.specs.declared.Aircraft.{Aircraft}
 use Rattle.field.specs.declared.Field.{Field}
 use Rattle.field.specs.Airspace.{right, left, nobody, operation, everywhere, zonesFrom, inZone, zoneOf, arrived}
@@ -18,7 +18,7 @@ use Rattle.edits.specs.Edits.{withoutHead, withTail}
 use Rattle.field.specs.Lists.{isIn, every}
 use Rattle.field.proofs.ArrivalLaws.{into-arrived}
 use Rattle.field.proofs.TestParts.{and-cut}
-use Rattle.field.proofs.TestLaws.{decided, if-true, if-false, every-from, each-operation}
+use Rattle.field.proofs.TestLaws.{decided, pass, if-true, if-false, every-from, each-operation}
 use Rattle.questions.specs.declared.Place.{Place}
 use Rattle.questions.specs.Counts.{total, howMany, isEmpty, inOperation, presentOn}
 use Rattle.questions.specs.Find.{aircraftAt, placeOf, numbersIn}
@@ -37,7 +37,7 @@ pub record Heads (f : Field) (n z : ℕ) : Type 0 where
   pub here : inZone f z ≡ head ∷ behind
   pub named : head .number ≡ n
 
-module _ (f : Field) (sh : Shaped f) (z : ℕ) (b : Between 1 13 z) where
+module _ {f : Field} (sh : Shaped f) {z : ℕ} (b : Between 1 13 z) where
   -- with the head of a zone taken off it
   pub gone-shaped : Shaped (headGone f z)
   unfolding headGone
@@ -91,23 +91,31 @@ pub record Led (f g : Field) (n z w : ℕ) : Type 0 where
   pub come : Come between g w n
 
 -- the head of a zone as it arrives has its number
-pub head-alike : (f : Field) (z n : ℕ) → Heads f n z → aircraftAt f z 1 .number ≡ n
+pub head-alike : {f : Field} {n z : ℕ} → Heads f n z → aircraftAt f z 1 .number ≡ n
 unfolding aircraftAt
-head-alike f z n heads = ap (λ (l : List Aircraft). getD (nobody ∷ l) 1 nobody .number) (heads .here) ∙ heads .named
+head-alike heads = ap (λ (l : List Aircraft). getD (nobody ∷ l) 1 nobody .number) (heads .here) ∙ heads .named
 
-module _ (f : Field) (sh : Shaped f) (z w n : ℕ) (a : Between 1 13 z) (b : Between 1 13 w) (apart : w ≢ z) (room : howMany f w < 4) (heads : Heads f n z) where
-  has-room : howMany (headGone f z) w < 4
-  unfolding howMany
-  has-room = let e = ap length (gone-left f sh z a heads .elsewhere w apart) in omega (arith, room, e)
+-- what it takes that the head of zone z, with the number n, goes to the tail of zone w
+pub record MayGo (f : Field) (n z w : ℕ) : Type 0 where
+  pub from-zone : Between 1 13 z
+  pub to-zone : Between 1 13 w
+  pub other-zone : w ≢ z
+  pub room : howMany f w < 4
+  pub heads : Heads f n z
 
+module _ {f : Field} (sh : Shaped f) {n z w : ℕ} (m : MayGo f n z w) where
   -- by an aircraft that is put there
   pub put-led : (x : Aircraft) → x .number ≡ n → Led f (tailPut (headGone f z) w x) n z w
+  unfolding howMany
   put-led x e =
-      record { apart = apart; between = headGone f z; left = gone-left f sh z a heads; come = put-come (headGone f z) (gone-shaped f sh z a) w b x e has-room }
+      let left = gone-left sh (m .from-zone) (m .heads) in
+      let same = ap length (left .elsewhere w (m .other-zone)) in
+      let room = m .room in
+      record { apart = m .other-zone; between = headGone f z; left = left; come = put-come (gone-shaped sh (m .from-zone)) (m .to-zone) x e (omega (arith, room, same)) }
 
   pub moved-led : Led f (moved f z w) n z w
   unfolding moved
-  moved-led = put-led (arrived (f .legs) w (aircraftAt f z 1)) (into-arrived (f .legs) w (aircraftAt f z 1) .number ∙ head-alike f z n heads)
+  moved-led = put-led (arrived (f .legs) w (aircraftAt f z 1)) (into-arrived (f .legs) w (aircraftAt f z 1) .number ∙ head-alike (m .heads))
 
 pub led-same : {f g h : Field} {n z w : ℕ} → ((y : ℕ) → inZone h y ≡ inZone g y) → Led f g n z w → Led f h n z w
 led-same same l = record { apart = l .apart; between = l .between; left = l .left; come = come-same same (l .come) }
@@ -138,15 +146,15 @@ two-in-total c (w ∷ zs) y z i j h = go (decided (eqb w y)) (decided (eqb w z))
     go (inr a) (inr b) later = let k = later (rest-y a) (rest-z b) in omega arith
 
 -- A zone of the operation area has room where another has somebody.
-pub room-in : (f : Field) → T (withinBounds f) → (z w : ℕ) → T (within 1 12 z) → T (within 1 12 w) → w ≢ z → 1 ≤ howMany f z → howMany f w < 4
+pub room-in : (f : Field) → T (withinBounds f) → {z w : ℕ} → Between 1 12 z → Between 1 12 w → w ≢ z → 1 ≤ howMany f z → howMany f w < 4
 unfolding boundA inOperation
-room-in f t z w a b h l =
+room-in f t {z} {w} a b h l =
     let four = leb→le (inOperation f) 4 (and-l (leb (inOperation f) 4) (leb (howMany f 13) 1) (within-each f t .bound-a)) in
     let both = two-in-total (howMany f) operation w z (listed w b) (listed z a) h in
     omega arith
   where
-    listed : (z : ℕ) → T (within 1 12 z) → isIn z operation ≡ true
-    listed = each-operation (λ z. isIn z operation ≡ true) (refl, refl, refl, refl, refl, refl, refl, refl, refl, refl, refl, refl)
+    listed : (z : ℕ) → Between 1 12 z → isIn z operation ≡ true
+    listed z b = each-operation (λ z. isIn z operation ≡ true) (refl, refl, refl, refl, refl, refl, refl, refl, refl, refl, refl, refl) z (pass (within-yes 1 12 z (b .least) (b .most)))
 
 -- A holding and a lateral zone have at most one.
 pub one-each : (f : Field) → T (withinBounds f) → (z : ℕ) → 1 ≤ z → z ≤ 6 → howMany f z ≤ 1
@@ -159,23 +167,28 @@ one-each f before z low high =
 
 -- ---- 3000 of a side made empty
 -- what is asked of it: the side is one, and nobody is at 2000 where somebody is at 3000
-module _ (f : Field) (sh : Shaped f) (before : T (withinBounds f)) (side : ℕ) (low : 1 ≤ side) (high : side ≤ 2) (free : 1 ≤ howMany f side → howMany f (2 + side) ≡ 0) where
-  -- the field with 3000 empty: one who was there is at 2000
-  pub record Emptied (h : Field) : Type 0 where
-    pub shaped : Shaped h
-    pub none : inZone h side ≡ []
-    pub elsewhere : (y : ℕ) → y ≢ side → y ≢ 2 + side → inZone h y ≡ inZone f y
-    pub looked : (m : ℕ) → placeOf h m ≡ descendedPlace side (placeOf f m)
-    pub present : presentOn h ≡ presentOn f
+pub record MayMakeRoom (f : Field) (side : ℕ) : Type 0 where
+  pub low : 1 ≤ side
+  pub high : side ≤ 2
+  pub clear : 1 ≤ howMany f side → howMany f (2 + side) ≡ 0
 
+-- the field h with 3000 empty: one who was there on f is at 2000
+pub record Emptied (f : Field) (side : ℕ) (h : Field) : Type 0 where
+  pub shaped : Shaped h
+  pub none : inZone h side ≡ []
+  pub elsewhere : (y : ℕ) → y ≢ side → y ≢ 2 + side → inZone h y ≡ inZone f y
+  pub looked : (m : ℕ) → placeOf h m ≡ descendedPlace side (placeOf f m)
+  pub present : presentOn h ≡ presentOn f
+
+module _ {f : Field} (sh : Shaped f) (before : T (withinBounds f)) {side : ℕ} (asked : MayMakeRoom f side) where
   here : Between 1 13 side
-  here = record { least = low; most = omega arith }
+  here = record { least = asked .low; most = omega arith }
 
   below : Between 1 13 (2 + side)
   below = record { least = omega arith; most = omega arith }
 
   one : howMany f side ≤ 1
-  one = one-each f before side low (omega arith)
+  one = one-each f before side (asked .low) (omega arith)
 
   -- who is found there stands there
   stands : (m : ℕ) → placeOf f m .zone ≡ side → (1 ≤ howMany f side) × (aircraftAt f side 1 .number ≡ m)
@@ -188,14 +201,14 @@ module _ (f : Field) (sh : Shaped f) (before : T (withinBounds f)) (side : ℕ) 
             let most = one in
             let place : placeOf f m .place ≡ 1 = omega (arith, first, last, most) in
             (omega (arith, first, last), sym (ap (λ (z : ℕ). aircraftAt f z 1 .number) e) ∙ sym (ap (λ (k : ℕ). aircraftAt f (placeOf f m .zone) k .number) place) ∙ p .has)
-        | inr t ↦ let none : 0 ≡ side = sym (ap (λ (p : Place). p .zone) (absent-nowhere f m t)) ∙ e in absurd (omega (arith, none, low))
+        | inr t ↦ let none : 0 ≡ side = sym (ap (λ (p : Place). p .zone) (absent-nowhere f m t)) ∙ e in absurd (omega (arith, none))
       ]
 
   stays : (p : Place) → p .zone ≢ side → p ≡ descendedPlace side p
   stays p h = sym (if-false _ _ (ne-eqb (p .zone) side h))
 
   -- nobody was there
-  empty-already : howMany f side ≡ 0 → Emptied f
+  empty-already : howMany f side ≡ 0 → Emptied f side f
   unfolding howMany
   empty-already e =
       record {
@@ -223,36 +236,36 @@ module _ (f : Field) (sh : Shaped f) (before : T (withinBounds f)) (side : ℕ) 
     some = let e = ap length there in omega (arith, e)
 
     led : Led f (moved f side (2 + side)) n side (2 + side)
-    led = let e = free some in moved-led f sh side (2 + side) n here below (λ t. omega (arith, t)) (omega (arith, e)) heads
+    led = let e = asked .clear some in moved-led sh (record { from-zone = here; to-zone = below; other-zone = λ t. omega (arith, t); room = omega (arith, e); heads = heads })
 
     nowhere-between : isIn n (numbersIn (led .between) everywhere) ≡ false
     nowhere-between =
         is-out (isIn n (numbersIn (led .between) everywhere))
-        (sym (ap (λ (p : Place). eqb (p .zone) 0) (own-left f (led .between) side n (led .left) (numbers-different f before))) ∙ found-exactly (led .between) n)
+        (sym (ap (λ (p : Place). eqb (p .zone) 0) (own-left (led .left) (numbers-different f before))) ∙ found-exactly (led .between) n)
       where
         is-out : (b : Bool) → true ≡ not b → b ≡ false
         is-out true e = e
         is-out false e = refl
 
-    moved-down : Emptied (moved f side (2 + side))
+    moved-down : Emptied f side (moved f side (2 + side))
     unfolding moved howMany led moved-led put-led gone-left heads
     moved-down =
         record {
-          shaped = put-shaped (headGone f side) (gone-shaped f sh side here) (2 + side) below (arrived (f .legs) (2 + side) (aircraftAt f side 1));
+          shaped = put-shaped (gone-shaped sh here) below (arrived (f .legs) (2 + side) (aircraftAt f side 1));
           none = led .come .elsewhere side (λ t. omega (arith, t)) ∙ led .left .after;
           elsewhere = λ y h k. led .come .elsewhere y k ∙ led .left .elsewhere y h;
           looked = λ m. look m (decided (eqb m n));
-          present = let up = come-total (led .between) _ (2 + side) n (led .come) in let down = left-total f (led .between) side n (led .left) in omega (arith, up, down);
+          present = let up = come-total (led .come) in let down = left-total (led .left) in omega (arith, up, down);
         }
       where
         look : (m : ℕ) → (eqb m n ≡ true) ⊎ (eqb m n ≡ false) → placeOf (moved f side (2 + side)) m ≡ descendedPlace side (placeOf f m)
         look m (inl t) =
             let own = eqb-true m n t in
-            let none : howMany (led .between) (2 + side) ≡ 0 = as-before ∙ free some in
+            let none : howMany (led .between) (2 + side) ≡ 0 = as-before ∙ asked .clear some in
             ap (placeOf (moved f side (2 + side))) own
-            ∙ own-new (led .between) (moved f side (2 + side)) (2 + side) n (led .come) nowhere-between
+            ∙ own-new (led .come) nowhere-between
             ∙ ap (λ (k : ℕ). at (2 + side) (suc k)) none
-            ∙ sym (ap (descendedPlace side) (ap (placeOf f) own ∙ was-head f (led .between) side n (led .left) (numbers-different f before)) ∙ if-true _ _ (eq-eqb side side refl))
+            ∙ sym (ap (descendedPlace side) (ap (placeOf f) own ∙ was-head (led .left) (numbers-different f before)) ∙ if-true _ _ (eq-eqb side side refl))
           where
             as-before : howMany (led .between) (2 + side) ≡ howMany f (2 + side)
             as-before = many (led .left .elsewhere (2 + side) (λ t. omega (arith, t)))
@@ -261,24 +274,24 @@ module _ (f : Field) (sh : Shaped f) (before : T (withinBounds f)) (side : ℕ) 
                 many e = ap length e
         look m (inr t) =
             let other = eqb-false m n t in
-            let zone : placeOf f m .zone ≢ side = λ e. other (sym (stands m e .1) ∙ head-alike f side n heads) in
-            others-come (led .between) (moved f side (2 + side)) (2 + side) n (led .come) m other
-            ∙ others-left f (led .between) side n (led .left) m other
+            let zone : placeOf f m .zone ≢ side = λ e. other (sym (stands m e .1) ∙ head-alike heads) in
+            others-come (led .come) m other
+            ∙ others-left (led .left) m other
             ∙ if-false _ _ (and-cut (ltb 1 (placeOf f m .place)) (ne-eqb (placeOf f m .zone) side zone))
             ∙ stays (placeOf f m) zone
 
   -- `madeRoom` (`rules`) makes it so.
-  pub room-made : Emptied (madeRoom f side)
+  pub room-made : Emptied f side (madeRoom f side)
   unfolding madeRoom howMany
   room-made =
       elim (decided (isEmpty f side)) [
-        | inl e ↦ subst⁻¹ Emptied (if-true _ _ e) (empty-already (eqb-true (howMany f side) 0 e))
+        | inl e ↦ subst⁻¹ (Emptied f side) (if-true _ _ e) (empty-already (eqb-true (howMany f side) 0 e))
         | inr e ↦
             let some = eqb-false (howMany f side) 0 e in
-            subst⁻¹ Emptied (if-false _ _ e) (alone (inZone f side) refl some one)
+            subst⁻¹ (Emptied f side) (if-false _ _ e) (alone (inZone f side) refl some one)
       ]
     where
-      alone : (l : List Aircraft) → inZone f side ≡ l → howMany f side ≢ 0 → howMany f side ≤ 1 → Emptied (moved f side (2 + side))
+      alone : (l : List Aircraft) → inZone f side ≡ l → howMany f side ≢ 0 → howMany f side ≤ 1 → Emptied f side (moved f side (2 + side))
       alone [] i a b = absurd (a (many i))
         where
           many : inZone f side ≡ [] → howMany f side ≡ 0

@@ -12,7 +12,7 @@ use Rattle.leg.specs.Ticks.{Between}
 use Rattle.request.specs.Input.{firstRefused}
 use Rattle.request.specs.declared.Request.{Request}
 use Rattle.field.specs.declared.Field.{Field}
-use Rattle.field.specs.Airspace.{base, opposite}
+use Rattle.field.specs.Airspace.{base, opposite, sideOf}
 use Rattle.field.proofs.TestParts.{is-not, holds, fails}
 use Rattle.field.proofs.TestLaws.{decided, pass, passed, if-true, if-false}
 use Rattle.questions.specs.declared.Place.{Place}
@@ -91,7 +91,7 @@ after c =
 
 -- ---- what is read of the field before
 known : (c : tie.After-check-number) → IndexedKnown (start c .args .x)
-known c = indexed-known (start c .args .x) (start c .good .0)
+known c = indexed-known (start c .args .x) (start c .good .0) (start c .pre .0 .1)
 
 -- the side of the zone
 side-within : (c : tie.After-side-of) → Between 1 2 (c .side-of .result)
@@ -115,6 +115,10 @@ above-within c = let b = side-within c in record { least = omega (arith, b); mos
 below-within : (c : tie.After-side-of) → Between 1 13 (2 + c .side-of .result)
 below-within c = let b = side-within c in record { least = omega (arith, b); most = omega (arith, b) }
 
+-- its side, by where the aircraft was found
+side-is : (c : tie.After-leads-to) → let k = passed-by c .before in c .before .before .side-of .result ≡ sideOf (placeBefore (start k .args .x .field) (start k .args .r) .zone)
+side-is c = c .before .before .side-of .ensures ∙ ap (λ (p : Place). sideOf (p .zone)) (found (passed-by c .before))
+
 -- the zone that the request leads to
 led-within : (c : tie.After-leads-to) → Between 1 13 (c .leads-to .result)
 led-within c = subst⁻¹ (Between 1 13) (c .leads-to .ensures) (leads-within _ _ _ _ _ _ _ _ _)
@@ -122,10 +126,7 @@ led-within c = subst⁻¹ (Between 1 13) (c .leads-to .ensures) (leads-within _ 
 there-few : (c : tie.Joined2)
     → let led = c .before .before in getD (start (passed-by led .before) .args .x .field .zones) (led .leads-to .result - 1) (record { aircraft = []; length = 0 }) .length ≤ 4
 there-few c =
-    let led = c .before .before in
-    let k = passed-by led .before in
-    let s = start k in
-    few-there (s .args .x) (s .pre .0 .1) (known k) (led .leads-to .result) _ (led-within led)
+    let led = c .before .before in few-there (known (passed-by led .before)) _ (led-within led)
 
 -- it is within the bounds: it was judged, or 25 is not the number
 bounded : (c : tie.Joined2) → let s = start (passed-by (c .before .before) .before) in withinBounds (effectOf (s .args .x .field) (s .args .r)) ≡ true
@@ -271,18 +272,21 @@ answered-requires c κs =
     let k = e .before in
     let s = start k in
     let x = s .args .x in
-    let w = s .pre .0 .1 in
-    let zone = side .side-of .ensures in (
+    let f = x .field in
+    let zero = number k ∙ if-true _ _ (eq-eqb _ _ (met e)) ∙ if-true _ _ (bounded j) in (
       subst⁻¹ (λ (g : Field). T (withinBounds g)) (after (j .before)) (pass (bounded j)),
-      (λ k. tick-leaves x w (s .args .r) k ∙ sym (ap indexOf (after (j .before)))),
+      (λ k. tick-leaves x (s .pre .0 .1) (s .args .r) k ∙ sym (ap indexOf (after (j .before)))),
       λ t. ap (λ (to : Entry). keptUp (k .before .before .before .find .result .zone) to (x .index)) (c .led-to .ensures)
-          ∙ kept-up-after x w (known k) (s .args .r) (number k ∙ if-true _ _ (eq-eqb _ _ (met e)) ∙ if-true _ _ (bounded j)) (found k)
-          (asked-found x w (s .args .r) (k .before .zone-ahead .ensures)) (led .leads-to .ensures)
-          (length-at x w (known k) _ _ _ (across-at side) (across-within side) ∙ ap (λ (v : ℕ). howMany (x .field) (base (opposite v))) zone)
-          (length-there x w (known k) _ _ (above-within side) ∙ ap (howMany (x .field)) zone)
-          (length-there x w (known k) _ _ (below-within side) ∙ ap (λ (v : ℕ). howMany (x .field) (2 + v)) zone)
-          (fix-there x w (known k) _ _)
-          (length-there x w (known k) (led .leads-to .result) _ (led-within led)) (after (j .before)) t,
+          ∙ kept-up-after (known k) zero
+          (record {
+            zone-is = ap (λ (p : Place). p .zone) (found k);
+            ahead-is = asked-found x (s .pre .0 .1) (s .args .r) (k .before .zone-ahead .ensures);
+            across-is = length-at (known k) _ (across-at side) (across-within side) ∙ ap (λ (v : ℕ). howMany f (base (opposite v))) (side-is led);
+            above-is = length-there (known k) _ (above-within side) ∙ ap (howMany f) (side-is led);
+            below-is = length-there (known k) _ (below-within side) ∙ ap (λ (v : ℕ). howMany f (2 + v)) (side-is led);
+            fix-is = fix-there (known k) _ _;
+          })
+          (led .leads-to .ensures) (length-there (known k) _ (led-within led)) (after (j .before)) t,
     )
 
 accepted-requires : tie.Need-accepted-requires
