@@ -72,6 +72,13 @@ Inv-loop f end fix₀ i₀ fix i = Passed f end fix i
 abbrev μ-loop : tie.MeasureT-loop
 μ-loop f end fix₀ i₀ fix i = end - i
 
+-- the way back from the next fix to the loop's head, and from there to the field
+abbrev head : tie.After-fix-at2 Inv-loop μ-loop → tie.At-loop Inv-loop μ-loop
+head c = c .before .before .before
+
+abbrev field-of : tie.At-loop Inv-loop μ-loop → Field
+field-of c = c .before .before .before .before .args .f
+
 order-length-requires : tie.Need-order-length-requires Inv-loop μ-loop
 order-length-requires c κs = search needs
 
@@ -98,8 +105,9 @@ fix-at-requires-2 c κs = search needs
 returns : tie.Need-returns Inv-loop μ-loop
 unfolding boundF
 returns c =
-    let l = c .before .before .before .before .loop in
-    let f = c .before .before .before .before .before .before .before .before .args .f in
+    let k = head (c .before) in
+    let l = k .loop in
+    let f = field-of k in
     sym (stops f (l .i) (omega arith) (l .inv .walked) (l .inv .this) (c .before .before .opposite .ensures) (c .before .fix-at2 .ensures) (c .if1 .taken))
 
 add-i : tie.Need-add-i Inv-loop μ-loop
@@ -110,8 +118,9 @@ loop-less c = search needs
 
 loop-again : tie.Need-loop-again Inv-loop μ-loop
 loop-again c =
-    let l = c .before .before .before .before .loop in
-    let f = c .before .before .before .before .before .before .before .before .args .f in
+    let k = head (c .before) in
+    let l = k .loop in
+    let f = field-of k in
     record {
       within = omega arith;
       long = l .inv .long;
@@ -122,7 +131,7 @@ loop-again c =
 returns-2 : tie.Need-returns-2 Inv-loop μ-loop
 unfolding boundF
 returns-2 c =
-    let f = c .before .before .before .before .before .args .f in
+    let f = field-of (c .before) in
     let l = c .before .loop in
     let x = getD (fixes f) (l .i) (f .next) in
     let none = drop-of-length-le (fixes f) {i = l .i + 1} (omega arith) in

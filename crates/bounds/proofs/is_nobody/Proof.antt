@@ -61,7 +61,15 @@ numbers-0 a z {t} {u} e g w =
     ∙ ap (λ (b : Bool). t && b && isWaiting (a .progress)) g
     ∙ ap (λ (b : Bool). t && u && b) (sym w)
 
-zeros : (c : tie.Else4) → Zeros (c .before .before .before .before .before .before .before .before .args .a)
+-- the aircraft, from where its first two numbers are 0, and from where all four are
+abbrev aircraft2 : tie.Else2 → Aircraft
+aircraft2 c = c .before .before .before .before .args .a
+
+abbrev aircraft4 : tie.Else4 → Aircraft
+aircraft4 c = aircraft2 (c .before .before .before .before)
+
+-- its four numbers are 0, where each was tested
+zeros : (c : tie.Else4) → Zeros (aircraft4 c)
 zeros c =
     let at3 = c .before .before in
     let at2 = at3 .before .before in

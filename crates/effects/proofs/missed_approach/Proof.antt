@@ -59,18 +59,18 @@ with-sequence-requires c κs = search needs
 
 returns : tie.Need-returns
 returns c =
-    let a = c .before .before .before .before .before .before .before .before .before .before .before .before in
-    let b = c .before .before .before .before .before .before .before in
-    let d = c .before .before in
-    made (a .before .args .f) (a .before .args .r)
-    (a .aircraft-at .ensures)
-    (b .before .before .before .fix-after-miss .ensures)
-    (b .before .arrived-by-miss .ensures)
-    (b .with-fix .ensures)
-    (d .before .before .before .before .head-gone .ensures)
-    (d .before .before .before .tail-put .ensures)
-    (d .before .removed .ensures)
-    (d .appended .ensures)
+    let listed = c .before .before in
+    let turned = listed .before .before .before .before .before in
+    let found = turned .before .before .before .before .before in
+    made (found .before .args .f) (found .before .args .r)
+    (found .aircraft-at .ensures)
+    (turned .before .before .before .fix-after-miss .ensures)
+    (turned .before .arrived-by-miss .ensures)
+    (turned .with-fix .ensures)
+    (listed .before .before .before .before .head-gone .ensures)
+    (listed .before .before .before .tail-put .ensures)
+    (listed .before .removed .ensures)
+    (listed .appended .ensures)
     (c .before .opposite .ensures)
     (c .with-sequence .ensures)
 

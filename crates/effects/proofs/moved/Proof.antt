@@ -20,17 +20,24 @@ use borrow.Author.Needs.{needs}
 use Rattle.effects.proofs.moved.Statement.{statement}
 use Rattle.effects.proofs.moved.Tie as tie
 
+-- the way back to the start from where the first number is a zone's, and from where the second is too
+abbrev start1 : tie.Else1 → tie.Start
+start1 c = c .before .before .before .before .before
+
+abbrev start2 : tie.Else2 → tie.Start
+start2 c = start1 (c .before .before)
+
 -- a number that passes the test is a zone's
-from-low : (c : tie.Else1) → 1 ≤ c .before .before .before .before .before .args .from
+from-low : (c : tie.Else1) → 1 ≤ start1 c .args .from
 from-low c = within-low 1 13 _ (holds (c .before .in-range .ensures) (c .if1 .left))
 
-from-high : (c : tie.Else1) → c .before .before .before .before .before .args .from ≤ 13
+from-high : (c : tie.Else1) → start1 c .args .from ≤ 13
 from-high c = within-high 1 13 _ (holds (c .before .in-range .ensures) (c .if1 .left))
 
-to-low : (c : tie.Else2) → 1 ≤ c .before .before .before .before .before .before .before .args .to
+to-low : (c : tie.Else2) → 1 ≤ start2 c .args .to
 to-low c = within-low 1 13 _ (holds (c .before .in-range2 .ensures) (c .if2 .left))
 
-to-high : (c : tie.Else2) → c .before .before .before .before .before .before .before .args .to ≤ 13
+to-high : (c : tie.Else2) → start2 c .args .to ≤ 13
 to-high c = within-high 1 13 _ (holds (c .before .in-range2 .ensures) (c .if2 .left))
 
 -- the field with another list of zones

@@ -37,8 +37,21 @@ returns-3 c =
 is-desk-requires : tie.Need-is-desk-requires
 is-desk-requires c κs = search needs
 
+-- the way back to the start from where the fix and the speed are passed, and from where the desk, the miles waited and the own leg are passed too
+abbrev start3 : tie.Else3 → tie.Start
+start3 c = c .before .before .before .before .before .before
+
+abbrev start4 : tie.Else4 → tie.Start
+start4 c = start3 (c .before .before)
+
+abbrev start5 : tie.Else5 → tie.Start
+start5 c = start4 (c .before .before)
+
+abbrev start6 : tie.Else6 → tie.Start
+start6 c = start5 (c .before .before)
+
 -- the fix and the speed fit, where the desk is tested
-numbers-fit : (c : tie.Else3) → let a = c .before .before .before .before .before .before .args .a in (isSide (a .fix) && (leb 1 (a .speed) && leb (a .speed) fastest)) ≡ true
+numbers-fit : (c : tie.Else3) → let a = start3 c .args .a in (isSide (a .fix) && (leb 1 (a .speed) && leb (a .speed) fastest)) ≡ true
 numbers-fit c =
     let at1 = c .before .before .before .before in
     and-then (holds (at1 .before .is-side .ensures) (at1 .if1 .left)) (and-then (le-leb _ _ (c .before .before .if2 .left)) (le-leb _ _ (c .if3 .left)))
@@ -52,7 +65,7 @@ waited-within-requires c κs = search needs
 
 -- and so does the desk, where the miles waited are tested
 desk-fits : (c : tie.Else4)
-    → let a = c .before .before .before .before .before .before .before .before .args .a in
+    → let a = start4 c .args .a in
     (isSide (a .fix) && (leb 1 (a .speed) && leb (a .speed) fastest) && (leb 1 (a .desk) && leb (a .desk) desks)) ≡ true
 desk-fits c = and-then (numbers-fit (c .before .before)) (holds (c .before .is-desk .ensures) (c .if4 .left))
 
@@ -64,7 +77,7 @@ leg-fits-requires : tie.Need-leg-fits-requires
 leg-fits-requires c κs = search needs
 
 -- and the miles waited, where the own leg is tested
-waited-fits : (c : tie.Else5) → let a = c .before .before .before .before .before .before .before .before .before .before .args .a in
+waited-fits : (c : tie.Else5) → let a = start5 c .args .a in
     (isSide (a .fix) && (leb 1 (a .speed) && leb (a .speed) fastest) && (leb 1 (a .desk) && leb (a .desk) desks) && waitedWithin (a .waited)) ≡ true
 waited-fits c = and-then (desk-fits (c .before .before)) (holds (c .before .waited-within .ensures) (c .if5 .left))
 
@@ -73,7 +86,7 @@ unfolding fitsZone
 returns-6 c = sym (and-cut _ (and-then (waited-fits (c .before .before)) (fails (c .before .leg-fits .ensures) (c .if6 .taken))))
 
 -- and the own leg, where the zone is asked for
-all-fit : (c : tie.Else6) → let s = c .before .before .before .before .before .before .before .before .before .before .before .before .args in let a = s .a in
+all-fit : (c : tie.Else6) → let s = start6 c .args in let a = s .a in
     (isSide (a .fix) && (leb 1 (a .speed) && leb (a .speed) fastest) && (leb 1 (a .desk) && leb (a .desk) desks) && waitedWithin (a .waited) && legFits (s .legs) (s .zone) (a .leg)) ≡ true
 all-fit c = and-then (waited-fits (c .before .before)) (holds (c .before .leg-fits .ensures) (c .if6 .left))
 

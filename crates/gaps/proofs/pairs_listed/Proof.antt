@@ -30,6 +30,10 @@ Inv-loop f spacing s end pairs₀ count₀ i₀ pairs count i = Passed f spacing
 abbrev μ-loop : tie.MeasureT-loop
 μ-loop f spacing s end pairs₀ count₀ i₀ pairs count i = end - i
 
+-- the field, from the loop's head
+abbrev field-of : tie.At-loop Inv-loop μ-loop → Field
+field-of c = c .before .before .before .before .args .f
+
 order-length-requires : tie.Need-order-length-requires Inv-loop μ-loop
 order-length-requires c κs = search needs
 
@@ -92,8 +96,9 @@ loop-less c = search needs
 loop-again : tie.Need-loop-again Inv-loop μ-loop
 loop-again c =
     let both = c .before in
-    let l = both .before .before .before .before .loop in
-    let f = both .before .before .before .before .before .before .before .before .args .f in
+    let k = both .before .before .before .before in
+    let l = k .loop in
+    let f = field-of k in
     let i-below : l .i < length (orderOf (f .sequence)) = omega (arith, l .inv .whole) in
     let room : l .count < 3 = omega (arith, l .inv .found .few, l .inv .fits) in
     record {
@@ -110,7 +115,7 @@ loop-again c =
 returns : tie.Need-returns Inv-loop μ-loop
 returns c =
     let l = c .before .loop in
-    let f = c .before .before .before .before .before .args .f in
+    let f = field-of (c .before) in
     found-all f _ (f .sequence) (l .i) (omega (arith, l .inv .whole)) (l .inv .found)
 
 pub pairs-listed-spec : {M : Type 1} → statement M

@@ -295,8 +295,9 @@ accepted-requires c κs = search needs
 returns-3 : tie.Need-returns-3
 returns-3 c =
     let j = c .before .before .before in
-    let e = passed-by (j .before .before) in
-    let l = j .before .before .before .before .before .before .before in
+    let led = j .before .before in
+    let e = passed-by led in
+    let l = led .before .before .before .before .before in
     let k = e .before in
     let s = start k in
     let zero = number k ∙ if-true _ _ (eq-eqb _ _ (met e)) ∙ if-true _ _ (bounded j) in

@@ -23,6 +23,20 @@ Inv-loop numbers i₀ i-end i = Walked allDifferent numbers 0 i
 abbrev μ-loop : tie.MeasureT-loop
 μ-loop numbers i₀ i-end i = i-end - i
 
+-- the way back from the search to the loop's head, and from there to the numbers
+abbrev head : tie.After-is-in Inv-loop μ-loop → tie.At-loop Inv-loop μ-loop
+head c = c .before .before .before .before
+
+abbrev numbers-of : tie.At-loop Inv-loop μ-loop → List ℕ
+numbers-of c = c .before .before .args .numbers .now
+
+-- whether the number at place i stands again behind it
+again : (c : tie.After-is-in Inv-loop μ-loop) → let xs = numbers-of (head c) in let i = head c .loop .i in c .is-in .result ≡ isIn (getD xs i 0) (drop (i + 1) xs)
+again c =
+    let xs = numbers-of (head c) in
+    let i = head c .loop .i in
+    c .is-in .ensures ∙ ap (isIn (getD xs i 0)) (rest-of xs (i + 1))
+
 loop-holds : tie.Need-loop-holds Inv-loop μ-loop
 loop-holds c = walked-none _ _ 0 (omega arith)
 
@@ -52,10 +66,10 @@ is-in-requires c κs = search needs
 
 returns : tie.Need-returns Inv-loop μ-loop
 returns c =
-    let l = c .before .before .before .before .before .loop in
-    let xs = c .before .before .before .before .before .before .before .args .numbers .now in
-    let again = c .before .is-in .ensures ∙ ap (isIn (getD xs (l .i) 0)) (rest-of xs (l .i + 1)) in
-    sym (walked-stop allDifferent xs 0 (l .i) (l .inv) (next-of xs (l .i) 0 (omega arith)) (and-cut _ (ap not (sym again ∙ c .if1 .taken))))
+    let k = head (c .before) in
+    let l = k .loop in
+    let xs = numbers-of k in
+    sym (walked-stop allDifferent xs 0 (l .i) (l .inv) (next-of xs (l .i) 0 (omega arith)) (and-cut _ (ap not (sym (again (c .before)) ∙ c .if1 .taken))))
 
 add-i : tie.Need-add-i Inv-loop μ-loop
 add-i c = search needs
@@ -65,13 +79,13 @@ loop-less c = search needs
 
 loop-again : tie.Need-loop-again Inv-loop μ-loop
 loop-again c =
-    let l = c .before .before .before .before .before .loop in
-    let xs = c .before .before .before .before .before .before .before .args .numbers .now in
-    let again = c .before .is-in .ensures ∙ ap (isIn (getD xs (l .i) 0)) (rest-of xs (l .i + 1)) in
-    walked-more allDifferent xs 0 (l .i) (l .inv) (omega arith) (next-of xs (l .i) 0 (omega arith)) (and-then (ap not (sym again ∙ c .if1 .left)) refl)
+    let k = head (c .before) in
+    let l = k .loop in
+    let xs = numbers-of k in
+    walked-more allDifferent xs 0 (l .i) (l .inv) (omega arith) (next-of xs (l .i) 0 (omega arith)) (and-then (ap not (sym (again (c .before)) ∙ c .if1 .left)) refl)
 
 returns-2 : tie.Need-returns-2 Inv-loop μ-loop
-returns-2 c = sym (walked-all allDifferent (c .before .before .before .args .numbers .now) 0 (c .before .loop .i) (c .before .loop .inv) (omega arith))
+returns-2 c = sym (walked-all allDifferent (numbers-of (c .before)) 0 (c .before .loop .i) (c .before .loop .inv) (omega arith))
 
 pub all-different-spec : {M : Type 1} → statement M
 all-different-spec =

@@ -20,6 +20,13 @@ Inv-loop numbers others i₀ i-end i = Walked (every (among others)) numbers 0 i
 abbrev μ-loop : tie.MeasureT-loop
 μ-loop numbers others i₀ i-end i = i-end - i
 
+-- the way back from the search to the loop's head, and from there to the start
+abbrev head : tie.After-is-in Inv-loop μ-loop → tie.At-loop Inv-loop μ-loop
+head c = c .before .before .before
+
+abbrev start : tie.At-loop Inv-loop μ-loop → tie.Start Inv-loop μ-loop
+start c = c .before .before .before
+
 loop-holds : tie.Need-loop-holds Inv-loop μ-loop
 loop-holds c = walked-none _ _ 0 (omega arith)
 
@@ -34,8 +41,9 @@ is-in-requires c κs = search needs
 
 returns : tie.Need-returns Inv-loop μ-loop
 returns c =
-    let l = c .before .before .before .before .loop in
-    let a = c .before .before .before .before .before .before .before .args in
+    let k = head (c .before) in
+    let l = k .loop in
+    let a = start k .args in
     let xs = a .numbers .now in
     sym (each-not (among (a .others .now)) xs 0 (l .i) (l .inv) (next-of xs (l .i) 0 (omega arith)) (fails (c .before .is-in .ensures) (c .if1 .taken)))
 
@@ -47,14 +55,15 @@ loop-less c = search needs
 
 loop-again : tie.Need-loop-again Inv-loop μ-loop
 loop-again c =
-    let l = c .before .before .before .before .loop in
-    let a = c .before .before .before .before .before .before .before .args in
+    let k = head (c .before) in
+    let l = k .loop in
+    let a = start k .args in
     let xs = a .numbers .now in
     each-more (among (a .others .now)) xs 0 (l .i) (l .inv) (omega arith) (next-of xs (l .i) 0 (omega arith)) (holds (c .before .is-in .ensures) (c .if1 .left))
 
 returns-2 : tie.Need-returns-2 Inv-loop μ-loop
 returns-2 c =
-    let a = c .before .before .before .before .args in
+    let a = start (c .before) .args in
     sym (walked-all (every (among (a .others .now))) (a .numbers .now) 0 (c .before .loop .i) (c .before .loop .inv) (omega arith))
 
 pub each-in-spec : {M : Type 1} → statement M

@@ -23,7 +23,13 @@ Inv-loop out₀ body f₀ at₀ i₀ out f at i = Fields (requestsOf body) f₀ 
 abbrev μ-loop : tie.MeasureT-loop
 μ-loop out₀ body f₀ at₀ i₀ out f at i = length (requestsOf body) - i
 
--- ---- the way back: from the request that was read to the loop's head and to the start
+-- ---- the way back: from the field that was put to the step, to the request that was read, to the loop's head and to the start
+abbrev stepped : tie.After-put-field Inv-loop μ-loop → tie.After-step Inv-loop μ-loop
+stepped c = c .before .before .before
+
+abbrev read-at : tie.After-step Inv-loop μ-loop → tie.After-r Inv-loop μ-loop
+read-at c = c .before .before
+
 abbrev head : tie.After-r Inv-loop μ-loop → tie.At-loop Inv-loop μ-loop
 head c = c .before .before .before
 
@@ -66,7 +72,7 @@ step-requires c κs = search needs
 
 add-i : tie.Need-add-i Inv-loop μ-loop
 add-i c =
-    let k = c .before .before in
+    let k = read-at c in
     let h = below k in
     omega (arith, start (head k) .pre)
 
@@ -75,14 +81,14 @@ put-field-requires c κs = search needs
 
 loop-less : tie.Need-loop-less Inv-loop μ-loop
 loop-less c =
-    let h = below (c .before .before .before .before .before .before .before) in
+    let h = below (read-at (stepped (c .before .before))) in
     omega arith
 
 loop-again : tie.Need-loop-again Inv-loop μ-loop
 loop-again c =
     let w = c .before .before in
-    let t = w .before .before .before in
-    let k = t .before .before in
+    let t = stepped w in
+    let k = read-at t in
     let l = head k in
     fields-more (requests l) (request k) (t .step .result) (l .loop .inv) (reading k) (t .step .ensures) (w .put-field .ensures)
 

@@ -1,6 +1,7 @@
 -- `practice::contents_allowed` meets its contract: what each test gave stands in the branches. Assumes nothing.
 use mathlib.Core.Path.{_≡_, ap, subst, _∙_}
 use mathlib.Core.Bool.{true}
+use mathlib.Core.List.{List}
 use Prim.Native.Nat.{ℕ, _+_, _%_, _≤_, _<_}
 use lib.Dec.{eqb, leb}
 use lib.ListN.{length}
@@ -12,25 +13,34 @@ use Rattle.practice.proofs.BranchTests.{differs, agrees, fails, passes}
 use Rattle.practice.proofs.contents_allowed.Statement.{statement}
 use Rattle.practice.proofs.contents_allowed.Tie as tie
 
+-- the file, from where the count is read, and from where the first and the second entry are read too
+abbrev file1 : tie.Else1 → List ℕ
+file1 c = now (c .before .before .before .args .file)
+
+abbrev file2 : tie.Else2 → List ℕ
+file2 c = file1 (c .before .before)
+
+abbrev file3 : tie.After-entry-is2 → List ℕ
+file3 c = file2 (c .before .before)
+
 -- the tests that were passed
-count-read : (c : tie.Else1) → eqb (number16 (now (c .before .before .before .args .file)) 4) 2 ≡ true
+count-read : (c : tie.Else1) → eqb (number16 (file1 c) 4) 2 ≡ true
 count-read c = agrees 2 (c .before .number16 .ensures) (c .if1 .left)
 
-first-read : (c : tie.Else2) → entryIs (now (c .before .before .before .before .before .args .file)) 6 1 26 8 ≡ true
+first-read : (c : tie.Else2) → entryIs (file2 c) 6 1 26 8 ≡ true
 first-read c = passes (c .before .entry-is .ensures) (c .if2 .left)
 
 -- the second entry's test, at the length that was read from it
-second : (c : tie.After-entry-is2) → let file = now (c .before .before .before .before .before .before .before .args .file) in c .entry-is2 .result ≡ entryIs file 16 2 34 (bodyLength file)
-second c =
-    c .entry-is2 .ensures ∙ ap (λ (n : ℕ). entryIs (now (c .before .before .before .before .before .before .before .args .file)) 16 2 34 n) (c .before .number32 .ensures)
+second : (c : tie.After-entry-is2) → c .entry-is2 .result ≡ entryIs (file3 c) 16 2 34 (bodyLength (file3 c))
+second c = c .entry-is2 .ensures ∙ ap (λ (n : ℕ). entryIs (file3 c) 16 2 34 n) (c .before .number32 .ensures)
 
-second-read : (c : tie.Else3) → let file = now (c .before .before .before .before .before .before .before .before .args .file) in entryIs file 16 2 34 (bodyLength file) ≡ true
+second-read : (c : tie.Else3) → let file = file3 (c .before) in entryIs file 16 2 34 (bodyLength file) ≡ true
 second-read c = passes (second (c .before)) (c .if3 .left)
 
-sixes-read : (c : tie.Else4) → eqb (bodyLength (now (c .before .before .before .before .before .before .before .before .before .args .file)) % 6) 0 ≡ true
+sixes-read : (c : tie.Else4) → eqb (bodyLength (file3 (c .before .before)) % 6) 0 ≡ true
 sixes-read c = agrees 0 (ap (λ (n : ℕ). n % 6) (c .before .before .before .number32 .ensures)) (c .if4 .left)
 
-bound-read : (c : tie.Else5) → leb (bodyLength (now (c .before .before .before .before .before .before .before .before .before .before .args .file))) 24576 ≡ true
+bound-read : (c : tie.Else5) → leb (bodyLength (file3 (c .before .before .before))) 24576 ≡ true
 bound-read c = le-leb _ 24576 (subst (λ (n : ℕ). n ≤ 24576) (c .before .before .before .before .number32 .ensures) (c .if5 .left))
 
 number16-requires : tie.Need-number16-requires
@@ -88,7 +98,7 @@ unfolding contentsAllowed
 returns-6 c =
     let f = c .before .before .before .before .before in
     simp (count-read (f .before .before), first-read f, second-read (c .before .before), sixes-read (c .before), bound-read c)
-    (ap (λ (n : ℕ). eqb (34 + n) (length (now (f .before .before .before .before .before .args .file)))) (c .before .before .before .before .number32 .ensures))
+    (ap (λ (n : ℕ). eqb (34 + n) (length (file2 f))) (c .before .before .before .before .number32 .ensures))
 
 pub contents-allowed-spec : {M : Type 1} → statement M
 contents-allowed-spec =

@@ -1,6 +1,8 @@
 -- `practice::file_number` meets its contract: what each test gave stands in the branches. Assumes nothing.
 use mathlib.Core.Path.{_≡_, ap, _∙_}
 use mathlib.Core.Bool.{true}
+use mathlib.Core.List.{List}
+use Prim.Native.Nat.{ℕ}
 use lib.ListN.{take, drop}
 use denote.Ref.{now}
 use borrow.Author.Needs.{needs}
@@ -10,15 +12,22 @@ use Rattle.practice.proofs.AcceptedFile.{opened, long-enough}
 use Rattle.practice.proofs.file_number.Statement.{statement}
 use Rattle.practice.proofs.file_number.Tie as tie
 
+-- the file, from where its opening is read, and from where its contents are read too
+abbrev file1 : tie.Else1 → List ℕ
+file1 c = now (c .before .before .before .args .file)
+
+abbrev file2 : tie.Else2 → List ℕ
+file2 c = file1 (c .before .before)
+
 -- the tests that were passed
-opens-read : (c : tie.Else1) → opens (now (c .before .before .before .args .file)) ≡ true
+opens-read : (c : tie.Else1) → opens (file1 c) ≡ true
 opens-read c = passes (c .before .opens .ensures) (c .if1 .left)
 
-contents-read : (c : tie.Else2) → contentsAllowed (now (c .before .before .before .before .before .args .file)) ≡ true
+contents-read : (c : tie.Else2) → contentsAllowed (file2 c) ≡ true
 contents-read c = passes (c .before .contents-allowed .ensures) (c .if2 .left)
 
 -- the legs' test, at the legs that were read
-legs-tested : (c : tie.After-legs-allowed) → c .legs-allowed .result ≡ legsAllowed (legsOf (take 8 (drop 26 (now (c .before .before .before .before .before .before .before .before .args .file)))))
+legs-tested : (c : tie.After-legs-allowed) → c .legs-allowed .result ≡ legsAllowed (legsOf (take 8 (drop 26 (file2 (c .before .before .before)))))
 legs-tested c = c .legs-allowed .ensures ∙ ap legsAllowed (c .before .legs-of .ensures)
 
 opens-requires : tie.Need-opens-requires

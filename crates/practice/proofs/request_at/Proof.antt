@@ -50,7 +50,8 @@ request-of-requires c κs = search needs
 
 returns : tie.Need-returns
 returns c =
-    let s = c .before .before .before .before .before .before .before in
+    let third = c .before .before .before .before in
+    let s = third .before .before .before in
     let a = s .before .before .args in
     ap One (c .request-of .ensures) ∙ sym (at-index (now (a .body)) (a .i) (s .if1 .taken))
 

@@ -32,9 +32,15 @@ seven a b c d e f g ha hb hc hd he hf hg = line-short (a ∷ b ∷ c ∷ d ∷ e
     each (suc (suc (suc (suc (suc (suc zero)))))) = hg
     each (suc (suc (suc (suc (suc (suc (suc i))))))) = omega arith
 
--- the way back from the line to the test of the kind and to the start
-abbrev tested : tie.After-slice-known2 → tie.Else1
-tested c = c .before .before .before .before .before .before .before .before .before .before
+-- the ways back: from the end to the line that was put, to the last of its numbers, to the test of the kind and to the start
+abbrev put : tie.After-slice-known2 → tie.After-put-line
+put c = c .before .before
+
+abbrev numbered : tie.After-put-line → tie.After-struct-known6
+numbered c = c .before .before .before
+
+abbrev tested : tie.After-struct-known6 → tie.Else1
+tested c = c .before .before .before .before .before
 
 abbrev start : tie.Else1 → tie.Start
 start c = c .before .before .before
@@ -77,11 +83,12 @@ put-line-requires : tie.Need-put-line-requires
 put-line-requires c κs = search needs
 
 same-length : tie.Need-same-length
-same-length c = put-same (c .before .before .put-line .ensures)
+same-length c = put-same (put c .put-line .ensures)
 
 returns-2 : tie.Need-returns-2
 returns-2 c =
-    let k = tested c in
+    let p = put c in
+    let k = tested (numbered p) in
     let s = start k in
     let a = s .args in
     let e = its-line (a .press) (a .r) (a .a) (k .if1 .left) in
@@ -89,7 +96,7 @@ returns-2 c =
     let n =
     seven (a .press) (a .r .kind) (a .a .aircraft) (a .a .zone) (a .a .fix) (a .a .leader) (a .a .along)
     (omega (arith, s .good)) (omega (arith, s .good)) (omega (arith, s .good)) (omega (arith, s .good)) (omega (arith, s .good)) (omega (arith, s .good)) (omega (arith, s .good)) in
-    (subst⁻¹ (λ (bytes : List ℕ). Put (now (a .out)) (a .at) bytes (c .before .before .put-line .last .0) (c .before .before .put-line .result)) e (c .before .before .put-line .ensures), omega arith)
+    (subst⁻¹ (λ (bytes : List ℕ). Put (now (a .out)) (a .at) bytes (p .put-line .last .0) (p .put-line .result)) e (p .put-line .ensures), omega arith)
 
 pub put-press-spec : {M : Type 1} → statement M
 put-press-spec =

@@ -48,7 +48,7 @@ returns : tie.Need-returns
 returns c =
     let next = c .before .before .before in
     let near = next .before .before .before in
-    let start = c .before .before .before .before .before .before .before .before .before .before .before .before in
+    let start = near .before .before .before .before .before .before in
     let s = start .args .t1 in
     ap (λ (ns : List ℕ). s .count ∷ ns) (three-pairs (s .pairs) _ (spacings-known s (start .good .0) .places) (near .close-mark .ensures) (next .close-mark2 .ensures) (c .close-mark3 .ensures))
 

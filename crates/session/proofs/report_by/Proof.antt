@@ -26,6 +26,10 @@ use Rattle.session.proofs.report_by.Tie as tie
 abbrev file-of : tie.After-play → List ℕ
 file-of c = now (c .before .before .before .before .args .file)
 
+-- the way back from the answers' lines to the answers
+abbrev played : tie.After-put-answers → tie.After-play
+played c = c .before .before .before .before
+
 -- the file's number is told
 number-told : (c : tie.After-play) → c .play .result .number ≡ fileNumber (file-of c)
 unfolding playedOf
@@ -76,11 +80,11 @@ put-answers-requires c κs =
     omega arith
 
 slice-aggregate-tally-of : tie.Need-slice-aggregate-tally-of
-slice-aggregate-tally-of c = sym (log-known (c .before .before .before .before .before .before .before))
+slice-aggregate-tally-of c = sym (log-known (played (c .before .before .before)))
 
 tally-of-requires : tie.Need-tally-of-requires
 tally-of-requires c κs =
-    let k = c .before .before .before .before .before .before .before in
+    let k = played (c .before .before .before) in
     let few = requests-few (file-of k) in
     let n = count-told k in
     let l = log-known k in

@@ -2,7 +2,9 @@
 use mathlib.Core.Path.{_≡_, sym}
 use native.Mathlib.Omega.{arith}
 use lib.ListN.{length}
+use denote.Ref.{now}
 use Rattle.text.specs.Text.{digitsUpTo, decimal}
+use Rattle.text.specs.Buffer.{Put}
 use Rattle.text.proofs.Texts.{put-more, put-same}
 use Rattle.binder.specs.Counting.{columns}
 use Rattle.binder.specs.Week.{filesLine, refusedFilesLine, headingLine, movesLine, landingsLine}
@@ -13,16 +15,48 @@ use borrow.Author.Needs.{needs}
 use Rattle.binder.proofs.lines.put_week.Statement.{statement}
 use Rattle.binder.proofs.lines.put_week.Tie as tie
 
--- the ways back from where the table is read: to the fourth count, and to the start
-abbrev fourth : tie.After-cells2 → tie.After-put-count4
-fourth c = c .before .before .before .before .before .before .before .before .before .before
+-- the ways back: from each part of the report to the part before it, and from the heading to the start
+abbrev fifth : tie.After-put-count6 → tie.After-put-count5
+fifth c = c .before .before .before .before .before
 
-abbrev start : tie.After-cells2 → tie.Start
-start c = fourth c .before .before .before .before .before .before .before .before .before .before .before .before .before .before .before .before .before .before .before
+abbrev rows : tie.After-put-count5 → tie.After-put-rows
+rows c = c .before .before .before .before .before
+
+abbrev heading : tie.After-cells2 → tie.After-put-text
+heading c = c .before .before .before .before .before
+
+abbrev fourth : tie.After-put-text → tie.After-put-count4
+fourth c = c .before .before .before .before .before
+
+abbrev third : tie.After-put-count4 → tie.After-put-count3
+third c = c .before .before .before .before .before
+
+abbrev second : tie.After-put-count3 → tie.After-put-count2
+second c = c .before .before .before .before .before
+
+abbrev first : tie.After-put-count2 → tie.After-put-count
+first c = c .before .before .before .before .before
+
+abbrev start : tie.After-put-text → tie.Start
+start c = first (second (third (fourth c))) .before .before .before .before
 
 -- the table's length
-table : (c : tie.After-cells2) → length (start c .args .c .cells) ≡ 273
-table c = table-known (start c .args .c) (start c .good .1 .0)
+table : (c : tie.After-cells2) → length (start (heading c) .args .c .cells) ≡ 273
+table c = let s = start (heading c) in table-known (s .args .c) (s .good .1 .0)
+
+-- all lines are put, one after the other
+all-put : (c : tie.After-put-count6) → let a = start (heading (rows (fifth c) .before)) .args in Put (now (a .out)) 0 (weekLines (a .c)) (c .put-count6 .last .0) (c .put-count6 .result)
+unfolding weekLines filesLine refusedFilesLine headingLine movesLine landingsLine columns decimal digitsUpTo
+all-put c =
+    let p5 = fifth c in
+    let lines = rows p5 in
+    let text = heading (lines .before) in
+    let p4 = fourth text in
+    let p3 = third p4 in
+    let p2 = second p3 in
+    let p1 = first p2 in
+    put-more (put-more (put-more (put-more (put-more (put-more (put-more (p1 .put-count .ensures) (p2 .put-count2 .ensures)) (p3 .put-count3 .ensures)) (p4 .put-count4 .ensures))
+    (text .put-text .ensures)) (lines .put-rows .ensures .0)) (p5 .put-count5 .ensures)) (c .put-count6 .ensures)
 
 slice-aggregate-put-count : tie.Need-slice-aggregate-put-count
 slice-aggregate-put-count c = search needs
@@ -73,30 +107,13 @@ put-count-requires-6 : tie.Need-put-count-requires-6
 put-count-requires-6 c κs = search needs
 
 same-length : tie.Need-same-length
-same-length c =
-    let p6 = c .before .before in
-    let p5 = p6 .before .before .before .before .before in
-    let table = p5 .before .before .before .before .before in
-    let heading = table .before .before .before .before .before .before in
-    let p4 = heading .before .before .before .before .before in
-    let p3 = p4 .before .before .before .before .before in
-    let p2 = p3 .before .before .before .before .before in
-    let p1 = p2 .before .before .before .before .before in
-    put-same (put-more (put-more (put-more (put-more (put-more (put-more (put-more (p1 .put-count .ensures) (p2 .put-count2 .ensures)) (p3 .put-count3 .ensures)) (p4 .put-count4 .ensures))
-    (heading .put-text .ensures)) (table .put-rows .ensures .0)) (p5 .put-count5 .ensures)) (p6 .put-count6 .ensures))
+same-length c = put-same (all-put (c .before .before))
 
 returns : tie.Need-returns
-unfolding weekLines filesLine refusedFilesLine headingLine movesLine landingsLine columns decimal digitsUpTo
 returns c =
-    let p6 = c .before .before in
-    let p5 = p6 .before .before .before .before .before in
-    let table = p5 .before .before .before .before .before in
-    let heading = table .before .before .before .before .before .before in
-    let p4 = heading .before .before .before .before .before in
-    let p3 = p4 .before .before .before .before .before in
-    let p2 = p3 .before .before .before .before .before in
-    let p1 = p2 .before .before .before .before .before in
-    let s = p1 .before .before .before .before in
+    let k = c .before .before in
+    let lines = rows (fifth k) in
+    let s = start (heading (lines .before)) in
     let counts : Counted64 (s .args .c) =
     record {
       played = omega (arith, s .good .1 .0);
@@ -105,11 +122,8 @@ returns c =
       refused7 = omega (arith, s .good .1 .0);
       moves = omega (arith, s .good .1 .0);
       landings = omega (arith, s .good .1 .0);
-    } in (
-      put-more (put-more (put-more (put-more (put-more (put-more (put-more (p1 .put-count .ensures) (p2 .put-count2 .ensures)) (p3 .put-count3 .ensures)) (p4 .put-count4 .ensures))
-          (heading .put-text .ensures)) (table .put-rows .ensures .0)) (p5 .put-count5 .ensures)) (p6 .put-count6 .ensures),
-      week-short (s .args .c) counts (table .put-rows .ensures .1),
-    )
+    } in
+    (all-put k, week-short (s .args .c) counts (lines .put-rows .ensures .1))
 
 pub put-week-spec : {M : Type 1} → statement M
 put-week-spec =

@@ -32,6 +32,10 @@ Inv-loop f s end entries₀ i₀ entries i = Passed f s end entries i
 abbrev μ-loop : tie.MeasureT-loop
 μ-loop f s end entries₀ i₀ entries i = end - i
 
+-- the field, from the loop's head
+abbrev field-of : tie.At-loop Inv-loop μ-loop → Field
+field-of c = c .before .before .before .before .args .f
+
 order-length-requires : tie.Need-order-length-requires Inv-loop μ-loop
 order-length-requires c κs = search needs
 
@@ -80,8 +84,9 @@ loop-less c = search needs
 
 loop-again : tie.Need-loop-again Inv-loop μ-loop
 loop-again c =
-    let l = c .before .before .before .loop in
-    let f = c .before .before .before .before .before .before .before .args .f in
+    let k = c .before .before .before in
+    let l = k .loop in
+    let f = field-of k in
     let i-below : l .i < length (orderOf (f .sequence)) = omega (arith, l .inv .whole) in
     record {
       whole = l .inv .whole;
@@ -96,8 +101,9 @@ is-empty-requires c κs = search needs
 returns : tie.Need-returns Inv-loop μ-loop
 unfolding entriesOf onRunway
 returns c =
-    let l = c .before .before .before .loop in
-    let f = c .before .before .before .before .before .before .before .args .f in
+    let k = c .before .before .before in
+    let l = k .loop in
+    let f = field-of k in
     let es = listEntries f 1 (orderOf (f .sequence)) in
     let none = ap (λ (r : List ListEntry). es ++ r) (if-true _ _ (sym (c .before .is-empty .ensures) ∙ c .if1 .taken)) ∙ append-nil es in
     taken-all f (l .i) (omega (arith, l .inv .whole)) (l .inv .taken) (omega (arith, l .inv .within)) ∙ ap entriesListed (sym none)
@@ -121,8 +127,9 @@ returns-2 : tie.Need-returns-2 Inv-loop μ-loop
 unfolding entriesOf onRunway
 returns-2 c =
     let b = c .before .before in
-    let l = b .before .before .before .loop in
-    let f = b .before .before .before .before .before .before .before .args .f in
+    let k = b .before .before .before in
+    let l = k .loop in
+    let f = field-of k in
     let number = ap (λ (a : Aircraft). listEntry f (a .number) 0) (c .before .aircraft-at .ensures) in
     let one = ap (λ (r : List ListEntry). listEntries f 1 (orderOf (f .sequence)) ++ r) (if-false _ _ (sym (b .before .is-empty .ensures) ∙ b .if1 .left)) in
     taken-last f (l .i) (omega (arith, l .inv .whole)) (l .inv .taken) (omega (arith, l .inv .within, l .inv .fits)) (c .entry-of2 .ensures ∙ number) (omega (arith, l .inv .within))

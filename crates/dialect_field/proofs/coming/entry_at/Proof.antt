@@ -82,11 +82,12 @@ no-entry-requires c κs = search needs
 
 returns : tie.Need-returns
 returns c =
-    let s = c .before .before .before .before .before .before .before .before .before in
-    let start = s .before .before .before .before in
-    let a = start .before .args in
-    made (s .word .ensures) (c .before .before .before .before .before .before .word2 .ensures) (c .before .before .before .word3 .ensures) (c .word4 .ensures)
-    ∙ sym (at-index (now (a .list)) (a .i) noEntry (s .before .before .before .if1 .taken))
+    let place = c .before .before .before in
+    let location = place .before .before .before in
+    let number = location .before .before .before in
+    let a = number .before .before .before .before .before .args in
+    made (number .word .ensures) (location .word2 .ensures) (place .word3 .ensures) (c .word4 .ensures)
+    ∙ sym (at-index (now (a .list)) (a .i) noEntry (number .before .before .before .if1 .taken))
 
 returns-2 : tie.Need-returns-2
 returns-2 c =

@@ -49,13 +49,13 @@ with-sequence-requires c κs = search needs
 
 returns : tie.Need-returns
 returns c =
-    let s = c .before .before .before .before .before .before .before in
+    let listed = c .before .before .before in
     made _ _ _
-    (s .fix-in .ensures)
-    (c .before .before .before .before .before .before .zone-of .ensures)
-    (c .before .before .before .before .before .entering .ensures)
-    (c .before .before .before .before .with-tail .ensures)
-    (c .before .before .before .appended .ensures)
+    (listed .before .before .before .before .fix-in .ensures)
+    (listed .before .before .before .zone-of .ensures)
+    (listed .before .before .entering .ensures)
+    (listed .before .with-tail .ensures)
+    (listed .appended .ensures)
     (c .before .before .with-zone .ensures)
     (c .before .opposite .ensures)
     (c .with-sequence .ensures)

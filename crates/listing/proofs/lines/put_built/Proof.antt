@@ -51,14 +51,16 @@ returns-2 : tie.Need-returns-2
 returns-2 c =
     let k = c .before .before in
     let l = k .before in
-    let s = k .before .before .before .before .before .before .before .before .before .before .before .before in
+    let p = l .before .before .before .before in
+    let passed = p .before .before .before .before in
+    let s = passed .before .before .before in
     let b = s .args .b in
-    let e = built-listed b (k .before .before .before .before .before .before .before .before .before .if1 .left) in
+    let e = built-listed b (passed .if1 .left) in
     let same = ap (λ (m : Listing). nextLine (b .after .field .next) ++ listReport m) (l .list-of .ensures) ∙ sym e in
     let size = both-short (b .after .field .next) (l .list-of .result) (omega (arith, s .good .1 .0)) (listing-known (l .list-of .result) (l .list-of .ok)) in
     let long = ap length same in (
       subst (λ (bytes : List ℕ). Put (now (s .args .out)) 0 bytes (k .put-list .last .0) (k .put-list .result)) same
-          (put-more (k .before .before .before .before .before .put-next .ensures) (k .put-list .ensures)),
+          (put-more (p .put-next .ensures) (k .put-list .ensures)),
       omega arith,
     )
 

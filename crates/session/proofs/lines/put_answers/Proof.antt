@@ -17,6 +17,13 @@ Inv-loop out₀ log n at₀ i₀ out at i = (i ≤ n) × Put out₀ 0 (linesTo l
 abbrev μ-loop : tie.MeasureT-loop
 μ-loop out₀ log n at₀ i₀ out at i = n - i
 
+-- the way back to the loop's head, from where the fourth and from where the seventh number of an entry is read
+abbrev head4 : tie.After-shared-slice-known4 Inv-loop μ-loop → tie.At-loop Inv-loop μ-loop
+head4 c = c .before .before .before .before
+
+abbrev head7 : tie.After-shared-slice-known7 Inv-loop μ-loop → tie.At-loop Inv-loop μ-loop
+head7 c = head4 (c .before .before .before)
+
 loop-holds : tie.Need-loop-holds Inv-loop μ-loop
 loop-holds c = (omega arith, put-none _ _)
 
@@ -60,7 +67,7 @@ shared-slice-read-t23 : tie.Need-shared-slice-read-t23 Inv-loop μ-loop
 shared-slice-read-t23 c = search needs
 
 cast-t24 : tie.Need-cast-t24 Inv-loop μ-loop
-cast-t24 c = omega (arith, c .shared-slice-known4 .given (7 * c .before .before .before .before .loop .i + 3))
+cast-t24 c = omega (arith, c .shared-slice-known4 .given (7 * head4 c .loop .i + 3))
 
 add-t25 : tie.Need-add-t25 Inv-loop μ-loop
 add-t25 c = search needs
@@ -72,7 +79,7 @@ shared-slice-read-t28 : tie.Need-shared-slice-read-t28 Inv-loop μ-loop
 shared-slice-read-t28 c = search needs
 
 cast-t29 : tie.Need-cast-t29 Inv-loop μ-loop
-cast-t29 c = omega (arith, c .shared-slice-known5 .given (7 * c .before .before .before .before .before .loop .i + 4))
+cast-t29 c = omega (arith, c .shared-slice-known5 .given (7 * head4 (c .before) .loop .i + 4))
 
 add-t30 : tie.Need-add-t30 Inv-loop μ-loop
 add-t30 c = search needs
@@ -84,7 +91,7 @@ shared-slice-read-t33 : tie.Need-shared-slice-read-t33 Inv-loop μ-loop
 shared-slice-read-t33 c = search needs
 
 cast-t34 : tie.Need-cast-t34 Inv-loop μ-loop
-cast-t34 c = omega (arith, c .shared-slice-known6 .given (7 * c .before .before .before .before .before .before .loop .i + 5))
+cast-t34 c = omega (arith, c .shared-slice-known6 .given (7 * head4 (c .before .before) .loop .i + 5))
 
 add-t35 : tie.Need-add-t35 Inv-loop μ-loop
 add-t35 c = search needs
@@ -96,7 +103,7 @@ shared-slice-read-t38 : tie.Need-shared-slice-read-t38 Inv-loop μ-loop
 shared-slice-read-t38 c = search needs
 
 cast-t39 : tie.Need-cast-t39 Inv-loop μ-loop
-cast-t39 c = omega (arith, c .shared-slice-known7 .given (7 * c .before .before .before .before .before .before .before .loop .i + 6))
+cast-t39 c = omega (arith, c .shared-slice-known7 .given (7 * head7 c .loop .i + 6))
 
 slice-aggregate-put-line : tie.Need-slice-aggregate-put-line Inv-loop μ-loop
 slice-aggregate-put-line c = search needs
@@ -114,7 +121,7 @@ loop-again : tie.Need-loop-again Inv-loop μ-loop
 unfolding lineAt
 loop-again c =
     let k = c .before .before in
-    let l = k .before .before .before .before .before .before .before .before .before .before in
+    let l = head7 (k .before .before .before) in
     (omega arith, rw (add-one) (put-more (l .loop .inv .1) (k .put-line .ensures)))
 
 same-length : tie.Need-same-length Inv-loop μ-loop

@@ -61,8 +61,9 @@ loop-less c = search needs
 
 loop-again : tie.Need-loop-again Inv-loop μ-loop
 loop-again c =
-    let l = c .before .before .before .before .loop in
-    let log = now (c .before .before .before .before .before .before .before .args .log) in
+    let head = c .before .before .before .before in
+    let l = head .loop in
+    let log = now (head .before .before .before .args .log) in
     (omega arith, rw (add-one) (c .tallied .ensures ∙ ap (λ (t : Tally). tallied t (kindAt log (l .i)) (numberAt log (l .i))) (l .inv .1)))
 
 returns : tie.Need-returns Inv-loop μ-loop

@@ -40,9 +40,10 @@ returns : tie.Need-returns
 returns c =
     let k = c .before .before in
     let t = k .before .before .before .before in
-    let s = t .before .before .before .before .before .before .before in
+    let told = t .before .before .before .before in
+    let s = told .before .before .before in
     subst⁻¹ (λ (x : Spacing). Put (now (s .args .out)) (s .args .at) (spacingText x) (k .put-gap .last .0) (k .put-gap .result))
-    (t .before .before .before .before .s .given .1) (put-more (t .put-text .ensures) (k .put-gap .ensures))
+    (told .s .given .1) (put-more (t .put-text .ensures) (k .put-gap .ensures))
 
 same-length-2 : tie.Need-same-length-2
 same-length-2 c = search needs
@@ -51,9 +52,10 @@ returns-2 : tie.Need-returns-2
 returns-2 c =
     let k = c .before .before in
     let t = k .before .before .before .before in
-    let s = t .before .before .before .before .before .before .before in
+    let told = t .before .before .before .before in
+    let s = told .before .before .before in
     subst⁻¹ (λ (x : Spacing). Put (now (s .args .out)) (s .args .at) (spacingText x) (k .put-gap2 .last .0) (k .put-gap2 .result))
-    (t .before .before .before .before .s2 .given .1) (put-more (t .put-text2 .ensures) (k .put-gap2 .ensures))
+    (told .s2 .given .1) (put-more (t .put-text2 .ensures) (k .put-gap2 .ensures))
 
 pub put-spacing-spec : {M : Type 1} → statement M
 put-spacing-spec =
