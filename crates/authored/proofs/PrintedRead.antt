@@ -8,7 +8,7 @@ use lib.Dec.{eqb, leb}
 use lib.ListN.{length, take, drop, length-drop}
 use lib.Seq.{getD-take, drop-drop, length-take-le}
 use borrow.Author.Tests.{eq-eqb, ne-eqb, leb-true, leb-false, le-leb}
-use Rattle.limits.specs.Limits.{mostRequests}
+use Rattle.limits.specs.Limits.{mostRequests, longestBody}
 use Rattle.request.specs.declared.Request.{Request}
 use Rattle.request.specs.Input.{word, fromDesk, firstRefused, deskAllowed, kindAllowed, sideAllowed, numberAllowed, amountAllowed, inputNumber}
 use Rattle.request.proofs.InputTests.{both-right, left-fails, right-fails}
@@ -98,11 +98,11 @@ legs-part n xs h = λ i.
     record {
       base = number-part n xs 0 (omega arith) i;
       intermediate = number-part n xs 2 (omega arith) i;
-      last = number-part n xs 4 (omega arith) i;
+      «final_approach» = number-part n xs 4 (omega arith) i;
       missed = number-part n xs 6 (omega arith) i;
     }
 
-list-over : (bytes : List ℕ) → 24576 < length bytes → requestsAllowed bytes ≡ false
+list-over : (bytes : List ℕ) → longestBody < length bytes → requestsAllowed bytes ≡ false
 list-over bytes h = go (leb (length (requestsOf bytes)) mostRequests) refl
   where
     go : (t : Bool) → leb (length (requestsOf bytes)) mostRequests ≡ t → requestsAllowed bytes ≡ false

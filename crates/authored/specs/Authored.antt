@@ -4,6 +4,7 @@ use mathlib.Core.Bool.{cond}
 use mathlib.Core.List.{List, [], _∷_}
 use lib.Dec.{leb, eqb}
 use lib.ListN.{length, drop}
+use Rattle.limits.specs.Limits.{longestFile}
 use Rattle.practice.specs.declared.FileLegs.{FileLegs}
 use Rattle.practice.specs.File.{legsOf}
 use Rattle.text.specs.Text.{space, lineOf}
@@ -11,7 +12,7 @@ use Rattle.writer.specs.Writer.{fileOf, writingNumber}
 
 -- how many bytes the caller's buffer has: as many as the longest practice file (01, "Turned away by the request or the file", 5)
 abbrev pub fileRoom : ℕ
-fileRoom = 24610
+fileRoom = longestFile
 
 -- the four legs that the input begins with, eight bytes as body 1 of a practice file has them (01, "The practice file")
 abbrev pub legsGiven : List ℕ → FileLegs

@@ -44,7 +44,7 @@ fn legs_in(input: &[u8]) -> FileLegs
     FileLegs {
         base: number16(input, 0),
         intermediate: number16(input, 2),
-        last: number16(input, 4),
+        final_approach: number16(input, 4),
         missed: number16(input, 6),
     }
 }

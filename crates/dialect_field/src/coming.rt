@@ -143,7 +143,7 @@ fn not_built(number: u16) -> Built
     let none = FileLegs {
         base: 0,
         intermediate: 0,
-        last: 0,
+        final_approach: 0,
         missed: 0,
     };
     Built {

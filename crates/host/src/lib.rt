@@ -24,17 +24,19 @@ ghost use Rattle.host.specs.Calls.{start, ask, back, builtFrom, replyOn,
 pub extern "C" fn baguymo_host_start(
     base: u16,
     intermediate: u16,
-    last: u16,
+    final_approach: u16,
     missed: u16,
     state: &mut State,
 ) -> u16
-    ensures { λ r. ⌜ r ≡ replyOn (now (state .entry)) (start (record { base = base; intermediate = intermediate; last = last; missed = missed })) .number ⌝ }
-    ensures { λ _. ⌜ now (state .exit) ≡ bytesLeft (now (state .entry)) (start (record { base = base; intermediate = intermediate; last = last; missed = missed })) ⌝ }
+    ensures { λ r. ⌜ r ≡ replyOn (now (state .entry))
+        (start (record { base = base; intermediate = intermediate; «final_approach» = «final_approach»; missed = missed })) .number ⌝ }
+    ensures { λ _. ⌜ now (state .exit) ≡ bytesLeft (now (state .entry))
+        (start (record { base = base; intermediate = intermediate; «final_approach» = «final_approach»; missed = missed })) ⌝ }
 {
     let legs = FileLegs {
         base: base,
         intermediate: intermediate,
-        last: last,
+        final_approach: final_approach,
         missed: missed,
     };
     if !legs_allowed(legs) {
@@ -90,19 +92,21 @@ pub extern "C" fn baguymo_host_back(state: &mut State, desk: u8) -> u16
 pub extern "C" fn baguymo_host_field(
     base: u16,
     intermediate: u16,
-    last: u16,
+    final_approach: u16,
     missed: u16,
     speed: u16,
     list: &[u8],
     state: &mut State,
 ) -> u16
-    ensures { λ r. ⌜ r ≡ replyOn (now (state .entry)) (builtFrom (record { base = base; intermediate = intermediate; last = last; missed = missed }) speed (now (list .entry))) .number ⌝ }
-    ensures { λ _. ⌜ now (state .exit) ≡ bytesLeft (now (state .entry)) (builtFrom (record { base = base; intermediate = intermediate; last = last; missed = missed }) speed (now (list .entry))) ⌝ }
+    ensures { λ r. ⌜ r ≡ replyOn (now (state .entry))
+        (builtFrom (record { base = base; intermediate = intermediate; «final_approach» = «final_approach»; missed = missed }) speed (now (list .entry))) .number ⌝ }
+    ensures { λ _. ⌜ now (state .exit) ≡ bytesLeft (now (state .entry))
+        (builtFrom (record { base = base; intermediate = intermediate; «final_approach» = «final_approach»; missed = missed }) speed (now (list .entry))) ⌝ }
 {
     let legs = FileLegs {
         base: base,
         intermediate: intermediate,
-        last: last,
+        final_approach: final_approach,
         missed: missed,
     };
     let b = field_of_list(legs, speed, list);

@@ -37,7 +37,7 @@ use Rattle.host_calls.proofs.FromStart.{all-calls}
 
 -- ---- the legs of the start
 abbrev legsStarted : WholeLegs → FileLegs
-legsStarted w = record { base = w .base-leg; intermediate = w .intermediate-leg; last = w .final-leg; missed = w .missed-leg }
+legsStarted w = record { base = w .base-leg; intermediate = w .intermediate-leg; «final_approach» = w .final-leg; missed = w .missed-leg }
 
 leg-allowed : (n : ℕ) → Between 1 longestLeg n → within 1 longestLeg n ≡ true
 leg-allowed n b = and-then (le-leb 1 n (b .least)) (le-leb n longestLeg (b .most))

@@ -156,7 +156,7 @@ from-start legs a cs t =
     let kept = taken-back miles legal calls in
     let now : g .now .field ≡ _ = ap (λ (h : History). h .now .field) same ∙ field-now miles (afterCalls first calls) (historyOf miles calls) (kept .follows) in
     let empty = subst⁻¹ Emptied now (emptied miles legal (historyOf miles calls)) in
-    let begun = start-held miles (legs-in-64ths-held (legs .missed) (legs .base) (legs .intermediate) (legs .last)) in
+    let begun = start-held miles (legs-in-64ths-held (legs .missed) (legs .base) (legs .intermediate) (legs .«final_approach»)) in
     let held = held-same g (all-held first cs begun) (passed (stays-within-from-start legs a cs .bounds)) in
     record {
       same = same;

@@ -48,7 +48,7 @@ built-on-held f speed [] h = h
 built-on-held f speed (e ∷ es) h = built-on-held (withEntry f speed e) speed es (entry-held f speed e h)
 
 empty-held : (legs : FileLegs) → On (emptyField (legsInMiles legs))
-empty-held legs = empty-field-held (legsInMiles legs) (legs-in-64ths-held (legs .missed) (legs .base) (legs .intermediate) (legs .last))
+empty-held legs = empty-field-held (legsInMiles legs) (legs-in-64ths-held (legs .missed) (legs .base) (legs .intermediate) (legs .«final_approach»))
 
 field-of-held : (legs : FileLegs) (speed : ℕ) (bytes : List ℕ) → IndexedWith MilesHeld (fieldOfList legs speed bytes .after)
 unfolding fieldOfList notBuilt built
@@ -75,7 +75,7 @@ pub left-held : (h : History) (c : HostCall) → HistoryHeld h → HistoryHeld (
 unfolding pressKept heldKept
 left-held h (start legs) k =
     either-way HistoryHeld (eqb (startNumber legs) 0) _ h
-    (λ e. start-held (legsInMiles legs) (legs-in-64ths-held (legs .missed) (legs .base) (legs .intermediate) (legs .last))) (λ e. k)
+    (λ e. start-held (legsInMiles legs) (legs-in-64ths-held (legs .missed) (legs .base) (legs .intermediate) (legs .«final_approach»))) (λ e. k)
 left-held h (ask r) k = step-history-held h r k
 left-held h (back desk) k = step-back-held h desk k
 left-held h press k = played-held h (proposalKept h) k

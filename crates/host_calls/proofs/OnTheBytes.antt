@@ -119,7 +119,7 @@ started b legs e = ap (λ (n : ℕ). stateAfter b n (cond (eqb n 0) (startOf (le
 
 pub on-the-bytes-from-start : (legs : FileLegs) (cs : List HostCall) → OnTheBytes (startOf (legsInMiles legs)) cs
 on-the-bytes-from-start legs cs =
-    on-the-bytes (startOf (legsInMiles legs)) cs (start-held (legsInMiles legs) (legs-in-64ths-held (legs .missed) (legs .base) (legs .intermediate) (legs .last)))
+    on-the-bytes (startOf (legsInMiles legs)) cs (start-held (legsInMiles legs) (legs-in-64ths-held (legs .missed) (legs .base) (legs .intermediate) (legs .«final_approach»)))
 
 -- two histories with the same bytes are the same
 pub same-state : (h g : History) → HistoryHeld h → HistoryHeld g → historyBytes h ≡ historyBytes g → h ≡ g

@@ -263,4 +263,4 @@ stays-within h (c ∷ cs) k w =
 -- so from every start with legal legs
 pub stays-within-from-start : (legs : FileLegs) → legsAllowed legs ≡ true → (cs : List HostCall) → StaysWithin (startOf (legsInMiles legs)) cs
 stays-within-from-start legs e cs =
-    stays-within (startOf (legsInMiles legs)) cs (start-held (legsInMiles legs) (legs-in-64ths-held (legs .missed) (legs .base) (legs .intermediate) (legs .last))) (started-within legs e)
+    stays-within (startOf (legsInMiles legs)) cs (start-held (legsInMiles legs) (legs-in-64ths-held (legs .missed) (legs .base) (legs .intermediate) (legs .«final_approach»))) (started-within legs e)

@@ -53,11 +53,11 @@ start-held legs l = start-with-held (withIndex (emptyField legs)) (with-index-he
 
 -- legs in 64ths of a mile
 pub legs-in-64ths-held : (missed base intermediate last : ℕ) → LegsWith MilesHeld (legsIn64ths missed base intermediate last)
-legs-in-64ths-held missed base intermediate last = record {
+legs-in-64ths-held missed base intermediate final-leg = record {
   missed = div-fits binary64 (whole missed) (whole 64);
   base = div-fits binary64 (whole base) (whole 64);
   intermediate = div-fits binary64 (whole intermediate) (whole 64);
-  last = div-fits binary64 (whole last) (whole 64);
+  final-leg = div-fits binary64 (whole final-leg) (whole 64);
 }
 
 -- ---- a request

@@ -126,7 +126,7 @@ module _ (f : Field) (w : T (withinBounds f)) where
         missed = up-to longestLegMiles (legs .missed) (and-l m b two);
         base = up-to longestLegMiles (legs .base) (and-r m b two);
         intermediate = up-to longestLegMiles (legs .intermediate) (and-r (m && b) i three);
-        last = up-to longestLegMiles (legs .«final_approach») (and-r (m && b && i) l t);
+        final-leg = up-to longestLegMiles (legs .«final_approach») (and-r (m && b && i) l t);
       }
 
 -- the four places of each zone, with what stands there
@@ -195,7 +195,7 @@ module _ (b : List ℕ) where
       places = refl;
       zones = each-several (ZoneWith Any) (readZone b) zoneSize zone-read 13 at;
       numbers = refl;
-      legs = record { missed = tt; base = tt; intermediate = tt; last = tt };
+      legs = record { missed = tt; base = tt; intermediate = tt; final-leg = tt };
     };
     entries = refl;
   }

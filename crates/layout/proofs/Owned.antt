@@ -59,7 +59,7 @@ legs-held l k =
       missed = miles-held (l .missed) (m .0);
       base = miles-held (l .base) (m .1 .0);
       intermediate = miles-held (l .intermediate) (m .1 .1 .0);
-      last = miles-held (l .«final_approach») (m .1 .1 .1 .0);
+      final-leg = miles-held (l .«final_approach») (m .1 .1 .1 .0);
     }
 
 field-held : (f : Field) {vs : List Val} → Is field.the-row f vs → FieldWith MilesHeld f

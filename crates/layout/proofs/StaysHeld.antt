@@ -142,7 +142,7 @@ leg-held legs z h =
     either-way MilesHeld (eqb z (missed right) || eqb z (missed left)) _ _ (λ e. h .missed)
     (λ e. either-way MilesHeld (eqb z (base right) || eqb z (base left)) _ _ (λ e. h .base)
     (λ e. either-way MilesHeld (eqb z intermediate) _ _ (λ e. h .intermediate)
-    (λ e. either-way MilesHeld (eqb z finalApproach) _ _ (λ e. h .last) (λ e. ofInt-fits binary64 (pos 0)))))
+    (λ e. either-way MilesHeld (eqb z finalApproach) _ _ (λ e. h .final-leg) (λ e. ofInt-fits binary64 (pos 0)))))
 
 arrived-held : (legs : Legs) (z : ℕ) (a : Aircraft) → LegsWith MilesHeld legs → Q a → Q (arrived legs z a)
 unfolding arrived onLeg

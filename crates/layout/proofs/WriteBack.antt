@@ -130,7 +130,7 @@ module _ (b : List ℕ) (small : (i : ℕ) → getD b i 0 < 256) where
       let f = bytes64 (bitsOf (milesOf (number64 b (at + 24)))) in
       let h2 = holds-both b at m s (miles-there at (p .missed)) refl (miles-there (at + 8) (p .base)) in
       let h3 = holds-both b at (m ++ s) i h2 refl (miles-there (at + 16) (p .intermediate)) in
-      holds-both b at (m ++ s ++ i) f h3 refl (miles-there (at + 24) (p .last))
+      holds-both b at (m ++ s ++ i) f h3 refl (miles-there (at + 24) (p .final-leg))
 
   field-there : (at : ℕ) → FieldWith NoNan (readField b at) → Holds b at (fieldBytes (readField b at))
   unfolding readField fieldBytes

@@ -40,7 +40,7 @@ module _ (Q : Float → Type 0) where
     pub missed : Q (legs .missed)
     pub base : Q (legs .base)
     pub intermediate : Q (legs .intermediate)
-    pub last : Q (legs .«final_approach»)
+    pub final-leg : Q (legs .«final_approach»)
 
   -- a field has thirteen zones and four places of the sequence, and the floats of its zones and legs have Q
   pub record FieldWith (f : Field) : Type 0 where

@@ -21,9 +21,17 @@ longestLegMiles = 64
 abbrev pub longestOwnLegMiles : ℕ
 longestOwnLegMiles = 128
 
--- the most requests of a practice file, whose body 2 has six bytes for each and 24,576 at most (01, "The practice file")
+-- the most requests of a practice file (01, "The practice file")
 abbrev pub mostRequests : ℕ
 mostRequests = 4096
+
+-- the longest body 2 of a practice file, six bytes for each request: 24,576 bytes (01, "Turned away by the request or the file", 6)
+abbrev pub longestBody : ℕ
+longestBody = 6 * mostRequests
+
+-- the longest practice file, that body and the 34 bytes before it: 24,610 bytes (01, "Turned away by the request or the file", 5)
+abbrev pub longestFile : ℕ
+longestFile = 34 + longestBody
 
 -- the most moves from one entry or miss to the next, on a field that requests reach from the empty one (02, 2.14)
 abbrev pub mostMoves : ℕ

@@ -21,6 +21,12 @@ pub const LONGEST_OWN_LEG: f64 = 128.0;
 // The most requests of a practice file.
 pub const MOST_REQUESTS: usize = 4096;
 
+// The longest body 2 of a practice file, in bytes: six for each request.
+pub const LONGEST_BODY: u32 = 6 * 4096;
+
+// The longest practice file, in bytes.
+pub const LONGEST_FILE: usize = 34 + 6 * MOST_REQUESTS;
+
 // The most miles past the ends of legs that are added up of an aircraft.
 pub const MOST_WAITED: f64 = 4096.0;
 

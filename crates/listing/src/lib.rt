@@ -46,7 +46,7 @@ fn legs_in(input: &[u8]) -> FileLegs
     FileLegs {
         base: word(input[0], input[1]),
         intermediate: word(input[2], input[3]),
-        last: word(input[4], input[5]),
+        final_approach: word(input[4], input[5]),
         missed: word(input[6], input[7]),
     }
 }

@@ -17,7 +17,7 @@ use Rattle.playing.specs.declared.Played.{Played}
 
 -- the legs of a file, which are in 64ths of a mile there, as the field holds them
 abbrev pub legsInMiles : FileLegs → Legs
-legsInMiles legs = legsIn64ths (legs .missed) (legs .base) (legs .intermediate) (legs .last)
+legsInMiles legs = legsIn64ths (legs .missed) (legs .base) (legs .intermediate) (legs .«final_approach»)
 
 -- each request of a list with its answer, played from the empty field with these legs
 unfoldable pub answersFrom : Legs → List Request → List (Request × Answer)
@@ -48,7 +48,7 @@ presentHeld (holds legs requests) = presentFrom (legsInMiles legs) requests
 
 -- the legs of a refused file, all 0
 abbrev pub noLegs : FileLegs
-noLegs = record { missed = 0; base = 0; intermediate = 0; last = 0 }
+noLegs = record { missed = 0; base = 0; intermediate = 0; «final_approach» = 0 }
 
 -- the field at the end; nobody is on the field of a refused file, which has no legs
 abbrev pub fieldHeld : Practice → Field

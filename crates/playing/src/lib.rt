@@ -51,7 +51,7 @@ pub fn legs_in_miles(legs: FileLegs) -> Legs
         missed: of_sixty_fourths(legs.missed),
         base: of_sixty_fourths(legs.base),
         intermediate: of_sixty_fourths(legs.intermediate),
-        final_approach: of_sixty_fourths(legs.last),
+        final_approach: of_sixty_fourths(legs.final_approach),
     }
 }
 
@@ -128,7 +128,7 @@ fn nothing_played(number: u16) -> Played
         missed: 0,
         base: 0,
         intermediate: 0,
-        last: 0,
+        final_approach: 0,
     };
     Played {
         number: number,

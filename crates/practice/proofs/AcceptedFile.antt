@@ -7,7 +7,7 @@ use native.Mathlib.Omega.{arith}
 use lib.Dec.{eqb, leb}
 use lib.ListN.{length, take}
 use borrow.Author.Tests.{eqb-true, leb-true, eq-eqb, le-leb}
-use Rattle.limits.specs.Limits.{longestLeg}
+use Rattle.limits.specs.Limits.{longestLeg, longestBody, longestFile}
 use Rattle.request.specs.Input.{within}
 use Rattle.request.proofs.InputTests.{both-left, both-right, within-low, within-high, passed}
 use Rattle.practice.specs.declared.FileLegs.{FileLegs}
@@ -16,18 +16,18 @@ use Rattle.practice.specs.File.{number16, letters, sameBytes, opens, ent
 -- the length of a file that opens right
 pub record Opened (file : List ℕ) : Type 0 where
   pub low : 26 ≤ length file
-  pub high : length file ≤ 24610
+  pub high : length file ≤ longestFile
 
 pub opened : (file : List ℕ) → opens file ≡ true → Opened file
 unfolding opens
 opened file e =
-    let t = both-left (within 26 24610 (length file)) (sameBytes (take 4 file) letters) e in
-    record { low = within-low 26 24610 (length file) t; high = within-high 26 24610 (length file) t }
+    let t = both-left (within 26 longestFile (length file)) (sameBytes (take 4 file) letters) e in
+    record { low = within-low 26 longestFile (length file) t; high = within-high 26 longestFile (length file) t }
 
 -- the length of a file whose contents are allowed
 pub record Whole (file : List ℕ) : Type 0 where
   pub sixes : bodyLength file % 6 ≡ 0
-  pub bounded : bodyLength file ≤ 24576
+  pub bounded : bodyLength file ≤ longestBody
   pub whole : 34 + bodyLength file ≡ length file
 
 module _ (file : List ℕ) where
@@ -38,19 +38,19 @@ module _ (file : List ℕ) where
   unfolding contentsAllowed
   whole-of e =
       let s = eqb (bodyLength file % 6) 0 in
-      let b = leb (bodyLength file) 24576 in
+      let b = leb (bodyLength file) longestBody in
       let w = eqb (34 + bodyLength file) (length file) in
       let eb = both-left (entries && s && b) w e in
       record {
         sixes = eqb-true (bodyLength file % 6) 0 (both-right entries s (both-left (entries && s) b eb));
-        bounded = leb-true (bodyLength file) 24576 (both-right (entries && s) b eb);
+        bounded = leb-true (bodyLength file) longestBody (both-right (entries && s) b eb);
         whole = eqb-true (34 + bodyLength file) (length file) (both-right (entries && s && b) w e);
       }
 
   -- and the other way
   pub contents-of : eqb (number16 file 4) 2 ≡ true → entryIs file 6 1 26 8 ≡ true → entryIs file 16 2 34 (bodyLength file) ≡ true → Whole file → contentsAllowed file ≡ true
   unfolding contentsAllowed
-  contents-of c f s w = simp (c, f, s, eq-eqb (bodyLength file % 6) 0 (w .sixes), le-leb (bodyLength file) 24576 (w .bounded), eq-eqb (34 + bodyLength file) (length file) (w .whole))
+  contents-of c f s w = simp (c, f, s, eq-eqb (bodyLength file % 6) 0 (w .sixes), le-leb (bodyLength file) longestBody (w .bounded), eq-eqb (34 + bodyLength file) (length file) (w .whole))
 
   pub long-enough : contentsAllowed file ≡ true → 34 ≤ length file
   long-enough e = let w = whole-of e in omega arith
@@ -63,7 +63,7 @@ pub record LegKnown (n : ℕ) : Type 0 where
 pub record LegsKnown (legs : FileLegs) : Type 0 where
   pub base : LegKnown (legs .base)
   pub intermediate : LegKnown (legs .intermediate)
-  pub last : LegKnown (legs .last)
+  pub final-leg : LegKnown (legs .«final_approach»)
   pub missed : LegKnown (legs .missed)
 
 pub legs-known : (legs : FileLegs) → legsAllowed legs ≡ true → LegsKnown legs
@@ -71,14 +71,14 @@ unfolding legsAllowed
 legs-known legs e =
     let b = within 1 longestLeg (legs .base) in
     let i = within 1 longestLeg (legs .intermediate) in
-    let l = within 1 longestLeg (legs .last) in
+    let l = within 1 longestLeg (legs .«final_approach») in
     let m = within 1 longestLeg (legs .missed) in
     let bil = both-left (b && i && l) m e in
     let bi = both-left (b && i) l bil in
     record {
       base = known (legs .base) (both-left b i bi);
       intermediate = known (legs .intermediate) (both-right b i bi);
-      last = known (legs .last) (both-right (b && i) l bil);
+      final-leg = known (legs .«final_approach») (both-right (b && i) l bil);
       missed = known (legs .missed) (both-right (b && i && l) m e);
     }
   where

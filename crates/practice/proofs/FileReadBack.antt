@@ -7,7 +7,7 @@ use native.Mathlib.Omega.{arith}
 use lib.Dec.{eqb}
 use lib.ListN.{length}
 use borrow.Author.Tests.{eq-eqb}
-use Rattle.limits.specs.Limits.{mostRequests}
+use Rattle.limits.specs.Limits.{mostRequests, longestFile}
 use Rattle.request.specs.declared.Request.{Request}
 use Rattle.request.specs.Input.{word, requestOf, fromDesk}
 use Rattle.request.proofs.InputTests.{within-yes, none-refused}
@@ -58,7 +58,7 @@ module _ (legs : FileLegs) (rs : List Request) where
 
   legs-back : legsOf (legsBody (encoded legs rs)) ≡ legs
   unfolding encoded
-  legs-back i = record { base = word-back (legs .base) i; intermediate = word-back (legs .intermediate) i; last = word-back (legs .last) i; missed = word-back (legs .missed) i }
+  legs-back i = record { base = word-back (legs .base) i; intermediate = word-back (legs .intermediate) i; «final_approach» = word-back (legs .«final_approach») i; missed = word-back (legs .missed) i }
 
   body-back : requestsOf (requestsBody (encoded legs rs)) ≡ map (fromDesk 1) rs
   unfolding encoded
@@ -68,7 +68,7 @@ module _ (legs : FileLegs) (rs : List Request) where
   unfolding encoded opens
   opening h =
       let e = size in
-      ap (λ (b : Bool). b && true) (within-yes 26 24610 (length (encoded legs rs)) (omega arith) (omega arith))
+      ap (λ (b : Bool). b && true) (within-yes 26 longestFile (length (encoded legs rs)) (omega arith) (omega arith))
 
   whole : length rs ≤ mostRequests → Whole (encoded legs rs)
   whole h =

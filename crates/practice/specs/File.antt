@@ -5,7 +5,7 @@ use mathlib.Core.List.{List, [], _∷_}
 use mathlib.Core.Bool.{Bool, true, false, _&&_}
 use lib.Dec.{leb, eqb}
 use lib.ListN.{length, getD, take, drop}
-use Rattle.limits.specs.Limits.{longestLeg}
+use Rattle.limits.specs.Limits.{longestLeg, longestBody, longestFile}
 use Rattle.request.specs.Input.{word, within, firstRefused}
 use Rattle.practice.specs.declared.FileLegs.{FileLegs}
 
@@ -28,9 +28,9 @@ sameBytes (x ∷ xs) (y ∷ ys) = eqb x y && sameBytes xs ys
 abbrev pub letters : List ℕ
 letters = 83 ∷ 67 ∷ 65 ∷ 80 ∷ []
 
--- what 5 asks of a file: 26 to 24,610 bytes, and those letters at its beginning
+-- what 5 asks of a file: from 26 bytes to those of the longest, and those letters at its beginning
 unfoldable pub opens : List ℕ → Bool
-opens file = within 26 24610 (length file) && sameBytes (take 4 file) letters
+opens file = within 26 longestFile (length file) && sameBytes (take 4 file) letters
 
 -- whether the entry at a place of the contents is this: two bytes for the kind, four for the offset and four for the length
 abbrev pub entryIs : List ℕ → ℕ → ℕ → ℕ → ℕ → Bool
@@ -41,14 +41,14 @@ abbrev pub bodyLength : List ℕ → ℕ
 bodyLength file = number32 file 22
 
 -- what 6 asks of the contents: they count two entries; body 1 is the eight bytes from 26 on, and body 2 the rest of the file from 34 on, whole requests of six
--- bytes and no more than 24,576 bytes
+-- bytes, and no longer than `longestBody`
 unfoldable pub contentsAllowed : List ℕ → Bool
 contentsAllowed file =
     eqb (number16 file 4) 2
     && entryIs file 6 1 26 8
     && entryIs file 16 2 34 (bodyLength file)
     && eqb (bodyLength file % 6) 0
-    && leb (bodyLength file) 24576
+    && leb (bodyLength file) longestBody
     && eqb (34 + bodyLength file) (length file)
 
 -- the legs that body 1 holds, two bytes for each, in 64ths of a mile
@@ -56,13 +56,13 @@ abbrev pub legsOf : List ℕ → FileLegs
 legsOf body = record {
   base = number16 body 0;
   intermediate = number16 body 2;
-  last = number16 body 4;
+  «final_approach» = number16 body 4;
   missed = number16 body 6;
 }
 
 -- what 7 asks of the legs: each is from 1 to `longestLeg`
 unfoldable pub legsAllowed : FileLegs → Bool
-legsAllowed legs = within 1 longestLeg (legs .base) && within 1 longestLeg (legs .intermediate) && within 1 longestLeg (legs .last) && within 1 longestLeg (legs .missed)
+legsAllowed legs = within 1 longestLeg (legs .base) && within 1 longestLeg (legs .intermediate) && within 1 longestLeg (legs .«final_approach») && within 1 longestLeg (legs .missed)
 
 -- body 1, where its entry says it is
 abbrev pub legsBody : List ℕ → List ℕ

@@ -34,7 +34,7 @@ entryBytes kind offset size = bytes16 kind ++ bytes32 offset ++ bytes32 size
 
 -- body 1: the four legs
 abbrev pub legBytes : FileLegs → List ℕ
-legBytes legs = bytes16 (legs .base) ++ bytes16 (legs .intermediate) ++ bytes16 (legs .last) ++ bytes16 (legs .missed)
+legBytes legs = bytes16 (legs .base) ++ bytes16 (legs .intermediate) ++ bytes16 (legs .«final_approach») ++ bytes16 (legs .missed)
 
 -- body 2: the requests, six bytes for each; a file has no desk, and is read as one of desk 1 (02, 2.10 and 2.11)
 abbrev pub requestBytes : List Request → List ℕ

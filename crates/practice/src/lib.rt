@@ -1,5 +1,7 @@
 // The practice file, from the bytes that the caller lends: the number that refuses it, its two sections as stretches of those
 // bytes, and the legs and the requests that they hold.
+use limits::LONGEST_BODY;
+use limits::LONGEST_FILE;
 use limits::LONGEST_LEG;
 use request::Range;
 use request::Request;
@@ -12,11 +14,11 @@ ghost use Rattle.practice.specs.File.{number16, number32, legsOf, legsAl
 ghost use Rattle.practice.specs.Sections.{placeAt, sectionOffset, sectionLength, sectionBytes, fileLegs};
 ghost use Rattle.practice.specs.Requests.{requestAt};
 
-// The legs of a practice file, in 64ths of a mile. `last` is document 01's final, a word that the language keeps.
+// The legs of a practice file, in 64ths of a mile; `final` alone is a word that the language keeps.
 pub struct FileLegs {
     pub base: u16,
     pub intermediate: u16,
-    pub last: u16,
+    pub final_approach: u16,
     pub missed: u16,
 }
 
@@ -50,7 +52,7 @@ fn opens(file: &[u8]) -> bool
     if n < 26 {
         return false;
     }
-    if 24610 < n {
+    if LONGEST_FILE < n {
         return false;
     }
     check::same(&file[0..4], b"SCAP")
@@ -88,7 +90,7 @@ fn contents_allowed(file: &[u8]) -> bool
     if n % 6 != 0 {
         return false;
     }
-    if 24576 < n {
+    if LONGEST_BODY < n {
         return false;
     }
     34 + n as usize == file.len()
@@ -102,7 +104,7 @@ fn legs_of(body: &[u8]) -> FileLegs
     FileLegs {
         base: number16(body, 0),
         intermediate: number16(body, 2),
-        last: number16(body, 4),
+        final_approach: number16(body, 4),
         missed: number16(body, 6),
     }
 }
@@ -118,7 +120,7 @@ pub fn legs_allowed(legs: FileLegs) -> bool
     if !in_range(allowed, legs.intermediate as usize) {
         return false;
     }
-    if !in_range(allowed, legs.last as usize) {
+    if !in_range(allowed, legs.final_approach as usize) {
         return false;
     }
     in_range(allowed, legs.missed as usize)
@@ -167,7 +169,7 @@ pub fn file_legs(file: &[u8]) -> FileLegs
         FileLegs {
             base: 0,
             intermediate: 0,
-            last: 0,
+            final_approach: 0,
             missed: 0,
         }
     }

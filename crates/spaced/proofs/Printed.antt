@@ -80,11 +80,11 @@ module _ (file : List ℕ) (number : fileNumber file ≡ 0) where
         missed-leg = legs .missed;
         base-leg = legs .base;
         intermediate-leg = legs .intermediate;
-        final-leg = legs .last;
+        final-leg = legs .«final_approach»;
         missed-fits = fits (legs .missed) (k .missed);
         base-fits = fits (legs .base) (k .base);
         intermediate-fits = fits (legs .intermediate) (k .intermediate);
-        final-fits = fits (legs .last) (k .last);
+        final-fits = fits (legs .«final_approach») (k .final-leg);
       }
     where
       fits : (n : ℕ) → LegKnown n → Between 1 longestLeg n

@@ -8,6 +8,7 @@ use lib.Dec.{eqb, leb}
 use lib.ListN.{length, getD, take, drop, take-append-drop, length-drop}
 use lib.Seq.{getD-drop, getD-take}
 use borrow.Author.Tests.{eqb-true, eq-eqb}
+use Rattle.limits.specs.Limits.{longestBody, longestFile}
 use Rattle.request.specs.declared.Request.{Request}
 use Rattle.request.specs.Input.{word, within}
 use Rattle.request.proofs.InputTests.{both-left, both-right}
@@ -104,7 +105,7 @@ module _ (file : List ℕ) (known : AreBytes file) where
       let first = entryIs file 6 1 26 8 in
       let second = entryIs file 16 2 34 (bodyLength file) in
       let s = eqb (bodyLength file % 6) 0 in
-      let b = leb (bodyLength file) 24576 in
+      let b = leb (bodyLength file) longestBody in
       let l = eqb (34 + bodyLength file) (length file) in
       let entries = both-left (two && first && second) s (both-left (two && first && second && s) b (both-left (two && first && second && s && b) l (a .contents))) in
       let counted = both-left (two && first) second entries in
@@ -116,7 +117,7 @@ module _ (file : List ℕ) (known : AreBytes file) where
       let from4 : drop 4 file ≡ bytes16 2 ++ entryBytes 1 26 8 ++ entryBytes 2 34 (6 * length requests) ++ legBytes legs ++ requestBytes requests =
       two-at 4 (omega arith) ∙ (λ i. bytes16 (eqb-true (number16 file 4) 2 (both-left two first counted) i) ++ from6 i) in
       sym (take-append-drop 4 file)
-      ∙ (λ i. same-true (take 4 file) letters (both-right (within 26 24610 (length file)) (sameBytes (take 4 file) letters) (a .opening)) i ++ from4 i)
+      ∙ (λ i. same-true (take 4 file) letters (both-right (within 26 longestFile (length file)) (sameBytes (take 4 file) letters) (a .opening)) i ++ from4 i)
 
   -- what it is read as
   pub read-as : fileNumber file ≡ 0 → practiceOf file ≡ holds legs requests

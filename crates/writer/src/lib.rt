@@ -14,6 +14,7 @@ ghost use mathlib.Core.Bool.{_&&_};
 ghost use Prim.Native.Nat.{_+_, _*_, _%_, _/_, _≤_};
 ghost use lib.Dec.{eqb, leb};
 ghost use lib.ListN.{length, take, drop};
+ghost use Rattle.limits.specs.Limits.{longestBody};
 ghost use Rattle.limits.specs.Limits.{mostRequests};
 ghost use Rattle.request.specs.Input.{firstRefused};
 ghost use Rattle.practice.specs.File.{letters};
@@ -138,13 +139,13 @@ fn put_legs(out: &mut [u8], at: usize, legs: FileLegs) -> usize
 {
     let second = put_number16(out, at, legs.base);
     let third = put_number16(out, second, legs.intermediate);
-    let fourth = put_number16(out, third, legs.last);
+    let fourth = put_number16(out, third, legs.final_approach);
     put_number16(out, fourth, legs.missed)
 }
 
 // The whole file, from the buffer's first byte on: the letters, the count, the two entries and the two bodies.
 fn put_file(out: &mut [u8], legs: FileLegs, requests: &[u8]) -> usize
-    requires { ⌜ length (now requests) ≤ 24576 ⌝ }
+    requires { ⌜ length (now requests) ≤ longestBody ⌝ }
     ensures { λ r. ⌜ Put (now (out .entry)) 0 (letters ++ bytes16 2 ++ entryBytes 1 26 8 ++ entryBytes 2 34 (length (now (requests .entry))) ++ legBytes legs ++ now (requests .entry))
         (now (out .exit)) r ⌝ }
 {
@@ -181,21 +182,23 @@ pub fn write(legs: FileLegs, requests: &[u8], out: &mut [u8]) -> Writing
 pub extern "C" fn baguymo_write(
     base: u16,
     intermediate: u16,
-    last: u16,
+    final_approach: u16,
     missed: u16,
     requests: &[u8],
     out: &mut [u8],
     size: &mut [usize; 1],
 ) -> u16
-    ensures { λ r. ⌜ r ≡ writingNumber (record { base = base; intermediate = intermediate; last = last; missed = missed }) (now (requests .entry)) (length (now (out .entry))) ⌝ }
-    ensures { λ r. ⌜ now (out .exit) ≡ bufferAfter (record { base = base; intermediate = intermediate; last = last; missed = missed }) (now (requests .entry)) (now (out .entry)) ⌝ }
-    ensures { λ r. ⌜ now (size .exit) ≡ writingOf (record { base = base; intermediate = intermediate; last = last; missed = missed })
+    ensures { λ r. ⌜ r ≡ writingNumber (record { base = base; intermediate = intermediate; «final_approach» = «final_approach»; missed = missed })
+        (now (requests .entry)) (length (now (out .entry))) ⌝ }
+    ensures { λ r. ⌜ now (out .exit) ≡ bufferAfter (record { base = base; intermediate = intermediate; «final_approach» = «final_approach»; missed = missed })
+        (now (requests .entry)) (now (out .entry)) ⌝ }
+    ensures { λ r. ⌜ now (size .exit) ≡ writingOf (record { base = base; intermediate = intermediate; «final_approach» = «final_approach»; missed = missed })
         (now (requests .entry)) (length (now (out .entry))) .length ∷ [] ⌝ }
 {
     let legs = FileLegs {
         base: base,
         intermediate: intermediate,
-        last: last,
+        final_approach: final_approach,
         missed: missed,
     };
     let lent: &mut [usize] = size;

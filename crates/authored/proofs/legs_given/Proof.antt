@@ -12,8 +12,8 @@ use Rattle.authored.proofs.legs_given.Tie as tie
 
 -- legs that are the four numbers at the input's start
 made : (input : List ℕ) {b i l m : ℕ} → b ≡ number16 input 0 → i ≡ number16 input 2 → l ≡ number16 input 4 → m ≡ number16 input 6
-    → _≡_ {A = FileLegs} (record { base = b; intermediate = i; last = l; missed = m }) (legsGiven input)
-made input p q r s t = record { base = p t; intermediate = q t; last = r t; missed = s t }
+    → _≡_ {A = FileLegs} (record { base = b; intermediate = i; «final_approach» = l; missed = m }) (legsGiven input)
+made input p q r s t = record { base = p t; intermediate = q t; «final_approach» = r t; missed = s t }
 
 shared-slice-read-word : tie.Need-shared-slice-read-word
 shared-slice-read-word c = search needs

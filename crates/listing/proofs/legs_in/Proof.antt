@@ -8,8 +8,8 @@ use Rattle.listing.proofs.legs_in.Tie as tie
 
 -- the legs by their numbers
 made : {b₁ b₂ i₁ i₂ l₁ l₂ m₁ m₂ : ℕ} → b₁ ≡ b₂ → i₁ ≡ i₂ → l₁ ≡ l₂ → m₁ ≡ m₂
-    → _≡_ {A = FileLegs} (record { base = b₁; intermediate = i₁; last = l₁; missed = m₁ }) (record { base = b₂; intermediate = i₂; last = l₂; missed = m₂ })
-made b i l m t = record { base = b t; intermediate = i t; last = l t; missed = m t }
+    → _≡_ {A = FileLegs} (record { base = b₁; intermediate = i₁; «final_approach» = l₁; missed = m₁ }) (record { base = b₂; intermediate = i₂; «final_approach» = l₂; missed = m₂ })
+made b i l m t = record { base = b t; intermediate = i t; «final_approach» = l t; missed = m t }
 
 shared-slice-read-word : tie.Need-shared-slice-read-word
 shared-slice-read-word c = search needs

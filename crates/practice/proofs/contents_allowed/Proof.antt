@@ -8,6 +8,7 @@ use lib.ListN.{length}
 use denote.Ref.{now}
 use borrow.Author.Needs.{needs}
 use borrow.Author.Tests.{le-leb, lt-leb}
+use Rattle.limits.specs.Limits.{longestBody}
 use Rattle.practice.specs.File.{number16, number32, entryIs, bodyLength, contentsAllowed}
 use Rattle.practice.proofs.BranchTests.{differs, agrees, fails, passes}
 use Rattle.practice.proofs.contents_allowed.Statement.{statement}
@@ -40,8 +41,8 @@ second-read c = passes (second (c .before)) (c .if3 .left)
 sixes-read : (c : tie.Else4) → eqb (bodyLength (file3 (c .before .before)) % 6) 0 ≡ true
 sixes-read c = agrees 0 (ap (λ (n : ℕ). n % 6) (c .before .before .before .number32 .ensures)) (c .if4 .left)
 
-bound-read : (c : tie.Else5) → leb (bodyLength (file3 (c .before .before .before))) 24576 ≡ true
-bound-read c = le-leb _ 24576 (subst (λ (n : ℕ). n ≤ 24576) (c .before .before .before .before .number32 .ensures) (c .if5 .left))
+bound-read : (c : tie.Else5) → leb (bodyLength (file3 (c .before .before .before))) longestBody ≡ true
+bound-read c = le-leb _ longestBody (subst (λ (n : ℕ). n ≤ longestBody) (c .before .before .before .before .number32 .ensures) (c .if5 .left))
 
 number16-requires : tie.Need-number16-requires
 number16-requires c κs = search needs
@@ -84,7 +85,7 @@ returns-5 c =
       first-read f,
       second-read (c .before .before),
       sixes-read (c .before),
-      lt-leb _ 24576 (subst (λ (n : ℕ). 24576 < n) (c .before .before .before .before .number32 .ensures) (c .if5 .taken)),
+      lt-leb _ longestBody (subst (λ (n : ℕ). longestBody < n) (c .before .before .before .before .number32 .ensures) (c .if5 .taken)),
     )
 
 cast-result : tie.Need-cast-result

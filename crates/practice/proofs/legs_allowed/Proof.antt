@@ -27,8 +27,8 @@ base c = passes (c .before .in-range .ensures) (c .if1 .left)
 intermediate : (c : tie.Else2) → within 1 longestLeg (legs2 c .intermediate) ≡ true
 intermediate c = passes (c .before .in-range2 .ensures) (c .if2 .left)
 
-last : (c : tie.Else3) → within 1 longestLeg (legs3 c .last) ≡ true
-last c = passes (c .before .in-range3 .ensures) (c .if3 .left)
+final-leg : (c : tie.Else3) → within 1 longestLeg (legs3 c .«final_approach») ≡ true
+final-leg c = passes (c .before .in-range3 .ensures) (c .if3 .left)
 
 cast-in-range : tie.Need-cast-in-range
 cast-in-range c = search needs
@@ -73,7 +73,7 @@ unfolding legsAllowed
 returns-4 c =
     let l = c .before .before in
     let i = l .before .before .before in
-    simp (base (i .before .before .before), intermediate i, last l) (c .in-range4 .ensures)
+    simp (base (i .before .before .before), intermediate i, final-leg l) (c .in-range4 .ensures)
 
 pub legs-allowed-spec : {M : Type 1} → statement M
 legs-allowed-spec =

@@ -11,8 +11,8 @@ use Rattle.practice.proofs.legs_of.Tie as tie
 
 -- legs that are the four numbers of the body
 made : (body : List ℕ) {b i l m : ℕ} → b ≡ number16 body 0 → i ≡ number16 body 2 → l ≡ number16 body 4 → m ≡ number16 body 6
-    → _≡_ {A = FileLegs} (record { base = b; intermediate = i; last = l; missed = m }) (legsOf body)
-made body p q r s t = record { base = p t; intermediate = q t; last = r t; missed = s t }
+    → _≡_ {A = FileLegs} (record { base = b; intermediate = i; «final_approach» = l; missed = m }) (legsOf body)
+made body p q r s t = record { base = p t; intermediate = q t; «final_approach» = r t; missed = s t }
 
 number16-requires : tie.Need-number16-requires
 number16-requires c κs = search needs

@@ -2,6 +2,7 @@
 use lib.ListN.{take, length}
 use denote.Ref.{now}
 use borrow.Author.Needs.{needs}
+use Rattle.limits.specs.Limits.{longestFile}
 use Rattle.request.proofs.InputTests.{within-yes, within-below, within-above}
 use Rattle.practice.specs.File.{letters, opens}
 use Rattle.practice.proofs.SameBytes.{is-same}
@@ -10,11 +11,11 @@ use Rattle.practice.proofs.opens.Tie as tie
 
 returns : tie.Need-returns
 unfolding opens
-returns c = simp (within-below 26 24610 _ (c .if1 .taken))
+returns c = simp (within-below 26 longestFile _ (c .if1 .taken))
 
 returns-2 : tie.Need-returns-2
 unfolding opens
-returns-2 c = simp (within-above 26 24610 _ (c .if2 .taken))
+returns-2 c = simp (within-above 26 longestFile _ (c .if2 .taken))
 
 sub-same : tie.Need-sub-same
 sub-same c = search needs
@@ -35,7 +36,7 @@ returns-3 : tie.Need-returns-3
 unfolding opens
 returns-3 c =
     let file = now (c .before .before .before .before .before .before .args .file) in
-    simp (within-yes 26 24610 (length file) (c .before .before .before .before .if1 .left) (c .before .before .before .if2 .left))
+    simp (within-yes 26 longestFile (length file) (c .before .before .before .before .if1 .left) (c .before .before .before .if2 .left))
     (is-same (c .same .result) (take 4 file) letters (c .same .ensures .0) (c .same .ensures .1))
 
 pub opens-spec : {M : Type 1} → statement M
