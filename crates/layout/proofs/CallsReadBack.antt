@@ -52,7 +52,7 @@ unfolding startOf
 start-held legs l = start-with-held (withIndex (emptyField legs)) (with-index-held (emptyField legs) (empty-field-held legs l))
 
 -- legs in 64ths of a mile
-pub legs-in-64ths-held : (missed base intermediate last : ℕ) → LegsWith MilesHeld (legsIn64ths missed base intermediate last)
+pub legs-in-64ths-held : (missed base intermediate final-leg : ℕ) → LegsWith MilesHeld (legsIn64ths missed base intermediate final-leg)
 legs-in-64ths-held missed base intermediate final-leg = record {
   missed = div-fits binary64 (whole missed) (whole 64);
   base = div-fits binary64 (whole base) (whole 64);
