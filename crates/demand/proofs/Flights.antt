@@ -162,36 +162,38 @@ known-waiting {s = s} {z} {a} amount e p =
     }
 
 module _ {w : WholeLegs} {amount : ℕ} {s : Flight} {z : ℕ} {a : Aircraft} (fits : Between 1 longestTick amount) (fit : T (fitsZone (inMiles w) z a)) (p : Known w s z a) where
-  flies : isFlyingZone z ≡ true → Known w (ticking s amount) z (tickedAircraft amount a)
-  unfolding tickedAircraft
-  flies e =
-      let u : T (isFlyingZone z) = pass e in
-      let k = s .leg in
-      let v = a .speed in
-      let m = min k (v * s .ticks) in
-      let speeds = fits-parts (inMiles w) z a fit .speeds in
-      let range = p .own-leg .range u in
-      let low = range .least in
-      let high = range .most in
-      let long : LegIn4096ths (a .leg) k = record { exact = p .account .leg; some = omega arith; few = omega arith } in
-      let flown = p .account .miles u in
-      let before = subst (λ (n : ℕ). Exactly (a .waited) (min mostIn4096ths (s .before + n))) (past-flying z k (v * s .ticks) e) (p .account .waited) in
-      let on : FlownExactly (progressAfter (a .progress) v amount (a .leg)) (min k (m + v * amount)) = one-tick-exact-in-4096ths (a .progress) (a .leg) k m long speeds fits flown in
-      let more : Exactly (waitedWith (a .progress) (a .waited) v amount (a .leg)) (min mostIn4096ths (min mostIn4096ths (s .before + (v * s .ticks - k)) + (m + v * amount - k))) =
-      one-tick-waited-in-4096ths (a .progress) (a .leg) (a .waited) k m (min mostIn4096ths (s .before + (v * s .ticks - k))) long speeds fits (omega arith) flown before in
-      record {
-        account = record {
-          leg = p .account .leg;
-          miles = λ u. subst (FlownExactly (progressAfter (a .progress) v amount (a .leg))) (joined k v (s .ticks) amount) on;
-          waited =
-              subst (Exactly (waitedWith (a .progress) (a .waited) v amount (a .leg)))
-              (joined-past mostIn4096ths (s .before) k v (s .ticks) amount ∙ ap (λ (n : ℕ). min mostIn4096ths (s .before + n)) (sym (past-flying z k (v * (s .ticks + amount)) e)))
-              more;
-        };
-        same-speed = p .same-speed;
-        own-leg = p .own-leg;
-        same-flown = p .same-flown;
-      }
+  module _ (e : isFlyingZone z ≡ true) where
+    abbrev k : ℕ
+    k = s .leg
+
+    abbrev v : ℕ
+    v = a .speed
+
+    -- its own leg, as the laws of a tick ask for it
+    long : LegIn4096ths (a .leg) k
+    long = let range = p .own-leg .range (pass e) in record { exact = p .account .leg; some = omega arith; few = omega arith }
+
+    -- its miles with the tick's
+    miles-more : FlownExactly (progressAfter (a .progress) v amount (a .leg)) (min k (v * (s .ticks + amount)))
+    miles-more =
+        subst (FlownExactly (progressAfter (a .progress) v amount (a .leg))) (joined k v (s .ticks) amount)
+        (one-tick-exact-in-4096ths (a .progress) (a .leg) k (min k (v * s .ticks)) long (fits-parts (inMiles w) z a fit .speeds) fits (p .account .miles (pass e)))
+
+    -- its miles waited with the tick's
+    waited-more : Exactly (waitedWith (a .progress) (a .waited) v amount (a .leg)) (min mostIn4096ths (s .before + pastIn z k (v * (s .ticks + amount))))
+    waited-more =
+        let range = p .own-leg .range (pass e) in
+        let so-far = min mostIn4096ths (s .before + (v * s .ticks - k)) in
+        let before : Exactly (a .waited) so-far = subst (λ (n : ℕ). Exactly (a .waited) (min mostIn4096ths (s .before + n))) (past-flying z k (v * s .ticks) e) (p .account .waited) in
+        subst (Exactly (waitedWith (a .progress) (a .waited) v amount (a .leg)))
+        (joined-past mostIn4096ths (s .before) k v (s .ticks) amount ∙ ap (λ (n : ℕ). min mostIn4096ths (s .before + n)) (sym (past-flying z k (v * (s .ticks + amount)) e)))
+        (one-tick-waited-in-4096ths (a .progress) (a .leg) (a .waited) k (min k (v * s .ticks)) so-far long (fits-parts (inMiles w) z a fit .speeds) fits (omega arith)
+        (p .account .miles (pass e)) before)
+
+    -- so its account is kept
+    flies : Known w (ticking s amount) z (tickedAircraft amount a)
+    unfolding tickedAircraft
+    flies = record { account = record { leg = p .account .leg; miles = λ u. miles-more; waited = waited-more }; same-speed = p .same-speed; own-leg = p .own-leg; same-flown = p .same-flown }
 
   -- in its zone after a tick
   pub known-ticked : Known w (ticking s amount) z (tickedAt amount z a)
@@ -238,6 +240,7 @@ module _ {w : WholeLegs} {s : Flight} {e g : Placed} (p : Known w s (e .zone) (e
         same-flown = ap isFlyingZone there;
       }
 
+-- one that has gone on, with the leg of the zone that it has come to
 pub known-onward : {w : WholeLegs} {s : Flight} {zone : ℕ} {e g : Placed} → Known w s (e .zone) (e .aircraft) → Onward (inMiles w) e g → zone ≡ g .zone
     → Known w (onward w s zone) (g .zone) (g .aircraft)
 known-onward {w} {g = g} p on h =
@@ -245,35 +248,40 @@ known-onward {w} {g = g} p on h =
     (subst (λ (y : ℕ). Exactly (g .aircraft .leg) (zoneLegIn4096ths w y)) (sym h) (subst (λ (x : Float). Exactly x (zoneLegIn4096ths w (g .zone))) (sym (on .leg-is)) (zone-leg-exact w (g .zone))))
     (subst (λ (y : ℕ). LegKnown w (g .zone) (zoneLegIn4096ths w y)) (sym h) (zone-leg-known w (g .zone)))
 
--- one that has missed its approach: the missed leg and what was left of final
+-- one that has missed its approach: what was left of final, ..
 left-of : (j k x : ℕ) → j + (k - min k x) ≡ j + (k - x)
 left-of j k x = omega arith
 
-pub known-turned : {w : WholeLegs} {s : Flight} {zone : ℕ} {e g : Placed} → Known w s (e .zone) (e .aircraft) → Turned (inMiles w) e g → zone ≡ g .zone
-    → Known w (afterMiss w s zone) (g .zone) (g .aircraft)
-unfolding isFlyingZone
-known-turned {w} {s} {zone} {e} {g} p on h =
-    let j = 64 * w .missed-leg in
-    let k = s .leg in
-    let v = e .aircraft .speed in
-    let m = min k (v * s .ticks) in
-    let n = k - s .speed * s .ticks in
-    let missed-low = w .missed-fits .least in
-    let missed-high = w .missed-fits .most in
-    let final-high = w .final-fits .most in
-    let all : k ≡ 64 * w .final-leg = p .own-leg .all-of-final (on .from-final) in
-    let flown : FlownExactly (e .aircraft .progress) m = p .account .miles (subst (λ (z : ℕ). T (isFlyingZone z)) (sym (on .from-final)) tt) in
-    let ahead : Exactly (missedLeg (sixtyFourths (w .missed-leg)) (e .aircraft .progress) (e .aircraft .leg)) (j + (k - m)) =
-    missed-leg-exact (sixtyFourths (w .missed-leg)) (e .aircraft .leg) (e .aircraft .progress) j k m
-    (sixty-fourths-in-4096ths (w .missed-leg) (w .missed-fits) .exact) (p .account .leg) flown (omega arith) (omega arith) in
-    let same : j + (k - m) ≡ j + n = left-of j k (v * s .ticks) ∙ ap (λ (x : ℕ). j + (k - x * s .ticks)) (p .same-speed) in
-    known-into p (record { speed = on .turned-speed; waited = on .turned-waited; begins = on .begins-anew }) h
-    (subst (Exactly (g .aircraft .leg)) same (subst (λ (x : Float). Exactly x (j + (k - m))) (sym (on .leg-ahead)) ahead))
-    (record {
-      range = λ u. record { least = omega arith; most = omega arith };
-      none = λ z. absurd (false≢true (sym z ∙ passed {b = isFlyingZone (g .zone)} (missed-flown (g .zone) (on .to-missed))));
-      all-of-final = λ z. absurd (false≢true (ap (λ (y : ℕ). eqb y (missed right) || eqb y (missed left)) (sym z) ∙ on .to-missed));
-    })
+module _ {w : WholeLegs} {s : Flight} {e g : Placed} (p : Known w s (e .zone) (e .aircraft)) (on : Turned (inMiles w) e g) where
+  -- on final its own leg was all of final
+  all-of : s .leg ≡ 64 * w .final-leg
+  all-of = p .own-leg .all-of-final (on .from-final)
+
+  -- .. and the missed leg are its leg, exactly, ..
+  leg-turned : Exactly (g .aircraft .leg) (64 * w .missed-leg + (s .leg - s .speed * s .ticks))
+  leg-turned =
+      let j = 64 * w .missed-leg in
+      let k = s .leg in
+      let v = e .aircraft .speed in
+      let whole-final = all-of in
+      let ahead : Exactly (missedLeg (sixtyFourths (w .missed-leg)) (e .aircraft .progress) (e .aircraft .leg)) (j + (k - min k (v * s .ticks))) =
+      missed-leg-exact (sixtyFourths (w .missed-leg)) (e .aircraft .leg) (e .aircraft .progress) j k (min k (v * s .ticks)) (sixty-fourths-in-4096ths (w .missed-leg) (w .missed-fits) .exact)
+      (p .account .leg) (p .account .miles (flown-final (e .zone) (on .from-final))) (omega arith) (omega arith) in
+      subst (Exactly (g .aircraft .leg)) (left-of j k (v * s .ticks) ∙ ap (λ (x : ℕ). j + (k - x * s .ticks)) (p .same-speed))
+      (subst (λ (x : Float). Exactly x (j + (k - min k (v * s .ticks)))) (sym (on .leg-ahead)) ahead)
+
+  -- .. within the range of an own leg.
+  own-turned : LegKnown w (g .zone) (64 * w .missed-leg + (s .leg - s .speed * s .ticks))
+  own-turned =
+      let whole-final = all-of in
+      record {
+        range = λ u. record { least = omega arith; most = omega arith };
+        none = λ z. absurd (false≢true (sym z ∙ passed {b = isFlyingZone (g .zone)} (missed-flown (g .zone) (on .to-missed))));
+        all-of-final = λ z. absurd (false≢true (ap (λ (y : ℕ). eqb y (missed right) || eqb y (missed left)) (sym z) ∙ on .to-missed));
+      }
+
+  pub known-turned : {zone : ℕ} → zone ≡ g .zone → Known w (afterMiss w s zone) (g .zone) (g .aircraft)
+  known-turned h = known-into p (record { speed = on .turned-speed; waited = on .turned-waited; begins = on .begins-anew }) h leg-turned own-turned
 
 -- one that has gone along from a zone that is not flown in to another
 pub known-along : {w : WholeLegs} {s : Flight} {r : Request} {e g : Placed} → Known w s (e .zone) (e .aircraft) → WentAlong (inMiles w) r e g → Known w s (g .zone) (g .aircraft)

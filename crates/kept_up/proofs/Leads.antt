@@ -1,6 +1,6 @@
 -- The zone that a request leads to is one of the thirteen. Assumes nothing.
 use mathlib.Core.Bool.{_&&_}
-use mathlib.Core.Path.{_≡_, sym, ap, _∙_}
+use mathlib.Core.Path.{_≡_, ap, subst⁻¹}
 use mathlib.Core.Logic.{inl, inr}
 use Prim.Native.Nat.{ℕ, _+_, _%_, _≤_}
 use native.Mathlib.Omega.{arith}
@@ -58,18 +58,13 @@ pub leads-alike : (kind : ℕ) (r : Request) (z : ℕ) (s : Sequence) (across ab
 unfolding leadsTo
 leads-alike kind r z s across above below {ahead} {ahead′} {fix} {fix′} h k =
     elim (decided (eqb kind 4)) [
-      | inl t ↦
-          let q = eqb-true kind 4 t in
-          ap (λ (j : ℕ). leadsTo j r z s ahead across above below fix) q
-          ∙ ap (λ (a : ℕ). approachTo z s (r .number) a across) (h q)
-          ∙ sym (ap (λ (j : ℕ). leadsTo j r z s ahead′ across above below fix′) q)
+      | inl t ↦ let q = eqb-true kind 4 t in subst⁻¹ Alike q (ap (λ (a : ℕ). approachTo z s (r .number) a across) (h q))
       | inr t ↦
           elim (decided (eqb kind 10)) [
-            | inl u ↦
-                let q = eqb-true kind 10 u in
-                ap (λ (j : ℕ). leadsTo j r z s ahead across above below fix) q
-                ∙ ap (λ (x : ℕ). 6 + sideOf x) (k q)
-                ∙ sym (ap (λ (j : ℕ). leadsTo j r z s ahead′ across above below fix′) q)
+            | inl u ↦ let q = eqb-true kind 10 u in subst⁻¹ Alike q (ap (λ (x : ℕ). 6 + sideOf x) (k q))
             | inr u ↦ simp (t, u)
           ]
     ]
+  where
+    Alike : ℕ → Type 0
+    Alike j = leadsTo j r z s ahead across above below fix ≡ leadsTo j r z s ahead′ across above below fix′
