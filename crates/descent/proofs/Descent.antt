@@ -40,7 +40,7 @@ use Rattle.laws.proofs.BoundLaws.{within-each, within-e, numbers-different, sha
 use Rattle.line.proofs.CountedOnLine.{none}
 use Rattle.reason.proofs.Invariant.{places-parts}
 use Rattle.descent.specs.Descent.{descendFrom, Descends}
-use Rattle.descent.proofs.Down.{moved-down}
+use Rattle.descent.proofs.Down.{AloneAbove, moved-down}
 use Rattle.descent.proofs.DownWithin.{within-down}
 
 -- A field within the bounds whose arrays have their places has its shape.
@@ -70,6 +70,10 @@ module _ (f : Field) (t : T (withinBounds f)) (side : ℕ) (b : Between 1 2 side
   pub none-below : isEmpty f (at2000 side) ≡ true → inZone f (at2000 side) ≡ []
   unfolding howMany
   none-below e = none (inZone f (at2000 side)) (eqb-true (length (inZone f (at2000 side))) 0 e)
+
+  -- where nobody is at 2000 it can descend
+  abbrev pub above : Shaped f → isEmpty f (at3000 side) ≡ false → isEmpty f (at2000 side) ≡ true → AloneAbove f side
+  above k occupied free = record { shaped = k; between = b; x = aircraftAt f side 1; here = alone-above occupied; below = none-below free }
 
   zone-is : Between 1 13 side
   zone-is = record { least = b .least; most = let m = b .most in omega arith }
@@ -117,6 +121,9 @@ module _ (f : Field) (h : T (hasPlaces f)) (t : T (withinBounds f)) (side : ℕ)
         (same (r .desk), (one-of-two (λ (s : ℕ). startsFrom 3 s ≡ true) 1 side (b .least) (let m = b .most in omega arith) refl refl, (refl, (free, tt)))),
       )
 
+  abbrev alone : AloneAbove f side
+  alone = above f t side b (shaped f h t) occupied free
+
   number-0 : numberOf f r ≡ 0
   number-0 =
       accepts f r
@@ -126,9 +133,7 @@ module _ (f : Field) (h : T (hasPlaces f)) (t : T (withinBounds f)) (side : ℕ)
         checks =
             ap firstRefused (checks-at f r {k = 3} refl) ∙ ap (λ (p : Place). firstRefused
             (headChecks 3 p (belongsTo f p (r .desk)) ++ descendNeeds f (p .zone))) (found-above f t side b occupied) ∙ unrefused;
-        after =
-            ap withinBounds (moves-down ∙ moved-down f (shaped f h t) side b (aircraftAt f side 1) (alone-above f t side b occupied) (none-below f t side b free))
-            ∙ passed (within-down f (shaped f h t) t side b (aircraftAt f side 1) (alone-above f t side b occupied) (none-below f t side b free));
+        after = ap withinBounds (moves-down ∙ moved-down alone) ∙ passed (within-down t alone);
       })
 
   pub descends : Descends f side

@@ -26,9 +26,9 @@ use Rattle.laws.proofs.EditLaws.{Shaped, shaped-without-head, shaped-with-zone,
 use Rattle.laws.proofs.CountLaws.{sum-with}
 
 -- what is taken off a sum for one zone is added for another
-balanced : (b : Bool) (g h f p q r s : ℕ) → p ≡ 0 → s ≡ 0 → q ≡ r → g + cond b p 0 ≡ h + cond b q 0 → h + cond b r 0 ≡ f + cond b s 0 → g ≡ f
-balanced true g h f p q r s a b c d e = omega arith
-balanced false g h f p q r s a b c d e = omega arith
+balanced : (b : Bool) (h : ℕ) {g f p q r s : ℕ} → p ≡ 0 → s ≡ 0 → q ≡ r → g + cond b p 0 ≡ h + cond b q 0 → h + cond b r 0 ≡ f + cond b s 0 → g ≡ f
+balanced true h a b c d e = omega arith
+balanced false h a b c d e = omega arith
 
 nobody-counts : (c : Bool) → cond {A = ℕ} c 0 0 ≡ 0
 nobody-counts true = refl
@@ -39,8 +39,15 @@ pub head-is : (f : Field) (z : ℕ) (x : Aircraft) → inZone f z ≡ x ∷ [] �
 unfolding aircraftAt
 head-is f z x e = ap (λ (l : List Aircraft). getD (nobody ∷ l) 1 nobody) e
 
--- ---- x, alone at 3000 of a side, with nobody at 2000
-module _ (f : Field) (k : Shaped f) (side : ℕ) (b : Between 1 2 side) (x : Aircraft) (here : inZone f (at3000 side) ≡ x ∷ []) (below : inZone f (at2000 side) ≡ []) where
+-- ---- x is alone at 3000 of a side, and nobody at 2000
+pub record AloneAbove (f : Field) (side : ℕ) : Type 0 where
+  pub shaped : Shaped f
+  pub between : Between 1 2 side
+  pub x : Aircraft
+  pub here : inZone f (at3000 side) ≡ x ∷ []
+  pub below : inZone f (at2000 side) ≡ []
+
+module _ {f : Field} {side : ℕ} (a : AloneAbove f side) where
   abbrev w : ℕ
   w = at2000 side
 
@@ -50,7 +57,7 @@ module _ (f : Field) (k : Shaped f) (side : ℕ) (b : Between 1 2 side) (x : Air
 
   -- as it is at 2000
   abbrev pub lower : Aircraft
-  lower = arrived (f .legs) w x
+  lower = arrived (f .legs) w (a .x)
 
   abbrev q₂ : Zone
   q₂ = withTail (zoneOf f₁ w) lower
@@ -61,26 +68,26 @@ module _ (f : Field) (k : Shaped f) (side : ℕ) (b : Between 1 2 side) (x : Air
 
   pub moved-down : moved f (at3000 side) w ≡ down
   unfolding moved tailPut headGone
-  moved-down = ap (λ (a : Aircraft). withZone f₁ w (withTail (zoneOf f₁ w) (arrived (f .legs) w a))) (head-is f side x here)
+  moved-down = ap (λ (c : Aircraft). withZone f₁ w (withTail (zoneOf f₁ w) (arrived (f .legs) w c))) (head-is f side (a .x) (a .here))
 
   from-zone : Between 1 13 side
-  from-zone = record { least = b .least; most = omega arith }
+  from-zone = let m = a .between .most in record { least = a .between .least; most = omega arith }
 
   to-zone : Between 1 13 w
-  to-zone = record { least = omega arith; most = omega arith }
+  to-zone = let m = a .between .most in record { least = omega arith; most = omega arith }
 
   apart : w ≢ side
   apart e = omega arith
 
   shaped₁ : Shaped f₁
-  shaped₁ = shaped-with-zone f side (withoutHead (zoneOf f side)) from-zone (k .zones) k (shaped-without-head (zoneOf f side) (k .zone side))
+  shaped₁ = shaped-with-zone f side (withoutHead (zoneOf f side)) from-zone (a .shaped .zones) (a .shaped) (shaped-without-head (zoneOf f side) (a .shaped .zone side))
 
   -- ---- every queue
   taken : inZone f₁ side ≡ []
-  taken = queue-taken f k side from-zone ∙ ap (drop 1) here
+  taken = queue-taken f (a .shaped) side from-zone ∙ ap (drop 1) (a .here)
 
   none-yet : inZone f₁ w ≡ []
-  none-yet = queue-kept f side (withoutHead (zoneOf f side)) w apart ∙ below
+  none-yet = queue-kept f side (withoutHead (zoneOf f side)) w apart ∙ a .below
 
   room : howMany f₁ w < 4
   unfolding howMany
@@ -103,26 +110,25 @@ module _ (f : Field) (k : Shaped f) (side : ℕ) (b : Between 1 2 side) (x : Air
   each-zone-down P p q others =
       each-zone-with f₁ w q₂ to-zone (shaped₁ .zones) P
       (subst (λ (y : Zone). P w (withTail y lower)) (sym (zone-kept f side (withoutHead (zoneOf f side)) w apart)) q)
-      (λ z h. each-zone-with f side (withoutHead (zoneOf f side)) from-zone (k .zones) P p (λ y u. others y) z)
+      (λ z h. each-zone-with f side (withoutHead (zoneOf f side)) from-zone (a .shaped .zones) P p (λ y u. others y) z)
 
   -- ---- every count
 
   -- A count over zones that has both of them or neither, and counts it alike in both, stays.
-  pub sum-down : (count : ℕ → List Aircraft → ℕ) (zs : List ℕ) → T (allDifferent zs) → isIn w zs ≡ isIn side zs → count side [] ≡ 0 → count w [] ≡ 0 → count w (lower ∷ []) ≡ count side (x ∷ [])
+  pub sum-down : (count : ℕ → List Aircraft → ℕ) (zs : List ℕ) → T (allDifferent zs) → isIn w zs ≡ isIn side zs → count side [] ≡ 0 → count w [] ≡ 0 → count w (lower ∷ []) ≡ count side (a .x ∷ [])
       → total (λ y. count y (inZone down y)) zs ≡ total (λ y. count y (inZone f y)) zs
   sum-down count zs d both none none′ same =
-      balanced (isIn side zs) (total (λ y. count y (inZone down y)) zs) (total (λ y. count y (inZone f₁ y)) zs) (total (λ y. count y (inZone f y)) zs)
-      (count w (inZone f₁ w)) (count w (queueOf q₂)) (count side (inZone f side)) (count side (queueOf (withoutHead (zoneOf f side))))
+      balanced (isIn side zs) (total (λ y. count y (inZone f₁ y)) zs)
       (ap (count w) none-yet ∙ none′)
-      (ap (count side) (sym (queue-replaced f side (withoutHead (zoneOf f side)) from-zone (k .zones)) ∙ taken) ∙ none)
-      (ap (count w) (sym (queue-replaced f₁ w q₂ to-zone (shaped₁ .zones)) ∙ one-below) ∙ same ∙ ap (count side) (sym here))
+      (ap (count side) (sym (queue-replaced f side (withoutHead (zoneOf f side)) from-zone (a .shaped .zones)) ∙ taken) ∙ none)
+      (ap (count w) (sym (queue-replaced f₁ w q₂ to-zone (shaped₁ .zones)) ∙ one-below) ∙ same ∙ ap (count side) (sym (a .here)))
       (subst (λ (c : Bool). total (λ y. count y (inZone down y)) zs + cond c (count w (inZone f₁ w)) 0 ≡ total (λ y. count y (inZone f₁ y)) zs + cond c (count w (queueOf q₂)) 0) both
       (sum-with f₁ w q₂ to-zone (shaped₁ .zones) count zs d))
-      (sum-with f side (withoutHead (zoneOf f side)) from-zone (k .zones) count zs d)
+      (sum-with f side (withoutHead (zoneOf f side)) from-zone (a .shaped .zones) count zs d)
 
   -- of the lists of zones that the bounds and the needs count over
   by-side : (P : ℕ → Type 0) → P 1 → P 2 → P side
-  by-side P p q = one-of-two P 1 side (b .least) (let h = b .most in omega arith) p q
+  by-side P p q = one-of-two P 1 side (a .between .least) (let h = a .between .most in omega arith) p q
 
   pub in-operation : isIn w operation ≡ isIn side operation
   in-operation = by-side (λ (s : ℕ). isIn (at2000 s) operation ≡ isIn s operation) refl refl
@@ -139,8 +145,8 @@ module _ (f : Field) (k : Shaped f) (side : ℕ) (b : Between 1 2 side) (x : Air
       (one-of-two (λ (s : ℕ). isIn 3 (area s) ≡ isIn 1 (area s)) 1 s (h .least) (let m = h .most in omega arith) refl refl)
       (one-of-two (λ (s : ℕ). isIn 4 (area s) ≡ isIn 2 (area s)) 1 s (h .least) (let m = h .most in omega arith) refl refl)
 
-  fix-same : (s : ℕ) → haveFix s (lower ∷ []) ≡ haveFix s (x ∷ [])
-  fix-same s = ap (λ (n : ℕ). cond (eqb n s) 1 0 + 0) (into-arrived (f .legs) w x .fix)
+  fix-same : (s : ℕ) → haveFix s (lower ∷ []) ≡ haveFix s (a .x ∷ [])
+  fix-same s = ap (λ (n : ℕ). cond (eqb n s) 1 0 + 0) (into-arrived (f .legs) w (a .x) .fix)
 
   -- As many are in the operation area, ..
   pub operation-down : inOperation down ≡ inOperation f
@@ -168,4 +174,4 @@ module _ (f : Field) (k : Shaped f) (side : ℕ) (b : Between 1 2 side) (x : Air
   potential-down =
       sum-down (λ y l. cond (isIn y (area side)) (length l) (haveFix side l)) operation tt in-operation (nobody-counts (isIn side (area side))) (nobody-counts (isIn w (area side)))
       (if-true 1 (haveFix side (lower ∷ [])) (by-side (λ (s : ℕ). isIn (at2000 s) (area s) ≡ true) refl refl)
-      ∙ sym (if-true 1 (haveFix side (x ∷ [])) (by-side (λ (s : ℕ). isIn s (area s) ≡ true) refl refl)))
+      ∙ sym (if-true 1 (haveFix side (a .x ∷ [])) (by-side (λ (s : ℕ). isIn s (area s) ≡ true) refl refl)))

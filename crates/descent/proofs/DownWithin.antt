@@ -12,12 +12,11 @@ use lib.Ieee.Fits.{and-i, and-l, and-r}
 use lib.ListN.{length, getD}
 use Rattle.leg.specs.Ticks.{Between}
 use Rattle.field.specs.declared.Aircraft.{Aircraft}
-use Rattle.field.specs.declared.Zone.{Zone}
 use Rattle.field.specs.declared.Field.{Field}
 use Rattle.questions.specs.declared.Place.{Place}
 use Rattle.field.specs.Airspace.{right, left, isSide, at3000, at2000, lateral, missed, finalApproach, runway, zonesFrom, operation, everywhere, nobody, zoneOf, inZone, orderOf}
 use Rattle.field.specs.Lists.{isIn, every, allDifferent}
-use Rattle.edits.specs.Edits.{withoutHead, withTail, withZone}
+use Rattle.edits.specs.Edits.{withZone}
 use Rattle.questions.specs.Counts.{howMany, isEmpty, inOperation, inArea, perFix}
 use Rattle.questions.specs.Find.{placeOf, aircraftAt, fixOf, isFirst, numbersIn}
 use Rattle.numbers.specs.Numbers.{numbersDiffer, sequenceExact}
@@ -28,14 +27,14 @@ use Rattle.field.proofs.ArrivalLaws.{into-arrived}
 use Rattle.field.proofs.NumberLists.{every-listed, zone-listed}
 use Rattle.field.proofs.TestLaws.{pass, decided, or-left, same}
 use Rattle.questions.proofs.FindLaws.{numbers, found-there, absent-nowhere, nobody-nowhere, own-place}
-use Rattle.laws.proofs.EditLaws.{Shaped}
 use Rattle.laws.proofs.BoundLaws.{within-each, each-within, within-e}
 use Rattle.laws.proofs.Fits.{arrived-fits}
 use Rattle.laws.proofs.TickLaws.{every-then}
 use Rattle.laws.proofs.SameQueues.{kept-head, kept-tail}
 use Rattle.line.proofs.Members.{absent-count, count-absent, numbers-total}
 use Rattle.moves.proofs.StaysOrderly.{different-of, nonzero-of}
-use Rattle.descent.proofs.Down.{head-is, down, lower, none-above, one-below, elsewhere, each-zone-down, sum-down, in-operation, in-everywhere, operation-down, area-down, per-fix-down}
+use Rattle.descent.proofs.Down.{head-is, AloneAbove, down, lower, none-above, one-below, elsewhere, each-zone-down, sum-down}
+use Rattle.descent.proofs.Down.{in-operation, in-everywhere, operation-down, area-down, per-fix-down}
 
 -- ---- lists with each number as often
 module _ (xs ys : List ℕ) (e : (n : ℕ) → count xs n ≡ count ys n) where
@@ -58,18 +57,24 @@ every-some p (x ∷ xs) ys h t =
     or-true true = refl
     or-true false = refl
 
--- the fix of one that stands at a place, where numbers differ
-fix-at : (f : Field) → T (allDifferent (numbersIn f everywhere)) → (z place n : ℕ) → Between 1 13 z → 1 ≤ place → place ≤ howMany f z → aircraftAt f z place .number ≡ n
-    → fixOf f n ≡ aircraftAt f z place .fix
-unfolding fixOf
-fix-at f d z place n r l h e = ap (λ (p : Place). aircraftAt f (p .zone) (p .place) .fix) (ap (placeOf f) (sym e) ∙ own-place f z place d r l h)
+-- the one with a number stands at a place of zone z, ..
+record StandsAt (f : Field) (n z place : ℕ) : Type 0 where
+  zone : Between 1 13 z
+  first : 1 ≤ place
+  last : place ≤ howMany f z
+  has : aircraftAt f z place .number ≡ n
 
-module _ (f : Field) (k : Shaped f) (t : T (withinBounds f)) (side : ℕ) (b : Between 1 2 side) (x : Aircraft) (here : inZone f (at3000 side) ≡ x ∷ []) (below : inZone f (at2000 side) ≡ []) where
+-- .. and where numbers differ the fix of that one is the number's
+fix-at : {f : Field} {n z place : ℕ} → T (allDifferent (numbersIn f everywhere)) → StandsAt f n z place → fixOf f n ≡ aircraftAt f z place .fix
+unfolding fixOf
+fix-at {f} {n} {z} {place} d s = ap (λ (p : Place). aircraftAt f (p .zone) (p .place) .fix) (ap (placeOf f) (sym (s .has)) ∙ own-place f z place d (s .zone) (s .first) (s .last))
+
+module _ {f : Field} (t : T (withinBounds f)) {side : ℕ} (alone : AloneAbove f side) where
   abbrev w : ℕ
   w = at2000 side
 
   abbrev g : Field
-  g = down f k side b x here below
+  g = down alone
 
   -- a zone is one of the two, or neither
   record Other (z : ℕ) : Type 0 where
@@ -84,7 +89,7 @@ module _ (f : Field) (k : Shaped f) (t : T (withinBounds f)) (side : ℕ) (b : B
       ]
 
   queue-other : (z : ℕ) → Other z → inZone g z ≡ inZone f z
-  queue-other z o = elsewhere f k side b x here below z (o .not-above) (o .not-below)
+  queue-other z o = elsewhere alone z (o .not-above) (o .not-below)
 
   many-other : (z : ℕ) → Other z → howMany g z ≡ howMany f z
   unfolding howMany
@@ -96,27 +101,27 @@ module _ (f : Field) (k : Shaped f) (t : T (withinBounds f)) (side : ℕ) (b : B
 
   -- past the holdings
   past : (z : ℕ) → 5 ≤ z → Other z
-  past z h = record { not-above = λ e. let m = b .most in omega arith; not-below = λ e. let m = b .most in omega arith }
+  past z h = record { not-above = λ e. let m = alone .between .most in omega arith; not-below = λ e. let m = alone .between .most in omega arith }
 
   -- ---- a, b and d
   a-down : T (boundA g)
   unfolding boundA
   a-down =
-      subst T (sym (ap (λ (n : ℕ). leb n 4 && leb (howMany g runway) 1) (operation-down f k side b x here below)
+      subst T (sym (ap (λ (n : ℕ). leb n 4 && leb (howMany g runway) 1) (operation-down alone)
       ∙ ap (λ (n : ℕ). leb (inOperation f) 4 && leb n 1) (many-other runway (past runway (omega arith))))) (within-each f t .bound-a)
 
   b-down : T (boundB g)
   unfolding boundB
   b-down =
-      subst T (sym (ap (λ (n : ℕ). leb n 2 && leb (inArea g left) 2) (area-down f k side b x here below right (record { least = omega arith; most = omega arith }))
-      ∙ ap (λ (n : ℕ). leb (inArea f right) 2 && leb n 2) (area-down f k side b x here below left (record { least = omega arith; most = omega arith }))))
+      subst T (sym (ap (λ (n : ℕ). leb n 2 && leb (inArea g left) 2) (area-down alone right (record { least = omega arith; most = omega arith }))
+      ∙ ap (λ (n : ℕ). leb (inArea f right) 2 && leb n 2) (area-down alone left (record { least = omega arith; most = omega arith }))))
       (within-each f t .bound-b)
 
   d-down : T (boundD g)
   unfolding boundD
   d-down =
-      subst T (sym (ap (λ (n : ℕ). leb n 2 && leb (perFix g left) 2) (per-fix-down f k side b x here below right)
-      ∙ ap (λ (n : ℕ). leb (perFix f right) 2 && leb n 2) (per-fix-down f k side b x here below left)))
+      subst T (sym (ap (λ (n : ℕ). leb n 2 && leb (perFix g left) 2) (per-fix-down alone right)
+      ∙ ap (λ (n : ℕ). leb (perFix f right) 2 && leb n 2) (per-fix-down alone left)))
       (within-each f t .bound-d)
 
   -- ---- c
@@ -124,8 +129,8 @@ module _ (f : Field) (k : Shaped f) (t : T (withinBounds f)) (side : ℕ) (b : B
   unfolding howMany
   one-each =
       zone-by (λ (z : ℕ). T (leb (howMany f z) 1) → T (leb (howMany g z) 1))
-      (λ u. le→leb (howMany g side) 1 (let e = ap length (none-above f k side b x here below) in omega arith))
-      (λ u. le→leb (howMany g w) 1 (let e = ap length (one-below f k side b x here below) in omega arith))
+      (λ u. le→leb (howMany g side) 1 (let e = ap length (none-above alone) in omega arith))
+      (λ u. le→leb (howMany g w) 1 (let e = ap length (one-below alone) in omega arith))
       (λ z o u. subst (λ (n : ℕ). T (leb n 1)) (sym (many-other z o)) u)
 
   -- 3000 is occupied, so that the lateral zone of the side is empty
@@ -137,14 +142,14 @@ module _ (f : Field) (k : Shaped f) (t : T (withinBounds f)) (side : ℕ) (b : B
         | inr e ↦
             let v = subst (λ (c : Bool). T (c || (isEmpty f side && isEmpty f w && isEmpty f (missed side)))) e u in
             let n = and-l (isEmpty f side) (isEmpty f w) (and-l (isEmpty f side && isEmpty f w) (isEmpty f (missed side)) v) in
-            absurd (subst (λ (l : List Aircraft). T (eqb (length l) 0)) here n)
+            absurd (subst (λ (l : List Aircraft). T (eqb (length l) 0)) (alone .here) n)
       ]
 
   lateral-down : (s : ℕ) → Between 1 2 s → T (lateralRule f s) → T (lateralRule g s)
   unfolding lateralRule
   lateral-down s h u =
       let m = h .most in
-      let n = b .most in
+      let n = alone .between .most in
       elim (decided (eqb s side)) [
         | inl e ↦
             let q = eqb-true s side e in
@@ -154,7 +159,7 @@ module _ (f : Field) (k : Shaped f) (t : T (withinBounds f)) (side : ℕ) (b : B
         | inr e ↦
             let ne = eqb-false s side e in
             let l = h .least in
-            let r = b .least in
+            let r = alone .between .least in
             let p1 = many-other (lateral s) (past (lateral s) (omega arith)) in
             let p2 = many-other (at3000 s) (record { not-above = ne; not-below = λ q. omega arith }) in
             let p3 = many-other (at2000 s) (record { not-above = λ q. omega arith; not-below = λ q. ne (omega arith) }) in
@@ -182,11 +187,11 @@ module _ (f : Field) (k : Shaped f) (t : T (withinBounds f)) (side : ℕ) (b : B
   often : (n : ℕ) (zs : List ℕ) → T (allDifferent zs) → isIn w zs ≡ isIn side zs → count (numbersIn g zs) n ≡ count (numbersIn f zs) n
   often n zs d both =
       numbers-total g n zs
-      ∙ sum-down f k side b x here below (λ y l. count (numbers l) n) zs d both refl refl (ap (λ (m : ℕ). count (m ∷ []) n) (into-arrived (f .legs) w x .number))
+      ∙ sum-down alone (λ y l. count (numbers l) n) zs d both refl refl (ap (λ (m : ℕ). count (m ∷ []) n) (into-arrived (f .legs) w (alone .x) .number))
       ∙ sym (numbers-total f n zs)
 
   often-everywhere : (n : ℕ) → count (numbersIn g everywhere) n ≡ count (numbersIn f everywhere) n
-  often-everywhere n = often n everywhere tt (in-everywhere f k side b x here below)
+  often-everywhere n = often n everywhere tt (in-everywhere alone)
 
   -- The same numbers are present.
   pub present-down : (n : ℕ) → isIn n (numbersIn g everywhere) ≡ isIn n (numbersIn f everywhere)
@@ -212,7 +217,7 @@ module _ (f : Field) (k : Shaped f) (t : T (withinBounds f)) (side : ℕ) (b : B
       let ns = orderOf (f .sequence) in
       let l = numbersIn f operation in
       let m = numbersIn g operation in
-      let alike = in-same m l (λ n. often n operation tt (in-operation f k side b x here below)) in
+      let alike = in-same m l (λ n. often n operation tt (in-operation alone)) in
       let e = within-e f t .exact in
       let one = allDifferent ns in
       let two = every (λ n. isIn n l) ns in
@@ -231,9 +236,9 @@ module _ (f : Field) (k : Shaped f) (t : T (withinBounds f)) (side : ℕ) (b : B
 
   kept-down : (z : ℕ) → T (zoneKept (zoneOf f z)) → T (zoneKept (zoneOf g z))
   kept-down =
-      each-zone-down f k side b x here below (λ z q. T (zoneKept (zoneOf f z)) → T (zoneKept q))
-      (λ u. kept-head (zoneOf f side) (record { shaped = k .zone side; kept = u }) .kept)
-      (λ u. kept-tail (zoneOf f w) (lower f k side b x here below) (record { shaped = k .zone w; kept = u }) .kept)
+      each-zone-down alone (λ z q. T (zoneKept (zoneOf f z)) → T (zoneKept q))
+      (λ u. kept-head (zoneOf f side) (record { shaped = alone .shaped .zone side; kept = u }) .kept)
+      (λ u. kept-tail (zoneOf f w) (lower alone) (record { shaped = alone .shaped .zone w; kept = u }) .kept)
       (λ z u. u)
 
   e-down : T (boundE g)
@@ -254,18 +259,25 @@ module _ (f : Field) (k : Shaped f) (t : T (withinBounds f)) (side : ℕ) (b : B
   unfolding fixOf howMany
   fix-found n i =
       let p = found-there f n i in
-      zone-by (λ (z : ℕ). (place : ℕ) → Between 1 13 z → 1 ≤ place → place ≤ howMany f z → aircraftAt f z place .number ≡ n → fixOf g n ≡ aircraftAt f z place .fix)
-      (λ place r l h e.
-      let one : place ≡ 1 = let m = ap length here in omega arith in
-      let named : x .number ≡ n = ap (λ (a : Aircraft). a .number) (sym (ap (aircraftAt f side) one ∙ head-is f side x here)) ∙ e in
-      let found = head-is g w (lower f k side b x here below) (one-below f k side b x here below) in
-      fix-at g different w 1 n (record { least = omega arith; most = let m = b .most in omega arith }) (omega arith)
-      (let m = ap length (one-below f k side b x here below) in omega arith) (ap (λ (a : Aircraft). a .number) found ∙ into-arrived (f .legs) w x .number ∙ named)
-      ∙ ap (λ (a : Aircraft). a .fix) found ∙ into-arrived (f .legs) w x .fix ∙ ap (λ (a : Aircraft). a .fix) (sym (ap (aircraftAt f side) one ∙ head-is f side x here)))
-      (λ place r l h e. absurd (let m = ap length below in omega arith))
-      (λ z o place r l h e.
-      fix-at g different z place n r l (let m = many-other z o in omega arith) (ap (λ (a : Aircraft). a .number) (at-other z place o) ∙ e) ∙ ap (λ (a : Aircraft). a .fix) (at-other z place o))
-      (placeOf f n .zone) (placeOf f n .place) (zone-between (placeOf f n .zone) (p .listed)) (p .first) (p .last) (p .has)
+      zone-by (λ (z : ℕ). (place : ℕ) → StandsAt f n z place → fixOf g n ≡ aircraftAt f z place .fix)
+      (λ place s.
+      let one : place ≡ 1 = let m = ap length (alone .here) in let l = s .first in let h = s .last in omega arith in
+      let was : alone .x ≡ aircraftAt f side place = sym (ap (aircraftAt f side) one ∙ head-is f side (alone .x) (alone .here)) in
+      let found = head-is g w (lower alone) (one-below alone) in
+      let into = into-arrived (f .legs) w (alone .x) in
+      let there : StandsAt g n w 1 = record {
+        zone = (let m = alone .between .most in record { least = omega arith; most = omega arith });
+        first = omega arith;
+        last = (let m = ap length (one-below alone) in omega arith);
+        has = ap (λ (a : Aircraft). a .number) found ∙ into .number ∙ ap (λ (a : Aircraft). a .number) was ∙ s .has;
+      } in
+      fix-at different there ∙ ap (λ (a : Aircraft). a .fix) found ∙ into .fix ∙ ap (λ (a : Aircraft). a .fix) was)
+      (λ place s. absurd (let m = ap length (alone .below) in let l = s .first in let h = s .last in omega arith))
+      (λ z o place s.
+      let there = at-other z place o in
+      let last : place ≤ howMany g z = let m = many-other z o in let h = s .last in omega arith in
+      fix-at different (record { zone = s .zone; first = s .first; last = last; has = ap (λ (a : Aircraft). a .number) there ∙ s .has }) ∙ ap (λ (a : Aircraft). a .fix) there)
+      (placeOf f n .zone) (placeOf f n .place) (record { zone = zone-between (placeOf f n .zone) (p .listed); first = p .first; last = p .last; has = p .has })
     where
       zone-between : (z : ℕ) → isIn z everywhere ≡ true → Between 1 13 z
       zone-between z e =
@@ -290,13 +302,13 @@ module _ (f : Field) (k : Shaped f) (t : T (withinBounds f)) (side : ℕ) (b : B
   -- ---- g
   fits-down : T (legalLegs (f .legs)) → T (every (fitsZone (f .legs) side) (inZone f side)) → (z : ℕ) → T (every (fitsZone (f .legs) z) (inZone f z)) → T (every (fitsZone (f .legs) z) (inZone g z))
   fits-down legal v =
-      let low = lower f k side b x here below in
+      let low = lower alone in
       zone-by (λ (z : ℕ). T (every (fitsZone (f .legs) z) (inZone f z)) → T (every (fitsZone (f .legs) z) (inZone g z)))
-      (λ u. subst (λ (l : List Aircraft). T (every (fitsZone (f .legs) side) l)) (sym (none-above f k side b x here below)) tt)
+      (λ u. subst (λ (l : List Aircraft). T (every (fitsZone (f .legs) side) l)) (sym (none-above alone)) tt)
       (λ u.
-      let fit = and-l (fitsZone (f .legs) side x) true (subst (λ (l : List Aircraft). T (every (fitsZone (f .legs) side) l)) here v) in
-      subst (λ (l : List Aircraft). T (every (fitsZone (f .legs) w) l)) (sym (one-below f k side b x here below))
-      (and-i (fitsZone (f .legs) w low) true (arrived-fits (f .legs) legal side w x fit) tt))
+      let fit = and-l (fitsZone (f .legs) side (alone .x)) true (subst (λ (l : List Aircraft). T (every (fitsZone (f .legs) side) l)) (alone .here) v) in
+      subst (λ (l : List Aircraft). T (every (fitsZone (f .legs) w) l)) (sym (one-below alone))
+      (and-i (fitsZone (f .legs) w low) true (arrived-fits (f .legs) legal side w (alone .x) fit) tt))
       (λ z o u. subst (λ (l : List Aircraft). T (every (fitsZone (f .legs) z) l)) (sym (queue-other z o)) u)
 
   g-down : T (boundG g)
@@ -307,7 +319,8 @@ module _ (f : Field) (k : Shaped f) (t : T (withinBounds f)) (side : ℕ) (b : B
       let legal = and-r (fit f && isSide (f .next)) (legalLegs (f .legs)) e in
       let rest = and-l (fit f && isSide (f .next)) (legalLegs (f .legs)) e in
       let fits = and-l (fit f) (isSide (f .next)) rest in
-      let own = every-listed (λ z. every (fitsZone (f .legs) z) (inZone f z)) everywhere side fits (zone-listed side (record { least = b .least; most = let m = b .most in omega arith })) in
+      let inside : Between 1 13 side = let m = alone .between .most in record { least = alone .between .least; most = omega arith } in
+      let own = every-listed (λ z. every (fitsZone (f .legs) z) (inZone f z)) everywhere side fits (zone-listed side inside) in
       and-i (fit g && isSide (f .next)) (legalLegs (f .legs))
       (and-i (fit g) (isSide (f .next))
       (every-then (λ z. every (fitsZone (f .legs) z) (inZone f z)) (λ z. every (fitsZone (f .legs) z) (inZone g z)) (λ z. z) (fits-down legal own) everywhere fits)

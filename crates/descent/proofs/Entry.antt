@@ -2,13 +2,12 @@
 -- the descend of the one there and then the entry. Assumes nothing.
 use mathlib.Core.Path.{_≡_, sym, ap, _∙_, refl, subst}
 use mathlib.Core.Logic.{inl, inr}
-use mathlib.Core.Bool.{Bool, true, false, cond, not, _||_, true≢false}
+use mathlib.Core.Bool.{Bool, true, false, cond, not, _||_}
 use mathlib.Core.List.{List, [], _∷_, _++_}
 use Prim.Native.Nat.{ℕ, _+_, _≤_}
 use native.Mathlib.Omega.{arith}
 use borrow.Author.Tests.{eqb-false, eq-eqb, ne-eqb, ltb-true}
-use lib.Dec.{T, eqb, leb, ltb, leb→le}
-use lib.Ieee.Fits.{and-l, and-r}
+use lib.Dec.{T, eqb, ltb}
 use lib.ListN.{length, getD}
 use Rattle.leg.specs.Ticks.{Between}
 use Rattle.request.specs.Input.{isEntry, isTick, firstRefused, inputNumber}
@@ -21,7 +20,7 @@ use Rattle.questions.specs.declared.Place.{Place}
 use Rattle.field.specs.Airspace.{at3000, at2000, lateral, missed, nobody, inZone}
 use Rattle.field.specs.Lists.{every}
 use Rattle.questions.specs.Counts.{howMany, isEmpty, countedFor, approachHolds, potentialOf}
-use Rattle.questions.specs.Find.{placeOf, aircraftAt}
+use Rattle.questions.specs.Find.{aircraftAt}
 use Rattle.bounds.specs.Bounds.{withinBounds}
 use Rattle.rules.specs.declared.Answer.{Answer}
 use Rattle.rules.specs.Kinds.{placeBefore, zoneBefore, zoneAhead, absentChecks, headChecks, presenceChecks, verticalNeeds, lateralNeeds, descendNeeds}
@@ -31,14 +30,14 @@ use Rattle.rules.specs.Reason.{hasPlaces}
 use Rattle.rules.proofs.Checks.{Never, never-without, never-append, by-kind, owned, inputNumbers, presence-refuses, checks-refuse, input-numbered, checks-at}
 use Rattle.rules.proofs.StepLaws.{number-is, field-accepted, answer-accepted}
 use Rattle.rules.proofs.Refusals.{Passes, accepts, passes}
-use Rattle.field.proofs.TestLaws.{passed, pass, failed, decided, if-true, if-false, either-way}
+use Rattle.field.proofs.TestLaws.{passed, pass, decided, if-true, if-false, either-way}
 use Rattle.field.proofs.Shapes.{one-of-two}
 use Rattle.questions.proofs.FindLaws.{found-exactly}
 use Rattle.moves.proofs.EnterAbove.{enters-empty, enters-occupied}
 use Rattle.descent.specs.Entry.{butAlong, descendedBefore, InTwoSteps}
-use Rattle.descent.proofs.Down.{down, moved-down, none-above, elsewhere, approach-down, potential-down}
+use Rattle.descent.proofs.Down.{AloneAbove, down, moved-down, none-above, elsewhere, approach-down, potential-down}
 use Rattle.descent.proofs.DownWithin.{present-down, within-down}
-use Rattle.descent.proofs.Descent.{shaped, alone-above, none-below, descends}
+use Rattle.descent.proofs.Descent.{shaped, above, descends}
 
 -- ---- 20 is never answered
 
@@ -160,15 +159,15 @@ module _ (f : Field) (h : T (hasPlaces f)) (r : Request) (k : r .kind ≡ 1) (ac
   below : isEmpty f (at2000 side) ≡ true
   below = sym (ap (λ (c : Bool). c || isEmpty f (at2000 side)) occupied) ∙ met .1 .1 .1 .1 .1 .0
 
-  abbrev x : Aircraft
-  x = aircraftAt f side 1
+  abbrev alone : AloneAbove f side
+  alone = above f t side b (shaped f h t) occupied below
 
   -- the field after the descend
   abbrev g : Field
-  g = down f (shaped f h t) side b x (alone-above f t side b occupied) (none-below f t side b below)
+  g = down alone
 
   is-down : descended f side ≡ g
-  is-down = moved-down f (shaped f h t) side b x (alone-above f t side b occupied) (none-below f t side b below)
+  is-down = moved-down alone
 
   -- .. which is the first step
   first-step : descendedBefore f r ≡ g
@@ -179,10 +178,10 @@ module _ (f : Field) (h : T (hasPlaces f)) (r : Request) (k : r .kind ≡ 1) (ac
   unfolding howMany
   same-empty z l =
       let m = b .most in
-      ap (λ (q : List Aircraft). eqb (length q) 0) (elsewhere f (shaped f h t) side b x (alone-above f t side b occupied) (none-below f t side b below) z (λ e. omega arith) (λ e. omega arith))
+      ap (λ (q : List Aircraft). eqb (length q) 0) (elsewhere alone z (λ e. omega arith) (λ e. omega arith))
 
   nobody-above : inZone g side ≡ []
-  nobody-above = none-above f (shaped f h t) side b x (alone-above f t side b occupied) (none-below f t side b below)
+  nobody-above = none-above alone
 
   empty-above : isEmpty g side ≡ true
   unfolding howMany
@@ -196,21 +195,18 @@ module _ (f : Field) (h : T (hasPlaces f)) (r : Request) (k : r .kind ≡ 1) (ac
   then-passes : Passes g r
   then-passes =
       let l = b .least in
-      let q = shaped f h t in
-      let up = alone-above f t side b occupied in
-      let low = none-below f t side b below in
-      let none = found-exactly g (r .number) ∙ ap not (present-down f q t side b x up low (r .number)) ∙ sym (found-exactly f (r .number)) in
+      let none = found-exactly g (r .number) ∙ ap not (present-down t alone (r .number)) ∙ sym (found-exactly f (r .number)) in
       record {
         input = all .input;
-        before = passed (within-down f q t side b x up low);
+        before = passed (within-down t alone);
         checks =
             ap firstRefused (checks-at g r k)
             ∙ input.none-refused (absentChecks (placeBefore g r) ++ verticalNeeds g side) (
               none ∙ met .0,
               (
-                ap (λ (n : ℕ). ltb n 2) (potential-down f q side b x up low) ∙ met .1 .0,
+                ap (λ (n : ℕ). ltb n 2) (potential-down alone) ∙ met .1 .0,
                 (
-                  ap not (approach-down f q side b x up low side) ∙ met .1 .1 .0,
+                  ap not (approach-down alone side) ∙ met .1 .1 .0,
                   (
                     same-empty (missed side) (omega arith) ∙ met .1 .1 .1 .0,
                     (same-empty (lateral side) (omega arith) ∙ met .1 .1 .1 .1 .0, (ap (λ (c : Bool). c || isEmpty g (at2000 side)) empty-above, tt)),

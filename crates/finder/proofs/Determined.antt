@@ -92,8 +92,8 @@ module _ (e : Entry) (es gs : List Entry) (u : e .number ≢ 0) (z : HasZone e) 
   found-first : foundAmong (e .number) gs ≡ record { zone = e .zone; place = e .place }
   found-first = sym s ∙ if-true _ _ (same (e .number))
 
-  not-absent : (k : ℕ) → e .number ≤ k → InOrder k gs → ⊥
-  not-absent k l o = z u (ap (λ (p : Place). p .zone) (sym found-first ∙ absent k (e .number) u l gs o))
+  not-absent : InOrder (e .number) gs → ⊥
+  not-absent o = z u (ap (λ (p : Place). p .zone) (sym found-first ∙ absent (e .number) (e .number) u (omega arith) gs o))
 
 -- Entries of one length in order, the used ones with a zone, that say the same of every number are equal.
 pub order-determines : (k : ℕ) (es gs : List Entry) → length es ≡ length gs → InOrder k es → InOrder k gs → HaveZones es → HaveZones gs
@@ -105,11 +105,11 @@ order-determines k (e ∷ es) (g ∷ gs) l (inl o) (inl p) y z h = all-unused (e
 order-determines k (e ∷ es) (g ∷ gs) l (inl o) (inr p) y z h =
     let above = p .0 in
     let used : g .number ≢ 0 = λ t. omega (arith, t, above) in
-    absurd (not-absent g gs (e ∷ es) used (z .0) (sym (h (g .number) used)) (g .number) (omega arith) (inl o))
+    absurd (not-absent g gs (e ∷ es) used (z .0) (sym (h (g .number) used)) (inl o))
 order-determines k (e ∷ es) (g ∷ gs) l (inr o) (inl p) y z h =
     let above = o .0 in
     let used : e .number ≢ 0 = λ t. omega (arith, t, above) in
-    absurd (not-absent e es (g ∷ gs) used (y .0) (h (e .number) used) (e .number) (omega arith) (inl p))
+    absurd (not-absent e es (g ∷ gs) used (y .0) (h (e .number) used) (inl p))
 order-determines k (e ∷ es) (g ∷ gs) l (inr o) (inr p) y z h =
     go (order-determines (e .number) es gs (omega (arith, l)) (o .1)) (ltb (e .number) (g .number)) (ltb (g .number) (e .number)) refl refl
   where
@@ -139,10 +139,10 @@ order-determines k (e ∷ es) (g ∷ gs) l (inr o) (inr p) y z h =
         → (b c : Bool) → ltb (e .number) (g .number) ≡ b → ltb (g .number) (e .number) ≡ c → _≡_ {A = List Entry} (e ∷ es) (g ∷ gs)
     go rest true c s t =
         let less = ltb-true (e .number) (g .number) s in
-        absurd (not-absent e es (g ∷ gs) e-used (y .0) (h (e .number) e-used) (e .number) (omega arith) (inr (less, p .1)))
+        absurd (not-absent e es (g ∷ gs) e-used (y .0) (h (e .number) e-used) (inr (less, p .1)))
     go rest false true s t =
         let less = ltb-true (g .number) (e .number) t in
-        absurd (not-absent g gs (e ∷ es) g-used (z .0) (sym (h (g .number) g-used)) (g .number) (omega arith) (inr (less, o .1)))
+        absurd (not-absent g gs (e ∷ es) g-used (z .0) (sym (h (g .number) g-used)) (inr (less, o .1)))
     go rest false false s t =
         let most = ltb-false (e .number) (g .number) s in
         let least = ltb-false (g .number) (e .number) t in

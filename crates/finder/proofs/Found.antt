@@ -128,8 +128,8 @@ pub record More (f : Field) (e : Entry) (es : List Entry) (rs : List Entry) : Ty
 
 module _ (f : Field) where
   -- at an unused place
-  at-unused : (e : Entry) → Own f e → (xs : List Entry) → Owns f xs → More f e (unused ∷ xs) (e ∷ xs)
-  at-unused e o xs os =
+  at-unused : {e : Entry} {xs : List Entry} → Own f e → Owns f xs → More f e (unused ∷ xs) (e ∷ xs)
+  at-unused {e} {xs} o os =
       record {
         owns = (inr o, os);
         room = omega arith;
@@ -139,8 +139,8 @@ module _ (f : Field) where
       }
 
   -- where its number has a place
-  at-same : (e x : Entry) → Own f e → Own f x → e .number ≡ x .number → (xs : List Entry) → Owns f xs → More f e (x ∷ xs) (x ∷ xs)
-  at-same e x o p g xs os =
+  at-same : {e x : Entry} {xs : List Entry} → Own f e → Own f x → e .number ≡ x .number → Owns f xs → More f e (x ∷ xs) (x ∷ xs)
+  at-same {e} {x} {xs} o p g os =
       record {
         owns = (inr p, os);
         room = omega arith;
@@ -153,8 +153,8 @@ module _ (f : Field) where
       go n false t = refl
 
   -- before another, which goes on
-  at-before : (e x : Entry) → Own f e → Own f x → (xs rs : List Entry) → More f x xs rs → More f e (x ∷ xs) (e ∷ rs)
-  at-before e x o p xs rs m =
+  at-before : {e x : Entry} {xs rs : List Entry} → Own f e → Own f x → More f x xs rs → More f e (x ∷ xs) (e ∷ rs)
+  at-before {e} {x} {xs} {rs} o p m =
       let used = if-false {A = ℕ} 1 0 (ne-eqb (x .number) 0 (p .nonzero)) in
       let other = if-false {A = ℕ} 1 0 (ne-eqb (e .number) 0 (o .nonzero)) in
       let left = m .room in
@@ -168,8 +168,8 @@ module _ (f : Field) where
       }
 
   -- behind another
-  at-behind : (e x : Entry) → Own f x → e .number ≢ x .number → (xs rs : List Entry) → More f e xs rs → More f e (x ∷ xs) (x ∷ rs)
-  at-behind e x p g xs rs m =
+  at-behind : {e x : Entry} {xs rs : List Entry} → Own f x → e .number ≢ x .number → More f e xs rs → More f e (x ∷ xs) (x ∷ rs)
+  at-behind {e} {x} {xs} p g m =
       let left = m .room in
       record {
         owns = (inr p, m .owns);
@@ -196,12 +196,12 @@ module _ (f : Field) where
       go (inl z) later other =
           let made = put-before e unused xs (before-unused e unused (o .nonzero) refl) ∙ ap (λ (l : List Entry). e ∷ l) (put-unused xs) in
           subst (λ (y : Entry). More f e (y ∷ xs) (putAmong e (y ∷ xs))) (sym z)
-          (subst (More f e (unused ∷ xs)) (sym made) (at-unused e o xs (os .1)))
+          (subst (More f e (unused ∷ xs)) (sym made) (at-unused o (os .1)))
       go (inr p) later other =
           put-by (More f e (x ∷ xs)) e x xs (o .nonzero) (p .nonzero)
-          (λ g. at-before e x o p xs (putAmong x xs) (other p (used p)))
-          (λ g. at-same e x o p g xs (os .1))
-          (λ g. at-behind e x p (λ t. omega (arith, g, t)) xs (putAmong e xs) (later (used p)))
+          (λ g. at-before o p (other p (used p)))
+          (λ g. at-same o p g (os .1))
+          (λ g. at-behind p (λ t. omega (arith, g, t)) (later (used p)))
 
   -- ---- all numbers of a list
 

@@ -20,13 +20,14 @@ pub record Putting (e : Entry) (xs zs : List Entry) (moved : Entry) (i : ℕ) : 
   pub made : zs ≡ take i (putAmong e xs) ++ drop i xs
   pub rest : drop i (putAmong e xs) ≡ putAmong moved (drop i xs)
 
-module _ (e : Entry) (xs : List Entry) where
-  pub putting-none : length xs ≡ 5 → Putting e xs xs e 0
-  putting-none h = record { within = omega arith; long = h; made = refl; rest = refl }
+-- none is written, ..
+pub putting-none : (e : Entry) (xs : List Entry) → length xs ≡ 5 → Putting e xs xs e 0
+putting-none e xs h = record { within = omega arith; long = h; made = refl; rest = refl }
 
-  pub putting-more : (zs : List Entry) (moved : Entry) (i : ℕ) (d : Entry) {y m : Entry} → Putting e xs zs moved i → i < 5
-      → y ≡ firstOf moved (getD zs i d) → m ≡ secondOf moved (getD zs i d) → Putting e xs (set zs i y) m (i + 1)
-  putting-more zs moved i d {y} {m} p h first second =
+module _ {e : Entry} {xs zs : List Entry} {moved : Entry} {i : ℕ} (p : Putting e xs zs moved i) where
+  -- .. one more, ..
+  pub putting-more : (d : Entry) {y m : Entry} → i < 5 → y ≡ firstOf moved (getD zs i d) → m ≡ secondOf moved (getD zs i d) → Putting e xs (set zs i y) m (i + 1)
+  putting-more d {y} {m} h first second =
       let ys : List Entry = putAmong e xs in
       let x : Entry = getD xs i unused in
       let long = p .long in
@@ -44,14 +45,13 @@ module _ (e : Entry) (xs : List Entry) where
         rest = tail ∙ ap (λ (k : Entry). putAmong k (drop (i + 1) xs)) (sym (second ∙ ap (secondOf moved) here));
       }
 
-  pub putting-all : (zs : List Entry) (moved : Entry) (i : ℕ) → Putting e xs zs moved i → 5 ≤ i → zs ≡ putAmong e xs
-  putting-all zs moved i p h =
-      let long = p .long in
-      filled-all zs (putAmong e xs) xs i (omega (arith, long, h)) (put-length e xs) (p .made)
+  -- .. or all
+  pub putting-all : 5 ≤ i → zs ≡ putAmong e xs
+  putting-all h = let long = p .long in filled-all zs (putAmong e xs) xs i (omega (arith, long, h)) (put-length e xs) (p .made)
 
   -- an unused one that goes on leaves the rest
-  pub putting-stop : (zs : List Entry) (moved : Entry) (i : ℕ) → Putting e xs zs moved i → moved .number ≡ 0 → zs ≡ putAmong e xs
-  putting-stop zs moved i p z = p .made ∙ ap (λ (l : List Entry). take i (putAmong e xs) ++ l) (sym (p .rest ∙ put-zero moved z (drop i xs))) ∙ take-append-drop i (putAmong e xs)
+  pub putting-stop : moved .number ≡ 0 → zs ≡ putAmong e xs
+  putting-stop z = p .made ∙ ap (λ (l : List Entry). take i (putAmong e xs) ++ l) (sym (p .rest ∙ put-zero moved z (drop i xs))) ∙ take-append-drop i (putAmong e xs)
 
 -- entries put after others
 pub put-after : (xs ys es : List Entry) → putEach (xs ++ ys) es ≡ putEach ys (putEach xs es)

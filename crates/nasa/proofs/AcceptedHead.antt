@@ -1,13 +1,13 @@
 -- What an accepted request of kinds 3 to 11 tells of the field: where its aircraft is, and the queue there. Assumes nothing.
 use mathlib.Core.Path.{_≡_, refl, sym, ap, _∙_, subst}
 use mathlib.Core.Logic.{_≢_, _⊎_, inl, inr}
-use mathlib.Core.Bool.{Bool, true, false, cond, not, _||_, true≢false}
+use mathlib.Core.Bool.{Bool, true, false, cond, not, _&&_, _||_, true≢false}
 use mathlib.Core.List.{List, [], _∷_, _++_, map}
 use Prim.Native.Nat.{ℕ, suc, _+_, _≤_, _<_}
 use native.Mathlib.Omega.{arith}
 use borrow.Author.Tests.{eqb-true, eqb-false}
 use lib.Dec.{T, eqb, leb, leb→le}
-use lib.Ieee.Fits.{and-l}
+use lib.Ieee.Fits.{and-l, and-r}
 use lib.ListN.{length, getD, length-map}
 use Rattle.request.specs.Input.{within, isEntry, isTick, firstRefused}
 use Rattle.request.specs.declared.Request.{Request}
@@ -26,7 +26,7 @@ use Rattle.rules.specs.Reason.{hasPlaces}
 use Rattle.order.specs.Model.{Side, rightSide, leftSide}
 use Rattle.rules.proofs.Checks.{HeadPassed, besides, owned, checks-at, head-passed}
 use Rattle.rules.proofs.Refusals.{passes}
-use Rattle.field.proofs.TestLaws.{decided, pass, if-false, each-operation}
+use Rattle.field.proofs.TestLaws.{decided, pass, failed, if-false, each-operation}
 use Rattle.questions.proofs.FindLaws.{at, found-exactly, found-there}
 use Rattle.laws.proofs.EditLaws.{Shaped}
 use Rattle.laws.proofs.BoundLaws.{within-each}
@@ -34,6 +34,7 @@ use Rattle.descent.proofs.Descent.{shaped}
 use Rattle.nasa.specs.Definitions.{ScaAircraft, ScaZone, SCA}
 use Rattle.nasa.specs.Rules.{forFirst, nobodyIn, zoneNumber}
 use Rattle.nasa.specs.Stands.{seen, stateOf}
+use Rattle.nasa.proofs.States.{First, someone, Move}
 
 -- ---- sums over zones
 one-in-total : (g : ℕ → ℕ) (zs : List ℕ) (z : ℕ) → isIn z zs ≡ true → g z ≤ total g zs
@@ -61,16 +62,41 @@ two-in-total g (w ∷ zs) y z i j h = go (decided (eqb w y)) (decided (eqb w z))
     go (inr a) (inl b) later = let e : g w ≡ g z = ap g (eqb-true w z b) in let k = one-in-total g zs y (rest-y a) in omega arith
     go (inr a) (inr b) later = let k = later (rest-y a) (rest-z b) in omega arith
 
--- a zone of the operation area has room where another has somebody
-pub has-room : (f : Field) → T (withinBounds f) → (z w : ℕ) → T (within 1 12 z) → T (within 1 12 w) → z ≢ w → 1 ≤ howMany f z → howMany f w < 4
-unfolding boundA inOperation
-has-room f t z w a b h l =
-    let four = leb→le (inOperation f) 4 (and-l (leb (inOperation f) 4) (leb (howMany f 13) 1) (within-each f t .bound-a)) in
-    let both = two-in-total (howMany f) operation z w (listed z a) (listed w b) h in
-    omega arith
-  where
-    listed : (z : ℕ) → T (within 1 12 z) → isIn z operation ≡ true
-    listed = each-operation (λ z. isIn z operation ≡ true) (refl, refl, refl, refl, refl, refl, refl, refl, refl, refl, refl, refl)
+-- ---- two zones
+
+-- of the operation area, and not the same
+abbrev pub differing : ScaZone → ScaZone → Bool
+differing z w = within 1 12 (zoneNumber z) && within 1 12 (zoneNumber w) && not (eqb (zoneNumber z) (zoneNumber w))
+
+-- they have different numbers, ..
+pub unlike : (z w : ScaZone) → T (differing z w) → zoneNumber z ≢ zoneNumber w
+unlike z w d = eqb-false (zoneNumber z) (zoneNumber w) (failed (and-r (within 1 12 (zoneNumber z) && within 1 12 (zoneNumber w)) (not (eqb (zoneNumber z) (zoneNumber w))) d))
+
+-- .. each of the operation area
+pub both-inside : (z w : ScaZone) → T (differing z w) → T (within 1 12 (zoneNumber z)) × T (within 1 12 (zoneNumber w))
+both-inside z w d =
+    let a = within 1 12 (zoneNumber z) in
+    let b = within 1 12 (zoneNumber w) in
+    let t = and-l (a && b) (not (eqb (zoneNumber z) (zoneNumber w))) d in
+    (and-l a b t, and-r a b t)
+
+module _ {f : Field} {z : ScaZone} (t : T (withinBounds f)) (F : First f z) (w : ScaZone) (d : T (differing z w)) where
+  -- where the one has somebody the other has room, ..
+  pub has-room : howMany f (zoneNumber w) < 4
+  unfolding boundA inOperation
+  has-room =
+      let four = leb→le (inOperation f) 4 (and-l (leb (inOperation f) 4) (leb (howMany f 13) 1) (within-each f t .bound-a)) in
+      let i = both-inside z w d in
+      let both = two-in-total (howMany f) operation (zoneNumber z) (zoneNumber w) (listed (zoneNumber z) (i .0)) (listed (zoneNumber w) (i .1)) (unlike z w d) in
+      let l = someone F in
+      omega arith
+    where
+      listed : (z : ℕ) → T (within 1 12 z) → isIn z operation ≡ true
+      listed = each-operation (λ z. isIn z operation ≡ true) (refl, refl, refl, refl, refl, refl, refl, refl, refl, refl, refl, refl)
+
+  -- .. and the first can go there
+  abbrev pub move : Shaped f → Move f z w
+  move k = record { shaped = k; first = F; apart = λ q. unlike z w d (sym q); room = has-room }
 
 -- ---- one of two zones, by its side
 pub of-side : (zs : Side → ScaZone) (low : ℕ) → zoneNumber (zs rightSide) ≡ low → zoneNumber (zs leftSide) ≡ suc low → (z : ℕ) → within low (suc low) z ≡ true → (s : Side) × (z ≡ zoneNumber (zs s))
@@ -86,11 +112,13 @@ of-side zs low p q z t =
 pub only-zone : (n z : ℕ) → within n n z ≡ true → z ≡ n
 only-zone n z t = let l = input.within-low n n z t in let h = input.within-high n n z t in omega arith
 
--- ---- the first of a zone
-pub first-of : (f : Field) (z : ScaZone) (x : field.Aircraft) (rest : List field.Aircraft) → inZone f (zoneNumber z) ≡ x ∷ rest → (next : ScaAircraft → List ScaAircraft → List SCA)
-    → forFirst (stateOf f .queue z) next ≡ next (seen f (zoneNumber z) x) (map (seen f (zoneNumber z)) rest)
+-- ---- the queues of a state
+
+-- a transition of a zone with a first goes on with it and the rest
+pub first-of : {f : Field} {z : ScaZone} (F : First f z) (next : ScaAircraft → List ScaAircraft → List SCA)
+    → forFirst (stateOf f .queue z) next ≡ next (seen f (zoneNumber z) (F .x)) (map (seen f (zoneNumber z)) (F .rest))
 unfolding stateOf
-first-of f z x rest e next = ap (λ (l : List field.Aircraft). forFirst (map (seen f (zoneNumber z)) l) next) e
+first-of {f} {z} F next = ap (λ (l : List field.Aircraft). forFirst (map (seen f (zoneNumber z)) l) next) (F .here)
 
 pub how-many-in : (f : Field) (z : ScaZone) → length (stateOf f .queue z) ≡ howMany f (zoneNumber z)
 unfolding stateOf howMany
@@ -101,45 +129,53 @@ nobody-in f z = ap (λ (n : ℕ). eqb n 0) (how-many-in f z)
 
 -- ---- an accepted request
 
--- its aircraft x at the head of zone z
-pub record Heads (f : Field) (r : Request) (z : ℕ) : Type 0 where
-  pub x : field.Aircraft
-  pub rest : List field.Aircraft
-  pub here : inZone f z ≡ x ∷ rest
-  pub named : x .number ≡ r .number
+-- a request of kind k is accepted, on a field with its places
+pub record Accepted (f : Field) (r : Request) (k : ℕ) : Type 0 where
+  pub places : T (hasPlaces f)
+  pub kind : r .kind ≡ k
+  pub accepted : numberOf f r ≡ 0
 
-module _ (f : Field) (h : T (hasPlaces f)) (r : Request) (e : numberOf f r ≡ 0) where
+-- a request's aircraft is at the head of zone z, on a field within the bounds and with its places
+pub record Heads (f : Field) (r : Request) (z : ScaZone) : Type 0 where
+  pub bounds : T (withinBounds f)
+  pub shaped : Shaped f
+  pub first : First f z
+  pub named : first .x .number ≡ r .number
+
+module _ {f : Field} {r : Request} {k : ℕ} (A : Accepted f r k) where
   pub bounded : T (withinBounds f)
-  bounded = pass (passes f r e .before)
+  bounded = pass (passes f r (A .accepted) .before)
 
   pub shape : Shaped f
-  shape = shaped f h bounded
+  shape = shaped f (A .places) bounded
 
-  module _ (k : ℕ) (q : r .kind ≡ k) (no-entry : isEntry k ≡ false) (no-tick : isTick k ≡ false) where
+  module _ (no-entry : isEntry k ≡ false) (no-tick : isTick k ≡ false) where
     -- it has passed 12, 26, 13 and 14, and what its kind needs besides
     pub heading : HeadPassed k (placeBefore f r) (owned f r) (besides f r k)
     heading =
         let here = placeBefore f r in
         let heads = headChecks k here (owned f r) in
         let all : presenceChecks k here (owned f r) ≡ heads = if-false (absentChecks here) (cond (isTick k) [] heads) no-entry ∙ if-false [] heads no-tick in
-        head-passed k here (owned f r) (besides f r k) (ap (λ (l : List (ℕ × Bool)). firstRefused (l ++ besides f r k)) (sym all) ∙ sym (ap firstRefused (checks-at f r q)) ∙ passes f r e .checks)
+        head-passed k here (owned f r) (besides f r k)
+        (ap (λ (l : List (ℕ × Bool)). firstRefused (l ++ besides f r k)) (sym all) ∙ sym (ap firstRefused (checks-at f r (A .kind))) ∙ passes f r (A .accepted) .checks)
 
     -- it is found, at the head
-    pub found : placeBefore f r ≡ at (zoneBefore f r) 1
+    found : placeBefore f r ≡ at (zoneBefore f r) 1
     found = ap (at (zoneBefore f r)) (eqb-true (placeBefore f r .place) 1 (heading .first))
 
-    pub heads : Heads f r (zoneBefore f r)
+    pub heads : (z : ScaZone) → zoneBefore f r ≡ zoneNumber z → Heads f r z
     unfolding howMany aircraftAt
-    heads =
+    heads z e =
         let present : isIn (r .number) (numbersIn f everywhere) ≡ true = is-in (isIn (r .number) (numbersIn f everywhere)) (found-exactly f (r .number)) (heading .known) in
         let p = found-there f (r .number) present in
-        go (inZone f (zoneBefore f r)) refl (subst (λ (y : Place). y .place ≤ howMany f (zoneBefore f r)) found (p .last))
-        (subst (λ (y : Place). aircraftAt f (zoneBefore f r) (y .place) .number ≡ r .number) found (p .has))
+        let there : placeBefore f r ≡ at (zoneNumber z) 1 = found ∙ ap (λ (y : ℕ). at y 1) e in
+        go (inZone f (zoneNumber z)) refl (subst (λ (y : Place). y .place ≤ howMany f (y .zone)) there (p .last))
+        (subst (λ (y : Place). aircraftAt f (y .zone) (y .place) .number ≡ r .number) there (p .has))
       where
         is-in : (b : Bool) → eqb (zoneBefore f r) 0 ≡ not b → not (eqb (zoneBefore f r) 0) ≡ true → b ≡ true
         is-in true a c = refl
         is-in false a c = absurd (true≢false (sym c ∙ ap not a))
 
-        go : (l : List field.Aircraft) → inZone f (zoneBefore f r) ≡ l → 1 ≤ length l → getD (nobody ∷ l) 1 nobody .number ≡ r .number → Heads f r (zoneBefore f r)
+        go : (l : List field.Aircraft) → inZone f (zoneNumber z) ≡ l → 1 ≤ length l → getD (nobody ∷ l) 1 nobody .number ≡ r .number → Heads f r z
         go [] i a b = absurd (omega arith)
-        go (x ∷ l) i a b = record { x = x; rest = l; here = i; named = b }
+        go (x ∷ l) i a b = record { bounds = bounded; shaped = shape; first = record { x = x; rest = l; here = i }; named = b }

@@ -2,7 +2,7 @@
 use mathlib.Core.Path.{_≡_, refl, sym, ap, _∙_, subst}
 use mathlib.Core.Logic.{_⊎_, inl, inr}
 use mathlib.Core.Bool.{Bool, true, false, _&&_, _||_, true≢false, or-assoc, and-comm}
-use mathlib.Core.List.{List, [], _∷_, map}
+use mathlib.Core.List.{List, [], _∷_}
 use Prim.Native.Nat.{ℕ, suc, _-_}
 use native.Mathlib.Omega.{arith}
 use borrow.Author.Tests.{leb-true, leb-false}
@@ -13,14 +13,13 @@ use Rattle.request.specs.declared.Request.{Request}
 use Rattle.request.proofs.InputTests as input
 use Rattle.field.specs.declared.Aircraft as field
 use Rattle.field.specs.declared.Field.{Field}
-use Rattle.field.specs.Airspace.{opposite, sideOf, at2000, inZone, orderOf}
+use Rattle.field.specs.Airspace.{opposite, sideOf, at2000, orderOf}
 use Rattle.field.specs.Airspace as airspace
 use Rattle.field.specs.Lists.{isIn}
 use Rattle.edits.specs.Edits.{before}
 use Rattle.questions.specs.Counts.{howMany}
 use Rattle.questions.specs.Find.{leaderZone}
 use Rattle.questions.specs.Find as find
-use Rattle.bounds.specs.Bounds.{withinBounds}
 use Rattle.rules.specs.Kinds.{zoneBefore, zoneAhead, startsFrom, flownOutCheck, mayApproach, mayMerge, baseFree, moved, approached}
 use Rattle.rules.specs.Step.{effectOf, numberOf}
 use Rattle.rules.specs.Reason.{hasPlaces}
@@ -30,33 +29,34 @@ use Rattle.field.proofs.TestLaws.{decided, if-true, if-false, same}
 use Rattle.questions.proofs.FindLaws.{numbers}
 use Rattle.line.proofs.CountedOnLine.{not-13}
 use Rattle.nasa.specs.Definitions.{ScaAircraft, ScaZone, holding2, lez, base, intermediate, final, SCA, firstInSequence, leader, onZone, scaOnApproach}
-use Rattle.nasa.specs.Rules.{zoneNumber, withQueue, add, mayInitiate, verticalApproachInitiation, lateralApproachInitiation, merging}
+use Rattle.nasa.specs.Rules.{zoneNumber, mayInitiate, verticalApproachInitiation, lateralApproachInitiation, merging}
 use Rattle.nasa.specs.Stands.{sideNamed, seen, stateOf, sideBefore, approachInitiation, Is}
-use Rattle.nasa.proofs.AcceptedHead.{of-side, first-of, how-many-in, Heads, bounded, heading, heads}
+use Rattle.nasa.proofs.States.{there}
+use Rattle.nasa.proofs.AcceptedHead.{differing, of-side, first-of, how-many-in, Accepted, Heads, heading, heads}
 use Rattle.nasa.proofs.AskedOfState.{in-sequence, first-seen, approach-seen, merge-seen}
-use Rattle.nasa.proofs.DescendFinalTaxi.{leads, each-side, differing, here, there, goes}
+use Rattle.nasa.proofs.DescendFinalTaxi.{leads, each-side, goes}
 
 -- ---- what is asked of a request's aircraft, at the head of zone z of the operation area
-module _ (f : Field) (t : T (withinBounds f)) (r : Request) (z : ScaZone) (at : zoneBefore f r ≡ zoneNumber z) (a : Heads f r (zoneBefore f r)) (u : T (within 1 12 (zoneNumber z))) where
+module _ {f : Field} {r : Request} {z : ScaZone} (a : Heads f r z) (u : T (within 1 12 (zoneNumber z))) where
   abbrev n : ℕ
-  n = a .x .number
+  n = a .first .x .number
 
   abbrev order : List ℕ
   order = orderOf (f .sequence)
 
   abbrev pub one : ScaAircraft
-  one = seen f (zoneNumber z) (a .x)
+  one = seen f (zoneNumber z) (a .first .x)
 
   pub listed : isIn n order ≡ true
   listed =
-      in-sequence f t (zoneNumber z) u n
-      (ap (λ (l : List field.Aircraft). isIn n (numbers l)) (ap (inZone f) (sym at) ∙ a .here) ∙ ap (λ (b : Bool). b || isIn n (numbers (a .rest))) (same n))
+      in-sequence f (a .bounds) (zoneNumber z) u n
+      (ap (λ (l : List field.Aircraft). isIn n (numbers l)) (a .first .here) ∙ ap (λ (b : Bool). b || isIn n (numbers (a .first .rest))) (same n))
 
   pub seq-is : one .seq ≡ suc (before n order)
   seq-is = if-false 1 (suc (before n order)) (not-13 (zoneNumber z) u)
 
   pub first-is : firstInSequence one ≡ find.isFirst (f .sequence) (r .number)
-  first-is = ap (λ (s : ℕ). eqb s 1) seq-is ∙ first-seen f t n listed ∙ ap (find.isFirst (f .sequence)) (a .named)
+  first-is = ap (λ (s : ℕ). eqb s 1) seq-is ∙ first-seen f (a .bounds) n listed ∙ ap (find.isFirst (f .sequence)) (a .named)
 
   ahead-is : leaderZone f n ≡ zoneAhead f r
   ahead-is = ap (leaderZone f) (a .named)
@@ -67,14 +67,14 @@ module _ (f : Field) (t : T (withinBounds f)) (r : Request) (z : ScaZone) (at : 
       or-assoc (firstInSequence one) (onZone (stateOf f .queue intermediate) (leader one)) (onZone (stateOf f .queue final) (leader one))
       ∙ ap (λ (b : Bool). b || (onZone (stateOf f .queue intermediate) (leader one) || onZone (stateOf f .queue final) (leader one))) first-is
       ∙ ap (λ (s : ℕ). find.isFirst (f .sequence) (r .number) || (onZone (stateOf f .queue intermediate) (s - 1) || onZone (stateOf f .queue final) (s - 1))) seq-is
-      ∙ ap (λ (b : Bool). find.isFirst (f .sequence) (r .number) || b) (merge-seen f t n listed ∙ ap (within 11 12) ahead-is)
+      ∙ ap (λ (b : Bool). find.isFirst (f .sequence) (r .number) || b) (merge-seen f (a .bounds) n listed ∙ ap (within 11 12) ahead-is)
 
   approaches : (firstInSequence one || scaOnApproach (stateOf f) (leader one)) ≡ mayApproach (f .sequence) (r .number) (zoneAhead f r)
   unfolding mayApproach
   approaches =
       ap (λ (b : Bool). b || scaOnApproach (stateOf f) (leader one)) first-is
       ∙ ap (λ (s : ℕ). find.isFirst (f .sequence) (r .number) || scaOnApproach (stateOf f) (s - 1)) seq-is
-      ∙ ap (λ (b : Bool). find.isFirst (f .sequence) (r .number) || b) (approach-seen f t n listed ∙ ap (within 9 12) ahead-is)
+      ∙ ap (λ (b : Bool). find.isFirst (f .sequence) (r .number) || b) (approach-seen f (a .bounds) n listed ∙ ap (within 9 12) ahead-is)
 
   pub initiates : (s : Side) → sideOf (zoneBefore f r) ≡ num s → mayInitiate (stateOf f) s one ≡ (baseFree f (sideOf (zoneBefore f r)) && mayApproach (f .sequence) (r .number) (zoneAhead f r))
   unfolding baseFree opposite
@@ -87,23 +87,24 @@ module _ (f : Field) (t : T (withinBounds f)) (r : Request) (z : ScaZone) (at : 
 
 -- ---- kind 5
 module _ (f : Field) (h : T (hasPlaces f)) (r : Request) (k : r .kind ≡ 5) (e : numberOf f r ≡ 0) where
+  accepted-5 : Accepted f r 5
+  accepted-5 = record { places = h; kind = k; accepted = e }
+
   merge-from : (s : Side) → zoneBefore f r ≡ zoneNumber (base s) → Is f r (merging s)
   unfolding merging
   merge-from s at =
-      let a = heads f h r e 5 k refl refl in
-      let d = each-side (λ s. T (differing (base s) intermediate)) tt tt s in
+      let a = heads accepted-5 refl refl (base s) at in
       let u = each-side (λ s. T (within 1 12 (zoneNumber (base s)))) tt tt s in
-      let others = first-passes 15 (flownOutCheck f (zoneBefore f r) .1) ((22, mayMerge (f .sequence) (r .number) (zoneAhead f r)) ∷ []) (omega arith) (heading f h r e 5 k refl refl .others) .1 in
+      let others = first-passes 15 (flownOutCheck f (zoneBefore f r) .1) ((22, mayMerge (f .sequence) (r .number) (zoneAhead f r)) ∷ []) (omega arith) (heading accepted-5 refl refl .others) .1 in
       let met = first-passes 22 (mayMerge (f .sequence) (r .number) (zoneAhead f r)) [] (omega arith) others .0 in
-      leads f r (merging s) (there f h r e (base s) intermediate at a d) (moved f (zoneNumber (base s)) 11) e
+      leads f r (merging s) e (goes a intermediate (each-side (λ s. T (differing (base s) intermediate)) tt tt s))
       (effect-at f r k ∙ ap (λ (y : ℕ). moved f y 11) at)
-      (first-of f (base s) (a .x) (a .rest) (here f h r e (base s) intermediate at a d) _ ∙ if-true _ [] (merges f (bounded f h r e) r (base s) at a u ∙ met))
-      (goes f h r e (base s) intermediate at a d)
+      (first-of (a .first) _ ∙ if-true _ [] (merges a u ∙ met))
 
   pub merge-is : Is f r (merging (sideBefore f r))
   unfolding startsFrom sideOf
   merge-is =
-      let s = of-side base 9 refl refl (zoneBefore f r) (heading f h r e 5 k refl refl .starts) in
+      let s = of-side base 9 refl refl (zoneBefore f r) (heading accepted-5 refl refl .starts) in
       let own : sideBefore f r ≡ s .0 = ap (λ (z : ℕ). sideNamed (sideOf z)) (s .1) ∙ each-side (λ s. sideNamed (sideOf (zoneNumber (base s))) ≡ s) refl refl (s .0) in
       subst (λ (t : Side). Is f r (merging t)) (sym own) (merge-from (s .0) (s .1))
 
@@ -131,6 +132,9 @@ lower z t b =
     ]
 
 module _ (f : Field) (h : T (hasPlaces f)) (r : Request) (k : r .kind ≡ 4) (e : numberOf f r ≡ 0) where
+  accepted-4 : Accepted f r 4
+  accepted-4 = record { places = h; kind = k; accepted = e }
+
   abbrev z₀ : ℕ
   z₀ = zoneBefore f r
 
@@ -144,28 +148,25 @@ module _ (f : Field) (h : T (hasPlaces f)) (r : Request) (k : r .kind ≡ 4) (e 
   from-2000 : (s : Side) → z₀ ≡ zoneNumber (holding2 s) → Is f r (verticalApproachInitiation s)
   unfolding verticalApproachInitiation approached
   from-2000 s at =
-      let a = heads f h r e 4 k refl refl in
-      let d = each-side (λ s. T (differing (holding2 s) (base s))) tt tt s in
+      let a = heads accepted-4 refl refl (holding2 s) at in
       let u = each-side (λ s. T (within 1 12 (zoneNumber (holding2 s)))) tt tt s in
       let low : within 5 6 z₀ ≡ false = ap (within 5 6) at ∙ each-side (λ s. within 5 6 (zoneNumber (holding2 s)) ≡ false) refl refl s in
       let own : sideOf z₀ ≡ num s = ap sideOf at ∙ side-of-2000 s in
       let to : airspace.base (sideOf z₀) ≡ zoneNumber (base s) = ap airspace.base own ∙ base-of s in
-      let met = first-passes 22 (within 5 6 z₀ || may) ((23, within 5 6 z₀ || free) ∷ []) (omega arith) (heading f h r e 4 k refl refl .others) in
+      let met = first-passes 22 (within 5 6 z₀ || may) ((23, within 5 6 z₀ || free) ∷ []) (omega arith) (heading accepted-4 refl refl .others) in
       let p : may ≡ true = sym (ap (λ (b : Bool). b || may) low) ∙ met .0 in
       let q : free ≡ true = sym (ap (λ (b : Bool). b || free) low) ∙ first-passes 23 (within 5 6 z₀ || free) [] (omega arith) (met .1) .0 in
-      leads f r (verticalApproachInitiation s) (there f h r e (holding2 s) (base s) at a d) (moved f (zoneNumber (holding2 s)) (zoneNumber (base s))) e
+      leads f r (verticalApproachInitiation s) e (goes a (base s) (each-side (λ s. T (differing (holding2 s) (base s))) tt tt s))
       (effect-at f r k ∙ if-false _ (moved f z₀ (airspace.base (sideOf z₀))) low ∙ ap (moved f z₀) to ∙ ap (λ (y : ℕ). moved f y (zoneNumber (base s))) at)
-      (first-of f (holding2 s) (a .x) (a .rest) (here f h r e (holding2 s) (base s) at a d) _
-      ∙ if-true _ [] (initiates f (bounded f h r e) r (holding2 s) at a u s own ∙ ap (λ (b : Bool). b && may) q ∙ p))
-      (goes f h r e (holding2 s) (base s) at a d)
+      (first-of (a .first) _ ∙ if-true _ [] (initiates a u s own ∙ ap (λ (b : Bool). b && may) q ∙ p))
 
   -- from lateral: to base, or to 2000
   from-lateral : (s : Side) → z₀ ≡ zoneNumber (lez s) → Is f r (lateralApproachInitiation s)
   unfolding lateralApproachInitiation approached
   from-lateral s at = go (decided (may && free))
     where
-      a : Heads f r z₀
-      a = heads f h r e 4 k refl refl
+      a : Heads f r (lez s)
+      a = heads accepted-4 refl refl (lez s) at
 
       u : T (within 1 12 (zoneNumber (lez s)))
       u = each-side (λ s. T (within 1 12 (zoneNumber (lez s)))) tt tt s
@@ -176,25 +177,24 @@ module _ (f : Field) (h : T (hasPlaces f)) (r : Request) (k : r .kind ≡ 4) (e 
       low : within 5 6 z₀ ≡ true
       low = ap (within 5 6) at ∙ each-side (λ s. within 5 6 (zoneNumber (lez s)) ≡ true) refl refl s
 
-      asked : mayInitiate (stateOf f) s (seen f (zoneNumber (lez s)) (a .x)) ≡ (may && free)
-      asked = initiates f (bounded f h r e) r (lez s) at a u s own ∙ and-comm free may
+      asked : mayInitiate (stateOf f) s (seen f (zoneNumber (lez s)) (a .first .x)) ≡ (may && free)
+      asked = initiates a u s own ∙ and-comm free may
 
       to : (w : ScaZone) (g : ℕ → ℕ) → T (differing (lez s) w) → g (num s) ≡ zoneNumber w → effectOf f r ≡ moved f z₀ (g (sideOf z₀))
-          → lateralApproachInitiation s (stateOf f) ≡ add (withQueue (stateOf f) (lez s) (map (seen f (zoneNumber (lez s))) (a .rest))) w (seen f (zoneNumber (lez s)) (a .x))
-          ∷ [] → Is f r (lateralApproachInitiation s)
+          → lateralApproachInitiation s (stateOf f) ≡ there (a .first) w ∷ [] → Is f r (lateralApproachInitiation s)
       to w g d q p i =
-          leads f r (lateralApproachInitiation s) (there f h r e (lez s) w at a d) (moved f (zoneNumber (lez s)) (zoneNumber w)) e
-          (p ∙ ap (λ (y : ℕ). moved f z₀ (g y)) own ∙ ap (moved f z₀) q ∙ ap (λ (y : ℕ). moved f y (zoneNumber w)) at) i (goes f h r e (lez s) w at a d)
+          leads f r (lateralApproachInitiation s) e (goes a w d)
+          (p ∙ ap (λ (y : ℕ). moved f z₀ (g y)) own ∙ ap (moved f z₀) q ∙ ap (λ (y : ℕ). moved f y (zoneNumber w)) at) i
 
       go : ((may && free) ≡ true) ⊎ ((may && free) ≡ false) → Is f r (lateralApproachInitiation s)
       go (inl b) =
           to (base s) airspace.base (each-side (λ s. T (differing (lez s) (base s))) tt tt s) (base-of s)
           (effect-at f r k ∙ if-true _ _ low ∙ if-true _ _ b)
-          (first-of f (lez s) (a .x) (a .rest) (ap (inZone f) (sym at) ∙ a .here) _ ∙ ap (λ (x : SCA). x ∷ []) (if-true _ _ (asked ∙ b)))
+          (first-of (a .first) _ ∙ ap (λ (x : SCA). x ∷ []) (if-true _ _ (asked ∙ b)))
       go (inr b) =
           to (holding2 s) at2000 (each-side (λ s. T (differing (lez s) (holding2 s))) tt tt s) (each-side (λ s. at2000 (num s) ≡ zoneNumber (holding2 s)) refl refl s)
           (effect-at f r k ∙ if-true _ _ low ∙ if-false _ _ b)
-          (first-of f (lez s) (a .x) (a .rest) (ap (inZone f) (sym at) ∙ a .here) _ ∙ ap (λ (x : SCA). x ∷ []) (if-false _ _ (asked ∙ b)))
+          (first-of (a .first) _ ∙ ap (λ (x : SCA). x ∷ []) (if-false _ _ (asked ∙ b)))
 
   pub approach-is : Is f r (approachInitiation f r)
   unfolding startsFrom sideOf
@@ -204,7 +204,7 @@ module _ (f : Field) (h : T (hasPlaces f)) (r : Request) (k : r .kind ≡ 4) (e 
         let own : sideBefore f r ≡ s .0 = ap (λ (z : ℕ). sideNamed (sideOf z)) (s .1) ∙ each-side (λ s. sideNamed (sideOf (zoneNumber (lez s))) ≡ s) refl refl (s .0) in
         subst (Is f r) (sym (if-true _ _ b ∙ ap lateralApproachInitiation own)) (from-lateral (s .0) (s .1))
     | inr b ↦
-        let s = of-side holding2 3 refl refl z₀ (lower z₀ (heading f h r e 4 k refl refl .starts) b) in
+        let s = of-side holding2 3 refl refl z₀ (lower z₀ (heading accepted-4 refl refl .starts) b) in
         let own : sideBefore f r ≡ s .0 = ap (λ (z : ℕ). sideNamed (sideOf z)) (s .1) ∙ each-side (λ s. sideNamed (sideOf (zoneNumber (holding2 s))) ≡ s) refl refl (s .0) in
         subst (Is f r) (sym (if-false _ _ b ∙ ap verticalApproachInitiation own)) (from-2000 (s .0) (s .1))
   ]

@@ -28,7 +28,7 @@ use Rattle.questions.proofs.NumbersListed.{numbersAt}
 use Rattle.questions.proofs.FindLaws.{numbers, place-there, in-zones, found-exactly, found-there, place-within, own-place}
 use Rattle.laws.proofs.BoundLaws.{within-e, numbers-different}
 use Rattle.line.proofs.CountedOnLine.{not-13}
-use Rattle.nasa.specs.Definitions.{ScaAircraft, ScaZone, base, intermediate, final, onZone, scaOnApproach}
+use Rattle.nasa.specs.Definitions.{ScaZone, base, intermediate, final, onZone, scaOnApproach}
 use Rattle.nasa.specs.Rules.{zoneNumber}
 use Rattle.nasa.specs.Stands.{seen, stateOf}
 use Rattle.nasa.proofs.States.{zone-number}

@@ -8,7 +8,7 @@ use native.Mathlib.Omega.{arith}
 use borrow.Author.Tests.{eq-eqb, ne-eqb}
 use lib.Dec.{T}
 use lib.Ieee.Fits.{and-l}
-use lib.ListN.{length, getD}
+use lib.ListN.{length}
 use Rattle.request.specs.Input.{within, isEntry, isTick, firstRefused, inputNumber}
 use Rattle.request.specs.declared.Request.{Request}
 use Rattle.request.proofs.InputTests as input
@@ -16,9 +16,9 @@ use Rattle.request.proofs.ByKind.{DeskKnown, move-allowed}
 use Rattle.field.specs.declared.Aircraft as field
 use Rattle.field.specs.declared.Field.{Field}
 use Rattle.questions.specs.declared.Place.{Place}
-use Rattle.field.specs.Airspace.{nobody, inZone, everywhere}
+use Rattle.field.specs.Airspace.{inZone, everywhere}
 use Rattle.field.specs.Lists.{isIn, every}
-use Rattle.questions.specs.Find.{placeOf, aircraftAt}
+use Rattle.questions.specs.Find.{placeOf}
 use Rattle.bounds.specs.Bounds.{withinBounds}
 use Rattle.fits.specs.Fits.{fitsZone}
 use Rattle.rules.specs.Kinds.{placeBefore, zoneBefore, zoneAhead, startsFrom, belongsTo, absentChecks, headChecks, presenceChecks}
@@ -33,12 +33,13 @@ use Rattle.questions.proofs.FindLaws.{numbers, at, in-zones}
 use Rattle.laws.proofs.Fits.{all-fit, fits-parts}
 use Rattle.laws.proofs.BoundLaws.{within-each}
 use Rattle.reason.proofs.Reason.{neither-10-nor-25}
+use Rattle.descent.proofs.Descent.{shaped}
 use Rattle.nasa.specs.Definitions.{ScaAircraft, ScaZone, SCA}
 use Rattle.nasa.specs.Rules.{when, forFirst, zoneNumber}
 use Rattle.nasa.specs.Stands.{seen, stateOf}
 use Rattle.nasa.specs.Steps.{transitionFor}
 use Rattle.nasa.specs.Enabled.{headRequest, LeadsTo}
-use Rattle.nasa.proofs.States.{zone-number}
+use Rattle.nasa.proofs.States.{zone-number, First, head-first}
 use Rattle.nasa.proofs.AcceptedHead.{Heads}
 use Rattle.nasa.proofs.AskedOfState.{not-zero}
 use Rattle.nasa.proofs.Leaving.{found-head}
@@ -57,11 +58,6 @@ tested true t s q = refl
 tested false t s q = absurd (nowhere-on q)
 
 -- somebody is in its zone
-pub record First (f : Field) (z : ScaZone) : Type 0 where
-  pub x : field.Aircraft
-  pub rest : List field.Aircraft
-  pub here : inZone f (zoneNumber z) ≡ x ∷ rest
-
 pub somebody : (f : Field) (z : ScaZone) (next : ScaAircraft → List ScaAircraft → List SCA) (s : SCA) → forFirst (stateOf f .queue z) next ≡ s ∷ [] → First f z
 unfolding stateOf
 somebody f z next s q = go (inZone f (zoneNumber z)) refl
@@ -94,32 +90,28 @@ module _ (f : Field) (S : Sound f) where
       record { accepted = number-is f r ∙ e; leads-to = head-same (sym own ∙ i) }
 
   -- ---- the first of zone z moves
-  module _ (z : ScaZone) (F : First f z) (k : ℕ) (kind : T (within 3 11 k)) where
+  module _ {z : ScaZone} (F : First f z) (k : ℕ) (kind : T (within 3 11 k)) where
     abbrev zn : ℕ
     zn = zoneNumber z
 
     abbrev pub r : Request
     r = headRequest f k z
 
-    pub is-first : aircraftAt f zn 1 ≡ F .x
-    unfolding aircraftAt
-    is-first = ap (λ (l : List field.Aircraft). getD (nobody ∷ l) 1 nobody) (F .here)
-
-    pub found : placeBefore f r ≡ at zn 1
-    found = ap (λ (a : field.Aircraft). placeOf f (a .number)) is-first ∙ found-head f (S .bounds) zn (zone-number z) (F .x) (F .rest) (F .here)
+    found : placeBefore f r ≡ at zn 1
+    found = ap (λ (a : field.Aircraft). placeOf f (a .number)) (head-first F) ∙ found-head (S .bounds) F
 
     pub zone-is : zoneBefore f r ≡ zn
     zone-is = ap (λ (p : Place). p .zone) found
 
-    abbrev pub head : Heads f r (zoneBefore f r)
-    head = record { x = F .x; rest = F .rest; here = ap (inZone f) zone-is ∙ F .here; named = ap (λ (a : field.Aircraft). a .number) (sym is-first) }
+    abbrev pub head : Heads f r z
+    head = record { bounds = S .bounds; shaped = shaped f (S .places) (S .bounds); first = F; named = ap (λ (a : field.Aircraft). a .number) (sym (head-first F)) }
 
     numbered : 1 ≤ r .number
     numbered =
         let n = F .x .number in
         let here = ap (λ (l : List field.Aircraft). isIn n (numbers l)) (F .here) ∙ ap (λ (b : Bool). b || isIn n (numbers (F .rest))) (same n) in
         let m = not-zero f (S .bounds) n (in-zones f n zn everywhere (zone-listed zn (zone-number z)) here) in
-        let e : r .number ≡ n = ap (λ (a : field.Aircraft). a .number) is-first in
+        let e : r .number ≡ n = ap (λ (a : field.Aircraft). a .number) (head-first F) in
         input.nonzero-known (r .number) (ap not (ne-eqb (r .number) 0 (λ q. m (sym e ∙ q))))
 
     -- it has a desk
@@ -128,7 +120,7 @@ module _ (f : Field) (S : Sound f) where
         let b = zone-number z in
         let fit = subst (λ (l : List field.Aircraft). T (every (fitsZone (f .legs) zn) l)) (F .here) (all-fit f (within-each f (S .bounds) .bound-g) zn (b .least) (b .most)) in
         let d = fits-parts (f .legs) zn (F .x) (and-l (fitsZone (f .legs) zn (F .x)) (every (fitsZone (f .legs) zn) (F .rest)) fit) .desk in
-        subst (λ (a : field.Aircraft). DeskKnown (a .desk)) (sym is-first) (record { low = d .least; high = d .most })
+        subst (λ (a : field.Aircraft). DeskKnown (a .desk)) (sym (head-first F)) (record { low = d .least; high = d .most })
 
     low : 3 ≤ k
     low = input.within-low 3 11 k (passed kind)

@@ -42,9 +42,17 @@ use Rattle.nasa.proofs.Sequences.{last-put, full-stays, before-kept, be
 use Rattle.nasa.proofs.MissTransition.{opposite-named, either-named}
 use Rattle.nasa.proofs.LandExitTransitions.{operating}
 
--- ---- a new aircraft, whose number nobody has, at the end of zone z
-module _ (f : Field) (t : T (withinBounds f)) (k : Shaped f) (r : Request) (s : Side) (asks : r .side ≡ num s) (z : ScaZone) (inside : T (within 1 12 (zoneNumber z)))
-    (absent : isIn (r .number) (numbersIn f everywhere) ≡ false) (room : howMany f (zoneNumber z) < 4) (after : T (withinBounds (entered f r (zoneNumber z)))) where
+-- ---- a new aircraft, whose number nobody has, comes to the end of zone z, which has room
+pub record Newcomer (f : Field) (r : Request) (s : Side) (z : ScaZone) : Type 0 where
+  pub bounds : T (withinBounds f)
+  pub shaped : Shaped f
+  pub asks : r .side ≡ num s
+  pub inside : T (within 1 12 (zoneNumber z))
+  pub absent : isIn (r .number) (numbersIn f everywhere) ≡ false
+  pub room : howMany f (zoneNumber z) < 4
+  pub after : T (withinBounds (entered f r (zoneNumber z)))
+
+module _ {f : Field} {r : Request} {s : Side} {z : ScaZone} (new : Newcomer f r s z) where
   abbrev zn : ℕ
   zn = zoneNumber z
 
@@ -66,7 +74,7 @@ module _ (f : Field) (t : T (withinBounds f)) (k : Shaped f) (r : Request) (s : 
   -- ---- the queues
   in-zone : inZone g zn ≡ inZone f zn ++ (a ∷ [])
   unfolding entered withSequence inZone zoneOf tailPut
-  in-zone = queue-put f k zn a (zone-number z) room
+  in-zone = queue-put f (new .shaped) zn a (zone-number z) (new .room)
 
   in-others : (y : ℕ) → y ≢ zn → inZone g y ≡ inZone f y
   unfolding entered withSequence inZone zoneOf tailPut
@@ -78,12 +86,12 @@ module _ (f : Field) (t : T (withinBounds f)) (k : Shaped f) (r : Request) (s : 
   not-listed = go (decided (isIn n order))
     where
       nobody : isIn n (numbersIn f operation) ≡ false
-      nobody = absent-left n (numbersIn f operation) (numbersAt f 13) (ap (isIn n) (sym (one-zone-more f 1 12)) ∙ absent)
+      nobody = absent-left n (numbersIn f operation) (numbersAt f 13) (ap (isIn n) (sym (one-zone-more f 1 12)) ∙ new .absent)
 
       go : (isIn n order ≡ true) ⊎ (isIn n order ≡ false) → isIn n order ≡ false
       go (inl i) =
           let named = every (λ m. isIn m (numbersIn f operation)) order in
-          let all = and-r (allDifferent order) named (and-l (allDifferent order && named) (every (λ m. isIn m order) (numbersIn f operation)) (within-e f t .exact)) in
+          let all = and-r (allDifferent order) named (and-l (allDifferent order && named) (every (λ m. isIn m order) (numbersIn f operation)) (within-e f (new .bounds) .exact)) in
           absurd (true≢false (sym (passed (every-listed (λ m. isIn m (numbersIn f operation)) order n all i)) ∙ nobody))
       go (inr i) = i
 
@@ -96,13 +104,13 @@ module _ (f : Field) (t : T (withinBounds f)) (k : Shaped f) (r : Request) (s : 
         let there : isIn n (numbersAt g zn) ≡ true =
         ap (λ (l : List field.Aircraft). isIn n (numbers l)) in-zone ∙ ap (isIn n) (map-append (λ (b : field.Aircraft). b .number) (inZone f zn) (a ∷ []))
         ∙ in-right n (numbersAt f zn) (n ∷ []) (ap (λ (b : Bool). b || false) (same n)) in
-        let listed : isIn n (orderOf (appended (f .sequence) n)) ≡ true = in-sequence g after zn inside n there in
-        absurd (true≢false (sym listed ∙ ap (λ (c : Sequence). isIn n (orderOf c)) (full-stays (f .sequence) (k .sequence) n p) ∙ not-listed))
+        let listed : isIn n (orderOf (appended (f .sequence) n)) ≡ true = in-sequence g (new .after) zn (new .inside) n there in
+        absurd (true≢false (sym listed ∙ ap (λ (q : Sequence). isIn n (orderOf q)) (full-stays (f .sequence) (new .shaped .sequence) n p) ∙ not-listed))
   ]
 
   order-after : orderOf (g .sequence) ≡ order ++ (n ∷ [])
   unfolding entered withSequence
-  order-after = last-put (f .sequence) (k .sequence) n few
+  order-after = last-put (f .sequence) (new .shaped .sequence) n few
 
   -- ---- the aircraft
   fix-named : sideNamed fix ≡ aircraft (stateOf f) s .mahf
@@ -110,25 +118,25 @@ module _ (f : Field) (t : T (withinBounds f)) (k : Shaped f) (r : Request) (s : 
   fix-named =
       either-named (eqb (length order) 0) (r .side) (f .next)
       ∙ ap (λ (b : Bool). elim b [ true ↦ sideNamed (r .side) | false ↦ sideNamed (f .next) ]) (sym (one-less (length order) 0))
-      ∙ ap (λ (c : Side). elim (eqb (suc (length order)) 1) [ true ↦ c | false ↦ sideNamed (f .next) ]) (ap sideNamed asks ∙ each-side (λ s. sideNamed (num s) ≡ s) refl refl s)
+      ∙ ap (λ (c : Side). elim (eqb (suc (length order)) 1) [ true ↦ c | false ↦ sideNamed (f .next) ]) (ap sideNamed (new .asks) ∙ each-side (λ s. sideNamed (num s) ≡ s) refl refl s)
 
   fix-is-side : T (isSide fix)
   unfolding fixTaken isSide
   fix-is-side =
       either-way (λ m. T (isSide m)) (eqb (length order) 0) (r .side) (f .next)
-      (λ q. subst (λ (m : ℕ). T (isSide m)) (sym asks) (each-side (λ s. T (isSide (num s))) tt tt s)) (λ q. parts f (within-each f t) .next-side)
+      (λ q. subst (λ (m : ℕ). T (isSide m)) (sym (new .asks)) (each-side (λ s. T (isSide (num s))) tt tt s)) (λ q. parts f (within-each f (new .bounds)) .next-side)
 
   comes : seen g zn a ≡ aircraft (stateOf f) s
   unfolding stateOf orderLength entering
   comes =
-      ap (λ (b : Bool). asSeen (cond b 1 (suc (before n (orderOf (g .sequence))))) fix) (not-13 zn inside)
+      ap (λ (b : Bool). asSeen (cond b 1 (suc (before n (orderOf (g .sequence))))) fix) (not-13 zn (new .inside))
       ∙ ap (λ (l : List ℕ). asSeen (suc (before n l)) fix) order-after
       ∙ ap (λ (m : ℕ). asSeen (suc m) fix) (before-last n order not-listed)
       ∙ ap (λ (c : Side). record { seq = suc (length order); mahf = c }) fix-named
 
   -- ---- the state
   kept : (y : ℕ) → T (within 1 12 y) → map (seen g y) (inZone f y) ≡ map (seen f y) (inZone f y)
-  kept y u = seen-kept f g y (inZone f y) (λ m i. ap (before m) order-after ∙ before-kept m n order (in-sequence f t y u m i))
+  kept y u = seen-kept f g y (inZone f y) (λ m i. ap (before m) order-after ∙ before-kept m n order (in-sequence f (new .bounds) y u m i))
 
   next-fix : sideNamed (g .next) ≡ opp (aircraft (stateOf f) s .mahf)
   unfolding entered withSequence
@@ -156,7 +164,7 @@ module _ (f : Field) (t : T (withinBounds f)) (k : Shaped f) (r : Request) (s : 
             ap (λ (m : ℕ). map (seen g m) (inZone g m)) (eqb-true (zoneNumber y) zn p)
             ∙ ap (map (seen g zn)) in-zone
             ∙ map-append (seen g zn) (inZone f zn) (a ∷ [])
-            ∙ ap (λ (l : List ScaAircraft). l ++ (seen g zn a ∷ [])) (kept zn inside)
+            ∙ ap (λ (l : List ScaAircraft). l ++ (seen g zn a ∷ [])) (kept zn (new .inside))
             ∙ ap (λ (c : ScaAircraft). own zn ++ (c ∷ [])) comes
             ∙ sym (if-true _ _ p)
         | inr p ↦ ap (map (seen g (zoneNumber y))) (in-others (zoneNumber y) (eqb-false (zoneNumber y) zn p)) ∙ others y (eqb-false (zoneNumber y) zn p) ∙ sym (if-false _ _ p)

@@ -31,20 +31,20 @@ use Rattle.rules.proofs.Checks.{checks-at, effect-at}
 use Rattle.rules.proofs.StepLaws.{number-is, field-accepted}
 use Rattle.rules.proofs.Refusals.{passes}
 use Rattle.field.proofs.TestLaws.{decided, pass, passed, if-true, if-false}
-use Rattle.questions.proofs.FindLaws.{found-exactly}
+use Rattle.questions.proofs.FindLaws.{at, found-exactly}
 use Rattle.laws.proofs.EditLaws.{Shaped}
 use Rattle.moves.proofs.EnterAbove.{enters-empty}
 use Rattle.descent.specs.Entry.{descendBefore, descendedBefore, InTwoSteps}
 use Rattle.descent.proofs.Descent.{alone-above, found-above}
 use Rattle.descent.proofs.Entry.{in-two-steps}
-use Rattle.nasa.specs.Definitions.{ScaAircraft, holding3, holding2, lez, maz, SCA, approachAssigned, virtual}
-use Rattle.nasa.specs.Rules.{nobodyIn, zoneNumber, enters, verticalEntry, lateralEntry, holdingPatternDescend}
+use Rattle.nasa.specs.Definitions.{ScaZone, holding3, holding2, lez, maz, SCA, approachAssigned, virtual}
+use Rattle.nasa.specs.Rules.{nobodyIn, zoneNumber, verticalEntry, lateralEntry, holdingPatternDescend}
 use Rattle.nasa.specs.Stands.{sideNamed, stateOf, sideBefore, entryAbove, Is}
-use Rattle.nasa.proofs.States.{zone-number, moved-shaped, put-here}
-use Rattle.nasa.proofs.AcceptedHead.{has-room, nobody-in, bounded, shape}
+use Rattle.nasa.proofs.States.{Move, moved-shaped, put-here}
+use Rattle.nasa.proofs.AcceptedHead.{differing, move, nobody-in, Accepted, bounded, shape}
 use Rattle.nasa.proofs.DescendFinalTaxi.{leads, each-side, descend-is}
 use Rattle.nasa.proofs.StateCounts.{virtual-is, approach-is}
-use Rattle.nasa.proofs.Entering.{entered-state}
+use Rattle.nasa.proofs.Entering.{Newcomer, entered-state}
 
 -- a field with its shape has its places
 pub places-of : (f : Field) → Shaped f → T (hasPlaces f)
@@ -62,14 +62,14 @@ places-of f k =
     each p [] h = tt
     each p (z ∷ zs) h = and-i (p z) (every p zs) (h z) (each p zs h)
 
--- what an entry has passed: its side, and that nobody has its number
-record Entry (f : Field) (r : Request) : Type 0 where
+-- the side that an entry asks for
+record Entry (r : Request) : Type 0 where
   side : Side
   asks : r .side ≡ num side
   named : sideNamed (r .side) ≡ side
   between : Between 1 2 (r .side)
 
-entry : (f : Field) (r : Request) → r .kind ≤ 2 → numberOf f r ≡ 0 → Entry f r
+entry : (f : Field) (r : Request) → r .kind ≤ 2 → numberOf f r ≡ 0 → Entry r
 entry f r l e =
     let i = passes f r e .input in
     let known = entry-known r i (kind-known r i .low) l in
@@ -86,11 +86,25 @@ absent-from f n e = go (isIn n (numbersIn f everywhere)) (sym e ∙ found-exactl
     go true q = absurd (true≢false q)
     go false q = refl
 
--- those lateral at a side, and those at 3000, are counted for it
-counted : (f : Field) (s : Side) → (howMany f (zoneNumber (lez s)) ≤ potentialOf f (num s)) × (howMany f (zoneNumber (holding3 s)) ≤ potentialOf f (num s))
+-- those lateral at a side are counted for it
+counted : (f : Field) (s : Side) → howMany f (zoneNumber (lez s)) ≤ potentialOf f (num s)
 unfolding potentialOf countedFor
-counted f rightSide = (omega arith, omega arith)
-counted f leftSide = (omega arith, omega arith)
+counted f rightSide = omega arith
+counted f leftSide = omega arith
+
+-- what an accepted entry to zone z has passed
+newcomer : {f : Field} {r : Request} {k : ℕ} → Accepted f r k → (E : Entry r) (z : ScaZone) → T (within 1 12 (zoneNumber z)) → eqb (placeOf f (r .number) .zone) 0 ≡ true
+    → howMany f (zoneNumber z) < 4 → effectOf f r ≡ entered f r (zoneNumber z) → Newcomer f r (E .side) z
+newcomer {f} {r} A E z u unused few into =
+    record {
+      bounds = bounded A;
+      shaped = shape A;
+      asks = E .asks;
+      inside = u;
+      absent = absent-from f (r .number) unused;
+      room = few;
+      after = pass (sym (ap withinBounds into) ∙ passes f r (A .accepted) .after);
+    }
 
 -- ---- kind 2
 module _ (f : Field) (h : T (hasPlaces f)) (r : Request) (k : r .kind ≡ 2) (e : numberOf f r ≡ 0) where
@@ -104,25 +118,25 @@ module _ (f : Field) (h : T (hasPlaces f)) (r : Request) (k : r .kind ≡ 2) (e 
       let checks = absentChecks (placeBefore f r) ++ lateralNeeds f (r .side) in
       let met = input.passed checks (tt, (tt, tt)) (sym (ap firstRefused (checks-at f r k)) ∙ passes f r e .checks) in
       let none : potentialOf f (num s) ≡ 0 = ap (potentialOf f) (sym (E .asks)) ∙ eqb-true (potentialOf f (r .side)) 0 (met .1 .0) in
-      let few : howMany f (zoneNumber (lez s)) < 4 = let c = counted f s .0 in omega arith in
-      let within-after = pass (sym (ap withinBounds into) ∙ passes f r e .after) in
+      let few : howMany f (zoneNumber (lez s)) < 4 = let c = counted f s in omega arith in
+      let A : Accepted f r 2 = record { places = h; kind = k; accepted = e } in
       subst (λ (q : Side). Is f r (lateralEntry q)) (sym (E .named))
-      (leads f r (lateralEntry s) (enters (stateOf f) (lez s) s) (entered f r (zoneNumber (lez s))) e into
-      (if-true _ [] (ap (λ (m : ℕ). eqb m 0) (virtual-is f (bounded f h r e) s ∙ none)))
-      (entered-state f (bounded f h r e) (shape f h r e) r s (E .asks) (lez s) (each-side (λ s. T (within 1 12 (zoneNumber (lez s)))) tt tt s) (absent-from f (r .number) (met .0)) few within-after))
+      (leads f r (lateralEntry s) e (entered-state (newcomer A E (lez s) (each-side (λ s. T (within 1 12 (zoneNumber (lez s)))) tt tt s) (met .0) few into)) into
+      (if-true _ [] (ap (λ (m : ℕ). eqb m 0) (virtual-is f (bounded A) s ∙ none))))
 
 -- ---- kind 1, where nobody is at 3000
-module _ (f : Field) (h : T (hasPlaces f)) (r : Request) (k : r .kind ≡ 1) (e : numberOf f r ≡ 0) (s : Side) (asks : r .side ≡ num s) (free : isEmpty f (zoneNumber (holding3 s)) ≡ true) where
-  pub vertical-is : Is f r (verticalEntry s)
+module _ {f : Field} {r : Request} (A : Accepted f r 1) (E : Entry r) (free : isEmpty f (zoneNumber (holding3 (E .side))) ≡ true) where
+  vertical-is : Is f r (verticalEntry (E .side))
   unfolding verticalEntry
   vertical-is =
-      let zone = each-side (λ s. num s ≡ zoneNumber (holding3 s)) refl refl s in
-      let own = asks ∙ zone in
-      let into : effectOf f r ≡ entered f r (zoneNumber (holding3 s)) = enters-empty f r k (ap (isEmpty f) own ∙ free) ∙ ap (entered f r) own in
+      let s = E .side in
+      let asks = E .asks in
+      let own = asks ∙ each-side (λ s. num s ≡ zoneNumber (holding3 s)) refl refl s in
+      let into : effectOf f r ≡ entered f r (zoneNumber (holding3 s)) = enters-empty f r (A .kind) (ap (isEmpty f) own ∙ free) ∙ ap (entered f r) own in
       let checks = absentChecks (placeBefore f r) ++ verticalNeeds f (r .side) in
-      let met = input.passed checks (tt, (tt, (tt, (tt, (tt, (tt, tt)))))) (sym (ap firstRefused (checks-at f r k)) ∙ passes f r e .checks) in
+      let met = input.passed checks (tt, (tt, (tt, (tt, (tt, (tt, tt)))))) (sym (ap firstRefused (checks-at f r (A .kind))) ∙ passes f r (A .accepted) .checks) in
       let few : howMany f (zoneNumber (holding3 s)) < 4 = let n = eqb-true (howMany f (zoneNumber (holding3 s))) 0 free in omega arith in
-      let t = bounded f h r e in
+      let t = bounded A in
       let p16 : ltb (virtual (stateOf f) s) 2 ≡ true = ap (λ (m : ℕ). ltb m 2) (virtual-is f t s ∙ ap (potentialOf f) (sym asks)) ∙ met .1 .0 in
       let p17 : not (approachAssigned (stateOf f) s) ≡ true = ap not (approach-is f t s ∙ ap (approachHolds f) (sym asks)) ∙ met .1 .1 .0 in
       let at-missed = each-side (λ s. zoneNumber (maz s) ≡ missed (num s)) refl refl s in
@@ -130,17 +144,17 @@ module _ (f : Field) (h : T (hasPlaces f)) (r : Request) (k : r .kind ≡ 1) (e 
       let p18 : nobodyIn (stateOf f) (maz s) ≡ true = nobody-in f (maz s) ∙ ap (isEmpty f) (at-missed ∙ ap missed (sym asks)) ∙ met .1 .1 .1 .0 in
       let p19 : nobodyIn (stateOf f) (lez s) ≡ true = nobody-in f (lez s) ∙ ap (isEmpty f) (at-lateral ∙ ap lateral (sym asks)) ∙ met .1 .1 .1 .1 .0 in
       let p20 : nobodyIn (stateOf f) (holding3 s) ≡ true = nobody-in f (holding3 s) ∙ free in
-      leads f r (verticalEntry s) (enters (stateOf f) (holding3 s) s) (entered f r (zoneNumber (holding3 s))) e into
-      (if-true _ [] (all-five p16 p17 p18 p19 p20))
-      (entered-state f t (shape f h r e) r s asks (holding3 s) (each-side (λ s. T (within 1 12 (zoneNumber (holding3 s)))) tt tt s)
-      (absent-from f (r .number) (met .0)) few (pass (sym (ap withinBounds into) ∙ passes f r e .after)))
+      let new = newcomer A E (holding3 s) (each-side (λ s. T (within 1 12 (zoneNumber (holding3 s)))) tt tt s) (met .0) few into in
+      leads f r (verticalEntry s) (A .accepted) (entered-state new) into (if-true _ [] (all-five p16 p17 p18 p19 p20))
     where
       all-five : {a b c d g : Bool} → a ≡ true → b ≡ true → c ≡ true → d ≡ true → g ≡ true → (a && b && c && d && g) ≡ true
       all-five {a} {b} {c} {d} {g} p q u v w = rw (p, q, u, v, w)
 
 -- ---- kind 1, where somebody is at 3000: the descend of that one, and then the entry
-module _ (f : Field) (h : T (hasPlaces f)) (r : Request) (k : r .kind ≡ 1) (e : numberOf f r ≡ 0) (s : Side) (asks : r .side ≡ num s)
-    (b : Between 1 2 (r .side)) (taken : isEmpty f (zoneNumber (holding3 s)) ≡ false) where
+module _ {f : Field} {r : Request} (A : Accepted f r 1) (E : Entry r) (taken : isEmpty f (zoneNumber (holding3 (E .side))) ≡ false) where
+  abbrev s : Side
+  s = E .side
+
   abbrev up : ℕ
   up = zoneNumber (holding3 s)
 
@@ -148,13 +162,13 @@ module _ (f : Field) (h : T (hasPlaces f)) (r : Request) (k : r .kind ≡ 1) (e 
   down = zoneNumber (holding2 s)
 
   own : r .side ≡ up
-  own = asks ∙ each-side (λ s. num s ≡ zoneNumber (holding3 s)) refl refl s
+  own = E .asks ∙ each-side (λ s. num s ≡ zoneNumber (holding3 s)) refl refl s
 
   occupied : isEmpty f (at3000 (r .side)) ≡ false
   occupied = ap (isEmpty f) own ∙ taken
 
   two : InTwoSteps f r
-  two = in-two-steps f h r k (number-is f r ∙ e) occupied
+  two = in-two-steps f (A .places) r (A .kind) (number-is f r ∙ A .accepted) occupied
 
   -- the descend, and the field after it
   abbrev r₁ : Request
@@ -163,6 +177,9 @@ module _ (f : Field) (h : T (hasPlaces f)) (r : Request) (k : r .kind ≡ 1) (e 
   abbrev g : Field
   g = descendedBefore f r
 
+  above : placeBefore f r₁ ≡ at (r .side) 1
+  above = found-above f (bounded A) (r .side) (E .between) occupied
+
   e₁ : numberOf f r₁ ≡ 0
   e₁ = sym (number-is f r₁) ∙ two .descend-accepted
 
@@ -170,54 +187,46 @@ module _ (f : Field) (h : T (hasPlaces f)) (r : Request) (k : r .kind ≡ 1) (e 
   unfolding sideOf
   first-step =
       let side : sideBefore f r₁ ≡ s =
-      ap (λ (p : Place). sideNamed (sideOf (p .zone))) (found-above f (bounded f h r e) (r .side) b occupied)
+      ap (λ (p : Place). sideNamed (sideOf (p .zone))) above
       ∙ ap (λ (y : ℕ). sideNamed (sideOf y)) own ∙ each-side (λ s. sideNamed (sideOf (zoneNumber (holding3 s))) ≡ s) refl refl s in
-      subst (λ (q : Side). Is f r₁ (holdingPatternDescend q)) side (descend-is f h r₁ refl e₁)
+      subst (λ (q : Side). Is f r₁ (holdingPatternDescend q)) side (descend-is f (A .places) r₁ refl e₁)
 
   lower : g ≡ moved f up down
   lower =
       let below = each-side (λ s. at2000 (zoneNumber (holding3 s)) ≡ zoneNumber (holding2 s)) refl refl s in
-      field-accepted f r₁ e₁ ∙ effect-at f r₁ refl ∙ ap (λ (p : Place). moved f (p .zone) (at2000 (p .zone))) (found-above f (bounded f h r e) (r .side) b occupied)
+      field-accepted f r₁ e₁ ∙ effect-at f r₁ refl ∙ ap (λ (p : Place). moved f (p .zone) (at2000 (p .zone))) above
       ∙ ap (λ (y : ℕ). moved f y (at2000 y)) own ∙ ap (moved f up) below
 
-  places : T (hasPlaces g)
-  places = subst (λ (q : Field). T (hasPlaces q)) (sym lower) (places-of (moved f up down) (moved-shaped f (shape f h r e) up down (zone-number (holding3 s)) (zone-number (holding2 s))))
-
-  then-accepted : numberOf g r ≡ 0
-  then-accepted = sym (number-is g r) ∙ ap (λ (a : Answer). a .number) (sym (two .same-answer)) ∙ number-is f r ∙ e
-
+  -- it goes from 3000, where it is alone, to 2000
   alone : inZone f up ≡ aircraftAt f (r .side) 1 ∷ []
-  alone = ap (inZone f) (sym own) ∙ alone-above f (bounded f h r e) (r .side) b occupied
+  alone = ap (inZone f) (sym own) ∙ alone-above f (bounded A) (r .side) (E .between) occupied
 
-  someone : 1 ≤ howMany f up
-  unfolding howMany
-  someone = let n = ap length alone in omega arith
+  abbrev below : Move f (holding3 s) (holding2 s)
+  below = move (bounded A) (record { x = aircraftAt f (r .side) 1; rest = []; here = alone }) (holding2 s) (each-side (λ s. T (differing (holding3 s) (holding2 s))) tt tt s) (shape A)
 
-  room : howMany f down < 4
-  room =
-      has-room f (bounded f h r e) up down (each-side (λ s. T (within 1 12 (zoneNumber (holding3 s)))) tt tt s) (each-side (λ s. T (within 1 12 (zoneNumber (holding2 s)))) tt tt s)
-      (each-side (λ s. zoneNumber (holding3 s) ≢ zoneNumber (holding2 s)) (λ q. omega arith) (λ q. omega arith) s) someone
+  then-accepted : Accepted g r 1
+  then-accepted = record {
+    places = subst (λ (q : Field). T (hasPlaces q)) (sym lower) (places-of (moved f up down) (moved-shaped below));
+    kind = A .kind;
+    accepted = sym (number-is g r) ∙ ap (λ (a : Answer). a .number) (sym (two .same-answer)) ∙ number-is f r ∙ A .accepted;
+  }
 
   then-free : isEmpty g up ≡ true
   unfolding howMany moved
-  then-free =
-      let below =
-      put-here f (shape f h r e) up down (zone-number (holding3 s)) (zone-number (holding2 s))
-      (each-side (λ s. zoneNumber (holding2 s) ≢ zoneNumber (holding3 s)) (λ q. omega arith) (λ q. omega arith) s)
-      (aircraftAt f (r .side) 1) [] alone (arrived (f .legs) down (aircraftAt f up 1)) room in
-      ap (λ (q : Field). isEmpty q up) lower ∙ ap (λ (l : List field.Aircraft). eqb (length l) 0) below
+  then-free = ap (λ (q : Field). isEmpty q up) lower ∙ ap (λ (l : List field.Aircraft). eqb (length l) 0) (put-here below (arrived (f .legs) down (aircraftAt f up 1)))
 
   second-step : verticalEntry s (stateOf g) ≡ stateOf (stepOf f r .field) ∷ []
-  second-step = vertical-is g places r k then-accepted s asks then-free ∙ ap (λ (q : Field). stateOf q ∷ []) (sym (two .same-field))
+  second-step = vertical-is then-accepted E then-free ∙ ap (λ (q : Field). stateOf q ∷ []) (sym (two .same-field))
 
-  pub both-are : Is f r (entryAbove s)
+  both-are : Is f r (entryAbove s)
   both-are = if-false _ _ (nobody-in f (holding3 s) ∙ taken) ∙ ap (λ (l : List SCA). elim l [ [] ↦ [] | (next ∷ rest) ↦ verticalEntry s next ]) first-step ∙ second-step
 
 pub entry-is : (f : Field) → T (hasPlaces f) → (r : Request) → r .kind ≡ 1 → numberOf f r ≡ 0 → Is f r (entryAbove (sideNamed (r .side)))
 entry-is f h r k e =
+    let A : Accepted f r 1 = record { places = h; kind = k; accepted = e } in
     let E = entry f r (omega arith) e in
     subst (λ (q : Side). Is f r (entryAbove q)) (sym (E .named))
     (elim (decided (isEmpty f (zoneNumber (holding3 (E .side))))) [
-      | inl q ↦ if-true _ _ (nobody-in f (holding3 (E .side)) ∙ q) ∙ vertical-is f h r k e (E .side) (E .asks) q
-      | inr q ↦ both-are f h r k e (E .side) (E .asks) (E .between) q
+      | inl q ↦ if-true _ _ (nobody-in f (holding3 (E .side)) ∙ q) ∙ vertical-is A E q
+      | inr q ↦ both-are A E q
     ])

@@ -42,13 +42,13 @@ module _ (f : Field) (S : Sound f) where
   unfolding holdingPatternDescend startsFrom sideOf
   descending s t q =
       let F = somebody f (holding3 s) _ t q in
-      let free = tested (nobodyIn State (holding2 s)) _ t (sym (first-of f (holding3 s) (F .x) (F .rest) (F .here) _) ∙ q) in
+      let free = tested (nobodyIn State (holding2 s)) _ t (sym (first-of F _) ∙ q) in
       let below = each-side (λ s. at2000 (zoneNumber (holding3 s)) ≡ zoneNumber (holding2 s)) refl refl s in
       let met : isEmpty f (at2000 (zoneNumber (holding3 s))) ≡ true = ap (isEmpty f) below ∙ sym (nobody-in f (holding2 s)) ∙ free in
       let e =
-      moves-on f S (holding3 s) F 3 tt (each-side (λ s. startsFrom 3 (zoneNumber (holding3 s)) ≡ true) refl refl s)
+      moves-on f S F 3 tt (each-side (λ s. startsFrom 3 (zoneNumber (holding3 s)) ≡ true) refl refl s)
       (input.none-refused ((21, isEmpty f (at2000 (zoneNumber (holding3 s)))) ∷ []) (met, tt)) in
-      let side = ap (λ (z : ℕ). sideNamed (sideOf z)) (zone-is f S (holding3 s) F 3 tt) ∙ each-side (λ s. sideNamed (sideOf (zoneNumber (holding3 s))) ≡ s) refl refl s in
+      let side = ap (λ (z : ℕ). sideNamed (sideOf z)) (zone-is f S F 3 tt) ∙ each-side (λ s. sideNamed (sideOf (zoneNumber (holding3 s))) ≡ s) refl refl s in
       follows f S (headRequest f 3 (holding3 s)) 3 refl e t (ap (λ (p : Side). holdingPatternDescend p State) side ∙ q)
 
   -- ---- approach initiation
@@ -57,19 +57,19 @@ module _ (f : Field) (S : Sound f) where
   from-2000 s t q =
       let F = somebody f (holding2 s) _ t q in
       let r = headRequest f 4 (holding2 s) in
-      let zone = zone-is f S (holding2 s) F 4 tt in
+      let zone = zone-is f S F 4 tt in
       let zn = zoneNumber (holding2 s) in
       let u = each-side (λ s. T (within 1 12 (zoneNumber (holding2 s)))) tt tt s in
       let own : sideOf (zoneBefore f r) ≡ num s = ap sideOf zone ∙ each-side (λ s. sideOf (zoneNumber (holding2 s)) ≡ num s) refl refl s in
       let may = mayApproach (f .sequence) (r .number) (zoneAhead f r) in
       let both : (baseFree f (sideOf (zoneBefore f r)) && may) ≡ true =
-      sym (asked.initiates f (S .bounds) r (holding2 s) zone (head f S (holding2 s) F 4 tt) u s own)
-      ∙ tested (mayInitiate State s (seen f zn (F .x))) _ t (sym (first-of f (holding2 s) (F .x) (F .rest) (F .here) _) ∙ q) in
+      sym (asked.initiates (head f S F 4 tt) u s own)
+      ∙ tested (mayInitiate State s (seen f zn (F .x))) _ t (sym (first-of F _) ∙ q) in
       let p22 : (within 5 6 zn || may) ≡ true = ap (λ (b : Bool). within 5 6 zn || b) (input.both-right (baseFree f (sideOf (zoneBefore f r))) may both) ∙ or-true (within 5 6 zn) in
       let p23 : (within 5 6 zn || baseFree f (sideOf zn)) ≡ true =
       ap (λ (b : Bool). within 5 6 zn || b) (ap (λ (z : ℕ). baseFree f (sideOf z)) (sym zone) ∙ input.both-left (baseFree f (sideOf (zoneBefore f r))) may both) ∙ or-true (within 5 6 zn) in
       let e =
-      moves-on f S (holding2 s) F 4 tt (each-side (λ s. startsFrom 4 (zoneNumber (holding2 s)) ≡ true) refl refl s)
+      moves-on f S F 4 tt (each-side (λ s. startsFrom 4 (zoneNumber (holding2 s)) ≡ true) refl refl s)
       (input.none-refused ((22, within 5 6 zn || may) ∷ (23, within 5 6 zn || baseFree f (sideOf zn)) ∷ []) (p22, (p23, tt))) in
       let side = ap (λ (z : ℕ). sideNamed (sideOf z)) zone ∙ each-side (λ s. sideNamed (sideOf (zoneNumber (holding2 s))) ≡ s) refl refl s in
       let not-lateral : within 5 6 (zoneBefore f r) ≡ false = ap (within 5 6) zone ∙ each-side (λ s. within 5 6 (zoneNumber (holding2 s)) ≡ false) refl refl s in
@@ -80,14 +80,14 @@ module _ (f : Field) (S : Sound f) where
   from-lateral s t q =
       let F = somebody f (lez s) _ t q in
       let r = headRequest f 4 (lez s) in
-      let zone = zone-is f S (lez s) F 4 tt in
+      let zone = zone-is f S F 4 tt in
       let zn = zoneNumber (lez s) in
       let may = mayApproach (f .sequence) (r .number) (zoneAhead f r) in
       let there : within 5 6 zn ≡ true = each-side (λ s. within 5 6 (zoneNumber (lez s)) ≡ true) refl refl s in
       let p22 : (within 5 6 zn || may) ≡ true = ap (λ (b : Bool). b || may) there in
       let p23 : (within 5 6 zn || baseFree f (sideOf zn)) ≡ true = ap (λ (b : Bool). b || baseFree f (sideOf zn)) there in
       let e =
-      moves-on f S (lez s) F 4 tt (each-side (λ s. startsFrom 4 (zoneNumber (lez s)) ≡ true) refl refl s)
+      moves-on f S F 4 tt (each-side (λ s. startsFrom 4 (zoneNumber (lez s)) ≡ true) refl refl s)
       (input.none-refused ((22, within 5 6 zn || may) ∷ (23, within 5 6 zn || baseFree f (sideOf zn)) ∷ []) (p22, (p23, tt))) in
       let side = ap (λ (z : ℕ). sideNamed (sideOf z)) zone ∙ each-side (λ s. sideNamed (sideOf (zoneNumber (lez s))) ≡ s) refl refl s in
       follows f S r 4 refl e t (ap (λ (T : Transition). T State) (if-true _ _ (ap (within 5 6) zone ∙ there)) ∙ ap (λ (p : Side). lateralApproachInitiation p State) side ∙ q)
@@ -98,13 +98,13 @@ module _ (f : Field) (S : Sound f) where
   merging-on s t q flown =
       let F = somebody f (base s) _ t q in
       let r = headRequest f 5 (base s) in
-      let zone = zone-is f S (base s) F 5 tt in
+      let zone = zone-is f S F 5 tt in
       let zn = zoneNumber (base s) in
       let u = each-side (λ s. T (within 1 12 (zoneNumber (base s)))) tt tt s in
       let may = mayMerge (f .sequence) (r .number) (zoneAhead f r) in
-      let met : may ≡ true = sym (asked.merges f (S .bounds) r (base s) zone (head f S (base s) F 5 tt) u) ∙ tested _ _ t (sym (first-of f (base s) (F .x) (F .rest) (F .here) _) ∙ q) in
+      let met : may ≡ true = sym (asked.merges (head f S F 5 tt) u) ∙ tested _ _ t (sym (first-of F _) ∙ q) in
       let e =
-      moves-on f S (base s) F 5 tt (each-side (λ s. startsFrom 5 (zoneNumber (base s)) ≡ true) refl refl s)
+      moves-on f S F 5 tt (each-side (λ s. startsFrom 5 (zoneNumber (base s)) ≡ true) refl refl s)
       (input.none-refused ((15, legFlownOut (aircraftAt f zn 1)) ∷ (22, may) ∷ []) (flown, (met, tt))) in
       let side = ap (λ (z : ℕ). sideNamed (sideOf z)) zone ∙ each-side (λ s. sideNamed (sideOf (zoneNumber (base s))) ≡ s) refl refl s in
       follows f S r 5 refl e t (ap (λ (p : Side). merging p State) side ∙ q)
@@ -114,42 +114,42 @@ module _ (f : Field) (S : Sound f) where
   unfolding finalSegment startsFrom
   going-final t q flown =
       let F = somebody f intermediate _ t q in
-      follows f S (headRequest f 6 intermediate) 6 refl (moves-on f S intermediate F 6 tt refl (input.none-refused ((15, legFlownOut (aircraftAt f 11 1)) ∷ []) (flown, tt))) t q
+      follows f S (headRequest f 6 intermediate) 6 refl (moves-on f S F 6 tt refl (input.none-refused ((15, legFlownOut (aircraftAt f 11 1)) ∷ []) (flown, tt))) t q
 
   landing-on : (t : SCA) → landing State ≡ t ∷ [] → legFlownOut (aircraftAt f 12 1) ≡ true → LeadsTo f (headRequest f 7 final) t
   unfolding landing startsFrom
   landing-on t q flown =
       let F = somebody f final _ t q in
-      let free = sym (nobody-in f runway) ∙ tested (nobodyIn State runway) _ t (sym (first-of f final (F .x) (F .rest) (F .here) _) ∙ q) in
-      follows f S (headRequest f 7 final) 7 refl (moves-on f S final F 7 tt refl (input.none-refused ((15, legFlownOut (aircraftAt f 12 1)) ∷ (24, isEmpty f 13) ∷ []) (flown, (free, tt)))) t q
+      let free = sym (nobody-in f runway) ∙ tested (nobodyIn State runway) _ t (sym (first-of F _) ∙ q) in
+      follows f S (headRequest f 7 final) 7 refl (moves-on f S F 7 tt refl (input.none-refused ((15, legFlownOut (aircraftAt f 12 1)) ∷ (24, isEmpty f 13) ∷ []) (flown, (free, tt)))) t q
 
   taxiing : (t : SCA) → taxing State ≡ t ∷ [] → LeadsTo f (headRequest f 8 runway) t
   unfolding taxing startsFrom
-  taxiing t q = let F = somebody f runway _ t q in follows f S (headRequest f 8 runway) 8 refl (moves-on f S runway F 8 tt refl refl) t q
+  taxiing t q = let F = somebody f runway _ t q in follows f S (headRequest f 8 runway) 8 refl (moves-on f S F 8 tt refl refl) t q
 
   exiting : (t : SCA) → exit State ≡ t ∷ [] → legFlownOut (aircraftAt f 11 1) ≡ true → LeadsTo f (headRequest f 9 intermediate) t
   unfolding exit startsFrom
   exiting t q flown =
       let F = somebody f intermediate _ t q in
       let r = headRequest f 9 intermediate in
-      let zone = zone-is f S intermediate F 9 tt in
+      let zone = zone-is f S F 9 tt in
       let met : isFirst (f .sequence) (r .number) ≡ true =
-      sym (asked.first-is f (S .bounds) r intermediate zone (head f S intermediate F 9 tt) tt)
-      ∙ tested (model.firstInSequence (seen f 11 (F .x))) _ t (sym (first-of f intermediate (F .x) (F .rest) (F .here) _) ∙ q) in
-      follows f S r 9 refl (moves-on f S intermediate F 9 tt refl (input.none-refused ((15, legFlownOut (aircraftAt f 11 1)) ∷ (22, isFirst (f .sequence) (r .number)) ∷ []) (flown, (met, tt)))) t q
+      sym (asked.first-is (head f S F 9 tt) tt)
+      ∙ tested (model.firstInSequence (seen f 11 (F .x))) _ t (sym (first-of F _) ∙ q) in
+      follows f S r 9 refl (moves-on f S F 9 tt refl (input.none-refused ((15, legFlownOut (aircraftAt f 11 1)) ∷ (22, isFirst (f .sequence) (r .number)) ∷ []) (flown, (met, tt)))) t q
 
   missing : (t : SCA) → scaMissedApproach State ≡ t ∷ [] → LeadsTo f (headRequest f 10 final) t
   unfolding scaMissedApproach startsFrom
-  missing t q = let F = somebody f final _ t q in follows f S (headRequest f 10 final) 10 refl (moves-on f S final F 10 tt refl refl) t q
+  missing t q = let F = somebody f final _ t q in follows f S (headRequest f 10 final) 10 refl (moves-on f S F 10 tt refl refl) t q
 
   -- ---- lowest available altitude
   holding : (s : Side) (t : SCA) → lowestAvailableAltitude s State ≡ t ∷ [] → legFlownOut (aircraftAt f (zoneNumber (maz s)) 1) ≡ true → LeadsTo f (headRequest f 11 (maz s)) t
   unfolding lowestAvailableAltitude startsFrom sideOf
   holding s t q flown =
       let F = somebody f (maz s) _ t q in
-      let zone = zone-is f S (maz s) F 11 tt in
+      let zone = zone-is f S F 11 tt in
       let e =
-      moves-on f S (maz s) F 11 tt (each-side (λ s. startsFrom 11 (zoneNumber (maz s)) ≡ true) refl refl s)
+      moves-on f S F 11 tt (each-side (λ s. startsFrom 11 (zoneNumber (maz s)) ≡ true) refl refl s)
       (input.none-refused ((15, legFlownOut (aircraftAt f (zoneNumber (maz s)) 1)) ∷ []) (flown, tt)) in
       let side = ap (λ (z : ℕ). sideNamed (sideOf z)) zone ∙ each-side (λ s. sideNamed (sideOf (zoneNumber (maz s))) ≡ s) refl refl s in
       follows f S (headRequest f 11 (maz s)) 11 refl e t (ap (λ (p : Side). lowestAvailableAltitude p State) side ∙ q)

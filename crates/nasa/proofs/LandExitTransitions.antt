@@ -29,37 +29,41 @@ use Rattle.line.proofs.CountedOnLine.{none}
 use Rattle.nasa.specs.Definitions.{ScaAircraft, ScaZone, intermediate, final, runway, SCA, decrease}
 use Rattle.nasa.specs.Rules.{zoneNumber, sameZone, withQueue, add, withNext, decreased, lowered, exit, landing}
 use Rattle.nasa.specs.Stands.{sideNamed, seen, stateOf, Is}
-use Rattle.nasa.proofs.States.{same-state, asSeen, zone-number, gone-here, gone-there, head-first, put-there, put-here, put-elsewhere}
-use Rattle.nasa.proofs.AcceptedHead.{only-zone, first-of, nobody-in, bounded, shape, heading, heads}
+use Rattle.nasa.proofs.States.{same-state, asSeen, zone-number, First, gone-there, head-first, gone-here, Move, put-there, put-here, put-elsewhere}
+use Rattle.nasa.proofs.AcceptedHead.{only-zone, first-of, nobody-in, Accepted, Heads, heading, heads}
 use Rattle.nasa.proofs.DescendFinalTaxi.{leads}
 use Rattle.nasa.proofs.ApproachMergeTransitions.{first-is}
-use Rattle.nasa.proofs.Sequences.{first-left}
-use Rattle.nasa.proofs.Leaving.{behind, elsewhere-apart, lowered-elsewhere, lowered-rest, final-first}
+use Rattle.nasa.proofs.Sequences.{FirstInSequence, first-left}
+use Rattle.nasa.proofs.Leaving.{first-in, elsewhere-apart, lowered-elsewhere, lowered-rest, final-first}
 
 -- a zone that is not the runway is one of the operation area
 pub operating : (y : ScaZone) → eqb (zoneNumber y) 13 ≡ false → T (within 1 12 (zoneNumber y))
 operating y e = let b = zone-number y in let n = eqb-false (zoneNumber y) 13 e in pass (input.within-yes 1 12 (zoneNumber y) (b .least) (omega arith))
 
--- the next sequence number, when one has left
-pub one-fewer : (n : ℕ) (ns : List ℕ) → suc (length ns) ≡ lowered (suc (length (n ∷ ns)))
-one-fewer n ns = let e : suc (length ns) ≡ suc (suc (length ns)) - 1 = omega arith in e ∙ sym (if-false 1 (suc (suc (length ns)) - 1) (ne-eqb (suc (suc (length ns))) 1 (λ q. omega arith)))
+-- the next sequence number, when the first has left
+one-fewer : {f : Field} {x : field.Aircraft} (b : FirstInSequence f x) → suc (length (b .behind)) ≡ lowered (suc (length (orderOf (f .sequence))))
+one-fewer {f} b =
+    let n = suc (length (b .behind)) in
+    let e : n ≡ suc n - 1 = omega arith in
+    e ∙ sym (if-false 1 (suc n - 1) (ne-eqb (suc n) 1 (λ q. omega arith))) ∙ ap (λ (l : List ℕ). lowered (suc (length l))) (sym (b .order))
 
 -- ---- kind 7
-module _ (f : Field) (h : T (hasPlaces f)) (r : Request) (k : r .kind ≡ 7) (e : numberOf f r ≡ 0) (x : field.Aircraft)
-    (rest : List field.Aircraft) (here : inZone f 12 ≡ x ∷ rest) (named : x .number ≡ r .number)
-    (free : isEmpty f 13 ≡ true) (ns : List ℕ) (o : orderOf (f .sequence) ≡ x .number ∷ ns) where
+module _ {f : Field} {r : Request} (H : Heads f r final) (b : FirstInSequence f (H .first .x)) (free : isEmpty f 13 ≡ true) where
   abbrev g : Field
   g = landed f r
 
-  order-after : orderOf (g .sequence) ≡ ns
+  abbrev x : field.Aircraft
+  x = H .first .x
+
+  order-after : orderOf (g .sequence) ≡ b .behind
   unfolding landed outOfSequence withSequence moved tailPut headGone withZone
-  order-after = ap (λ (m : ℕ). orderOf (removed (f .sequence) m)) (sym named) ∙ first-left (f .sequence) (shape f h r e .sequence) (x .number) ns o
+  order-after = ap (λ (m : ℕ). orderOf (removed (f .sequence) m)) (sym (H .named)) ∙ first-left (H .shaped) b
 
   next-kept : g .next ≡ f .next
   unfolding landed outOfSequence withSequence moved tailPut headGone withZone
   next-kept = refl
 
-  further : (m : ℕ) → isIn m ns ≡ true → before m (orderOf (g .sequence)) ≡ before m ns
+  further : (m : ℕ) → isIn m (b .behind) ≡ true → before m (orderOf (g .sequence)) ≡ before m (b .behind)
   further m i = ap (before m) order-after
 
   nobody-there : inZone f 13 ≡ []
@@ -67,49 +71,44 @@ module _ (f : Field) (h : T (hasPlaces f)) (r : Request) (k : r .kind ≡ 7) (e 
   nobody-there = none (inZone f 13) (eqb-true (length (inZone f 13)) 0 free)
 
   room : howMany f 13 < 4
-  unfolding howMany
-  room = let n = ap length nobody-there in omega arith
+  room = let n = eqb-true (howMany f 13) 0 free in omega arith
+
+  abbrev to-runway : Move f final runway
+  to-runway = record { shaped = H .shaped; first = H .first; apart = λ q. omega arith; room = room }
 
   abbrev a : field.Aircraft
   a = arrived (f .legs) 13 (aircraftAt f 12 1)
 
-  apart : _≢_ {A = ℕ} 13 12
-  apart q = omega arith
-
   -- the queues after it
   on-runway : inZone g 13 ≡ a ∷ []
   unfolding landed outOfSequence withSequence moved inZone zoneOf
-  on-runway = put-there f (shape f h r e) 12 13 (zone-number final) (zone-number runway) apart x rest here a room ∙ ap (λ (l : List field.Aircraft). l ++ (a ∷ [])) nobody-there
+  on-runway = put-there to-runway a ∙ ap (λ (l : List field.Aircraft). l ++ (a ∷ [])) nobody-there
 
-  on-final : inZone g 12 ≡ rest
+  on-final : inZone g 12 ≡ H .first .rest
   unfolding landed outOfSequence withSequence moved inZone zoneOf
-  on-final = put-here f (shape f h r e) 12 13 (zone-number final) (zone-number runway) apart x rest here a room
+  on-final = put-here to-runway a
 
   in-others : (y : ℕ) → y ≢ 12 → y ≢ 13 → inZone g y ≡ inZone f y
   unfolding landed outOfSequence withSequence moved inZone zoneOf
-  in-others y p q = put-elsewhere f (shape f h r e) 12 13 (zone-number final) (zone-number runway) apart x rest here a room y p q
+  in-others = put-elsewhere to-runway a
 
   abbrev R : List ScaAircraft
-  R = map (seen f 12) rest
+  R = map (seen f 12) (H .first .rest)
 
   -- on the runway it has the sequence number that it had, 1
   lands : seen g 13 a ≡ seen f 12 x
   unfolding arrived onLeg
   lands =
-      let one : before (x .number) (orderOf (f .sequence)) ≡ 0 = ap (before (x .number)) o ∙ if-true 0 (suc (before (x .number) ns)) (same (x .number)) in
-      ap (λ (c : field.Aircraft). asSeen 1 (c .fix)) (head-first f (shape f h r e) 12 13 (zone-number final) (zone-number runway) apart x rest here)
-      ∙ ap (λ (m : ℕ). asSeen (suc m) (x .fix)) (sym one)
+      let one : before (x .number) (orderOf (f .sequence)) ≡ 0 = ap (before (x .number)) (b .order) ∙ if-true 0 (suc (before (x .number) (b .behind))) (same (x .number)) in
+      ap (λ (c : field.Aircraft). asSeen 1 (c .fix)) (head-first (H .first)) ∙ ap (λ (m : ℕ). asSeen (suc m) (x .fix)) (sym one)
 
   abbrev after : SCA
   after = withNext (add (decreased (λ z. sameZone z runway) (withQueue (stateOf f) final R)) runway (seen f 12 x)) (stateOf f .nextmahf) (lowered (stateOf f .nextseq))
 
   landed-state : stateOf g ≡ after
   unfolding stateOf withQueue add withNext decreased orderLength
-  landed-state = same-state queues (ap sideNamed next-kept) next-number
+  landed-state = same-state queues (ap sideNamed next-kept) (ap (λ (l : List ℕ). suc (length l)) order-after ∙ one-fewer b)
     where
-      next-number : suc (length (orderOf (g .sequence))) ≡ lowered (suc (length (orderOf (f .sequence))))
-      next-number = ap (λ (l : List ℕ). suc (length l)) order-after ∙ one-fewer (x .number) ns ∙ ap (λ (l : List ℕ). lowered (suc (length l))) (sym o)
-
       off-runway : (y : ScaZone) → eqb (zoneNumber y) 13 ≡ false
           → map (seen g (zoneNumber y)) (inZone g (zoneNumber y)) ≡ decrease (cond (eqb (zoneNumber y) 12) R (map (seen f (zoneNumber y)) (inZone f (zoneNumber y))))
       off-runway y p = elim (decided (eqb (zoneNumber y) 12)) [
@@ -117,11 +116,11 @@ module _ (f : Field) (h : T (hasPlaces f)) (r : Request) (k : r .kind ≡ 7) (e 
             let at = eqb-true (zoneNumber y) 12 q in
             ap (λ (m : ℕ). map (seen g m) (inZone g m)) at
             ∙ ap (map (seen g 12)) on-final
-            ∙ lowered-rest f (bounded f h r e) 12 (zone-number final) x rest here g ns o further tt
+            ∙ lowered-rest (H .bounds) (H .first) b g further tt
             ∙ ap decrease (sym (if-true R _ q))
         | inr q ↦
             ap (map (seen g (zoneNumber y))) (in-others (zoneNumber y) (eqb-false (zoneNumber y) 12 q) (eqb-false (zoneNumber y) 13 p))
-            ∙ lowered-elsewhere f (bounded f h r e) 12 (zone-number final) x rest here g ns o further (zoneNumber y) (operating y p) (eqb-false (zoneNumber y) 12 q)
+            ∙ lowered-elsewhere (H .bounds) (H .first) b g further y (operating y p) (eqb-false (zoneNumber y) 12 q)
             ∙ ap decrease (sym (if-false R _ q))
       ]
 
@@ -139,42 +138,39 @@ module _ (f : Field) (h : T (hasPlaces f)) (r : Request) (k : r .kind ≡ 7) (e 
 pub land-is : (f : Field) → T (hasPlaces f) → (r : Request) → r .kind ≡ 7 → numberOf f r ≡ 0 → Is f r landing
 unfolding landing startsFrom
 land-is f h r k e =
-    let H = heading f h r e 7 k refl refl in
-    let a = heads f h r e 7 k refl refl in
-    let at : zoneBefore f r ≡ 12 = only-zone 12 (zoneBefore f r) (H .starts) in
-    let here = ap (inZone f) (sym at) ∙ a .here in
-    let others = first-passes 15 (flownOutCheck f (zoneBefore f r) .1) ((24, isEmpty f 13) ∷ []) (omega arith) (H .others) .1 in
+    let A : Accepted f r 7 = record { places = h; kind = k; accepted = e } in
+    let passed = heading A refl refl in
+    let H = heads A refl refl final (only-zone 12 (zoneBefore f r) (passed .starts)) in
+    let others = first-passes 15 (flownOutCheck f (zoneBefore f r) .1) ((24, isEmpty f 13) ∷ []) (omega arith) (passed .others) .1 in
     let free = first-passes 24 (isEmpty f 13) [] (omega arith) others .0 in
-    let b = behind (f .sequence) (a .x .number) (final-first f (bounded f h r e) (a .x) (a .rest) here) in
-    leads f r landing (after f h r k e (a .x) (a .rest) here (a .named) free (b .0) (b .1)) (landed f r) e (effect-at f r k)
-    (first-of f final (a .x) (a .rest) here _ ∙ if-true _ [] (nobody-in f runway ∙ free))
-    (landed-state f h r k e (a .x) (a .rest) here (a .named) free (b .0) (b .1))
+    leads f r landing e (landed-state H (final-first (H .bounds) (H .first)) free) (effect-at f r k) (first-of (H .first) _ ∙ if-true _ [] (nobody-in f runway ∙ free))
 
 -- ---- kind 9
-module _ (f : Field) (h : T (hasPlaces f)) (r : Request) (k : r .kind ≡ 9) (e : numberOf f r ≡ 0) (x : field.Aircraft)
-    (rest : List field.Aircraft) (here : inZone f 11 ≡ x ∷ rest) (named : x .number ≡ r .number)
-    (ns : List ℕ) (o : orderOf (f .sequence) ≡ x .number ∷ ns) where
+module _ {f : Field} {r : Request} (H : Heads f r intermediate) (b : FirstInSequence f (H .first .x)) where
   abbrev g₉ : Field
   g₉ = exited f r
 
-  order-out : orderOf (g₉ .sequence) ≡ ns
+  abbrev x₉ : field.Aircraft
+  x₉ = H .first .x
+
+  order-out : orderOf (g₉ .sequence) ≡ b .behind
   unfolding exited outOfSequence withSequence headGone withZone
-  order-out = ap (λ (m : ℕ). orderOf (removed (f .sequence) m)) (sym named) ∙ first-left (f .sequence) (shape f h r e .sequence) (x .number) ns o
+  order-out = ap (λ (m : ℕ). orderOf (removed (f .sequence) m)) (sym (H .named)) ∙ first-left (H .shaped) b
 
   next-out : g₉ .next ≡ f .next
   unfolding exited outOfSequence withSequence headGone withZone
   next-out = refl
 
-  further-out : (m : ℕ) → isIn m ns ≡ true → before m (orderOf (g₉ .sequence)) ≡ before m ns
+  further-out : (m : ℕ) → isIn m (b .behind) ≡ true → before m (orderOf (g₉ .sequence)) ≡ before m (b .behind)
   further-out m i = ap (before m) order-out
 
-  on-intermediate : inZone g₉ 11 ≡ rest
+  on-intermediate : inZone g₉ 11 ≡ H .first .rest
   unfolding exited outOfSequence withSequence inZone zoneOf
-  on-intermediate = gone-here f (shape f h r e) 11 12 (zone-number intermediate) (zone-number final) (λ q. omega arith) x rest here
+  on-intermediate = gone-here (H .first) (H .shaped)
 
   in-rest : (y : ℕ) → y ≢ 11 → inZone g₉ y ≡ inZone f y
   unfolding exited outOfSequence withSequence inZone zoneOf
-  in-rest y p = gone-there f (shape f h r e) 11 12 (zone-number intermediate) (zone-number final) (λ q. omega arith) x rest here y p
+  in-rest = gone-there f 11
 
   -- nobody is on final, since its head would be the first of the sequence
   none-on-final : inZone f 12 ≡ []
@@ -183,28 +179,25 @@ module _ (f : Field) (h : T (hasPlaces f)) (r : Request) (k : r .kind ≡ 9) (e 
       go : (l : List field.Aircraft) → inZone f 12 ≡ l → l ≡ []
       go [] q = refl
       go (y ∷ ys) q =
-          let b = behind (f .sequence) (y .number) (final-first f (bounded f h r e) y ys q) in
-          let same-one : y .number ≡ x .number = head-same (sym (b .1) ∙ o) in
-          let there : isIn (x .number) (numbersAt f 12) ≡ true =
-          ap (λ (l : List field.Aircraft). isIn (x .number) (numbers l)) q ∙ ap (λ (c : Bool). c || isIn (x .number) (numbers ys)) (eq-eqb (y .number) (x .number) same-one) in
-          absurd (true≢false (sym there ∙ elsewhere-apart f (bounded f h r e) 11 (zone-number intermediate) x rest here 12 (zone-number final) (λ w. omega arith)))
+          let F : First f final = record { x = y; rest = ys; here = q } in
+          let same-one : y .number ≡ x₉ .number = head-same (sym (final-first (H .bounds) F .order) ∙ b .order) in
+          let there : isIn (x₉ .number) (numbersAt f 12) ≡ true =
+          ap (λ (l : List field.Aircraft). isIn (x₉ .number) (numbers l)) q ∙ ap (λ (c : Bool). c || isIn (x₉ .number) (numbers ys)) (eq-eqb (y .number) (x₉ .number) same-one) in
+          absurd (true≢false (sym there ∙ elsewhere-apart (H .bounds) (H .first) final (λ w. omega arith)))
         where
           head-same : {m n : ℕ} {ms os : List ℕ} → m ∷ ms ≡ n ∷ os → m ≡ n
           head-same {m} {n} {ms} {os} w = cc
 
   abbrev R₉ : List ScaAircraft
-  R₉ = map (seen f 11) rest
+  R₉ = map (seen f 11) (H .first .rest)
 
   abbrev after-exit : SCA
   after-exit = withNext (decreased (λ z. sameZone z final || sameZone z runway) (withQueue (stateOf f) intermediate R₉)) (stateOf f .nextmahf) (lowered (stateOf f .nextseq))
 
   exited-state : stateOf g₉ ≡ after-exit
   unfolding stateOf withQueue add withNext decreased orderLength
-  exited-state = same-state queues (ap sideNamed next-out) next-number
+  exited-state = same-state queues (ap sideNamed next-out) (ap (λ (l : List ℕ). suc (length l)) order-out ∙ one-fewer b)
     where
-      next-number : suc (length (orderOf (g₉ .sequence))) ≡ lowered (suc (length (orderOf (f .sequence))))
-      next-number = ap (λ (l : List ℕ). suc (length l)) order-out ∙ one-fewer (x .number) ns ∙ ap (λ (l : List ℕ). lowered (suc (length l))) (sym o)
-
       own : (n : ℕ) → List ScaAircraft
       own n = cond (eqb n 11) R₉ (map (seen f n) (inZone f n))
 
@@ -220,11 +213,11 @@ module _ (f : Field) (h : T (hasPlaces f)) (r : Request) (k : r .kind ≡ 9) (e 
         | inl q ↦
             ap (λ (m : ℕ). map (seen g₉ m) (inZone g₉ m)) (eqb-true (zoneNumber y) 11 q)
             ∙ ap (map (seen g₉ 11)) on-intermediate
-            ∙ lowered-rest f (bounded f h r e) 11 (zone-number intermediate) x rest here g₉ ns o further-out tt
+            ∙ lowered-rest (H .bounds) (H .first) b g₉ further-out tt
             ∙ ap decrease (sym (if-true R₉ _ q))
         | inr q ↦
             ap (map (seen g₉ (zoneNumber y))) (in-rest (zoneNumber y) (eqb-false (zoneNumber y) 11 q))
-            ∙ lowered-elsewhere f (bounded f h r e) 11 (zone-number intermediate) x rest here g₉ ns o further-out (zoneNumber y) (operating y p) (eqb-false (zoneNumber y) 11 q)
+            ∙ lowered-elsewhere (H .bounds) (H .first) b g₉ further-out y (operating y p) (eqb-false (zoneNumber y) 11 q)
             ∙ ap decrease (sym (if-false R₉ _ q))
       ]
 
@@ -247,13 +240,10 @@ module _ (f : Field) (h : T (hasPlaces f)) (r : Request) (k : r .kind ≡ 9) (e 
 pub exit-is : (f : Field) → T (hasPlaces f) → (r : Request) → r .kind ≡ 9 → numberOf f r ≡ 0 → Is f r exit
 unfolding exit startsFrom
 exit-is f h r k e =
-    let H = heading f h r e 9 k refl refl in
-    let a = heads f h r e 9 k refl refl in
-    let at : zoneBefore f r ≡ 11 = only-zone 11 (zoneBefore f r) (H .starts) in
-    let here = ap (inZone f) (sym at) ∙ a .here in
-    let others = first-passes 15 (flownOutCheck f (zoneBefore f r) .1) ((22, isFirst (f .sequence) (r .number)) ∷ []) (omega arith) (H .others) .1 in
+    let A : Accepted f r 9 = record { places = h; kind = k; accepted = e } in
+    let passed = heading A refl refl in
+    let H = heads A refl refl intermediate (only-zone 11 (zoneBefore f r) (passed .starts)) in
+    let others = first-passes 15 (flownOutCheck f (zoneBefore f r) .1) ((22, isFirst (f .sequence) (r .number)) ∷ []) (omega arith) (passed .others) .1 in
     let met = first-passes 22 (isFirst (f .sequence) (r .number)) [] (omega arith) others .0 in
-    let b = behind (f .sequence) (a .x .number) (ap (isFirst (f .sequence)) (a .named) ∙ met) in
-    leads f r exit (after-exit f h r k e (a .x) (a .rest) here (a .named) (b .0) (b .1)) (exited f r) e (effect-at f r k)
-    (first-of f intermediate (a .x) (a .rest) here _ ∙ if-true _ [] (first-is f (bounded f h r e) r intermediate at a tt ∙ met))
-    (exited-state f h r k e (a .x) (a .rest) here (a .named) (b .0) (b .1))
+    let b = first-in f (H .first .x) (ap (isFirst (f .sequence)) (H .named) ∙ met) in
+    leads f r exit e (exited-state H b) (effect-at f r k) (first-of (H .first) _ ∙ if-true _ [] (first-is H tt ∙ met))

@@ -3,17 +3,14 @@ use mathlib.Core.Path.{_≡_, refl, sym, ap, _∙_, subst}
 use mathlib.Core.Logic.{_≢_, _⊎_, inl, inr}
 use mathlib.Core.Bool.{Bool, true, false, not, _||_, true≢false, or-true}
 use mathlib.Core.List.{List, [], _∷_, _++_, map}
-use Prim.Native.Nat.{ℕ, suc, _≤_}
+use Prim.Native.Nat.{ℕ, suc}
 use native.Mathlib.Omega.{arith}
 use borrow.Author.Tests.{ne-eqb, eqb-true}
 use lib.Dec.{T, eqb}
 use lib.Ieee.Fits.{and-l}
 use lib.ListN.{length, getD}
-use Rattle.leg.specs.Ticks.{Between}
 use Rattle.request.specs.Input.{within}
-use Rattle.request.proofs.InputTests as input
 use Rattle.field.specs.declared.Aircraft as field
-use Rattle.field.specs.declared.Sequence.{Sequence}
 use Rattle.field.specs.declared.Field.{Field}
 use Rattle.questions.specs.declared.Place.{Place}
 use Rattle.field.specs.Airspace.{nobody, inZone, orderOf, everywhere}
@@ -27,77 +24,84 @@ use Rattle.field.proofs.NumberLists.{absent-left, different-right, zone-listed}
 use Rattle.questions.proofs.NumbersListed.{numbersAt}
 use Rattle.questions.proofs.FindLaws.{numbers, at, own-place}
 use Rattle.laws.proofs.BoundLaws.{within-e, numbers-different}
-use Rattle.line.proofs.CountedOnLine.{lower, not-13}
-use Rattle.nasa.specs.Definitions.{ScaAircraft, decrease}
+use Rattle.line.proofs.CountedOnLine.{not-13}
+use Rattle.nasa.specs.Definitions.{ScaZone, final, decrease}
+use Rattle.nasa.specs.Rules.{zoneNumber}
 use Rattle.nasa.specs.Stands.{seen}
+use Rattle.nasa.proofs.States.{zone-number, First, someone, head-first}
 use Rattle.nasa.proofs.AskedOfState.{in-sequence, in-its-zone}
-use Rattle.nasa.proofs.Sequences.{seen-lowered}
+use Rattle.nasa.proofs.Sequences.{FirstInSequence, seen-lowered}
 
--- the first of a sequence, and those behind it
-pub behind : (s : Sequence) (n : ℕ) → isFirst s n ≡ true → (ns : List ℕ) × (orderOf s ≡ n ∷ ns)
+-- one that is found to be the first of the sequence, and those behind it
+pub first-in : (f : Field) (x : field.Aircraft) → isFirst (f .sequence) (x .number) ≡ true → FirstInSequence f x
 unfolding isFirst
-behind s n e = go (orderOf s) refl e
+first-in f x = go (orderOf (f .sequence)) refl
   where
-    go : (l : List ℕ) → orderOf s ≡ l → isHead n l ≡ true → (ns : List ℕ) × (orderOf s ≡ n ∷ ns)
+    go : (l : List ℕ) → orderOf (f .sequence) ≡ l → isHead (x .number) l ≡ true → FirstInSequence f x
     go [] o i = absurd (true≢false (sym i))
-    go (m ∷ ms) o i = (ms, o ∙ ap (λ (k : ℕ). k ∷ ms) (eqb-true m n i))
+    go (m ∷ ms) o i = record { behind = ms; order = o ∙ ap (λ (k : ℕ). k ∷ ms) (eqb-true m (x .number) i) }
 
-pub between : (z : ℕ) → T (within 1 13 z) → Between 1 13 z
-between z t = record { least = input.within-low 1 13 z (passed t); most = input.within-high 1 13 z (passed t) }
-
--- ---- x, at the head of zone z
-module _ (f : Field) (t : T (withinBounds f)) (z : ℕ) (b : Between 1 13 z) (x : field.Aircraft) (rest : List field.Aircraft) (here : inZone f z ≡ x ∷ rest) where
+-- ---- the first of zone z
+module _ {f : Field} {z : ScaZone} (t : T (withinBounds f)) (F : First f z) where
   abbrev n : ℕ
-  n = x .number
+  n = F .x .number
+
+  abbrev zn : ℕ
+  zn = zoneNumber z
+
+  abbrev rest : List field.Aircraft
+  rest = F .rest
 
   -- nobody behind it in the zone has its number, ..
-  pub rest-apart : isIn n (numbers rest) ≡ false
-  rest-apart = go everywhere (numbers-different f t) (zone-listed z b)
+  rest-apart : isIn n (numbers rest) ≡ false
+  rest-apart = go everywhere (numbers-different f t) (zone-listed zn (zone-number z))
     where
-      go : (zs : List ℕ) → T (allDifferent (numbersIn f zs)) → isIn z zs ≡ true → isIn n (numbers rest) ≡ false
+      go : (zs : List ℕ) → T (allDifferent (numbersIn f zs)) → isIn zn zs ≡ true → isIn n (numbers rest) ≡ false
       go [] d i = absurd (true≢false (sym i))
-      go (w ∷ zs) d i = pick (decided (eqb w z)) (go zs (different-right (numbersAt f w) (numbersIn f zs) d))
+      go (w ∷ zs) d i = pick (decided (eqb w zn)) (go zs (different-right (numbersAt f w) (numbersIn f zs) d))
         where
-          pick : (eqb w z ≡ true) ⊎ (eqb w z ≡ false) → (isIn z zs ≡ true → isIn n (numbers rest) ≡ false) → isIn n (numbers rest) ≡ false
+          pick : (eqb w zn ≡ true) ⊎ (eqb w zn ≡ false) → (isIn zn zs ≡ true → isIn n (numbers rest) ≡ false) → isIn n (numbers rest) ≡ false
           pick (inl e) later =
-              let all = ap (λ (y : ℕ). numbersAt f y ++ numbersIn f zs) (eqb-true w z e) ∙ ap (λ (l : List field.Aircraft). numbers l ++ numbersIn f zs) here in
+              let all = ap (λ (y : ℕ). numbersAt f y ++ numbersIn f zs) (eqb-true w zn e) ∙ ap (λ (l : List field.Aircraft). numbers l ++ numbersIn f zs) (F .here) in
               let others = numbers rest ++ numbersIn f zs in
               absent-left n (numbers rest) (numbersIn f zs) (failed (and-l (not (isIn n others)) (allDifferent others) (subst (λ (l : List ℕ). T (allDifferent l)) all d)))
-          pick (inr e) later = later (sym (ap (λ (c : Bool). c || isIn z zs) e) ∙ i)
+          pick (inr e) later = later (sym (ap (λ (c : Bool). c || isIn zn zs) e) ∙ i)
 
-  pub found-head : placeOf f n ≡ at z 1
-  unfolding howMany aircraftAt
-  found-head =
-      let some : 1 ≤ length (inZone f z) = let m = ap length here in omega arith in
-      ap (λ (l : List field.Aircraft). placeOf f (getD (nobody ∷ l) 1 nobody .number)) (sym here) ∙ own-place f z 1 (numbers-different f t) b (omega arith) some
+  pub found-head : placeOf f n ≡ at zn 1
+  found-head = ap (λ (a : field.Aircraft). placeOf f (a .number)) (sym (head-first F)) ∙ own-place f zn 1 (numbers-different f t) (zone-number z) (omega arith) (someone F)
 
   -- .. and nobody in another
-  pub elsewhere-apart : (y : ℕ) → Between 1 13 y → y ≢ z → isIn n (numbersAt f y) ≡ false
-  elsewhere-apart y c h = in-its-zone f t n y c ∙ ap (λ (p : Place). eqb (p .zone) y) found-head ∙ ne-eqb z y (λ e. h (sym e))
+  pub elsewhere-apart : (y : ScaZone) → zoneNumber y ≢ zn → isIn n (numbersAt f (zoneNumber y)) ≡ false
+  elsewhere-apart y h = in-its-zone f t n (zoneNumber y) (zone-number y) ∙ ap (λ (p : Place). eqb (p .zone) (zoneNumber y)) found-head ∙ ne-eqb zn (zoneNumber y) (λ e. h (sym e))
 
   -- ---- it is the first of the sequence, and on the field g those behind it are each a place further
-  module _ (g : Field) (ns : List ℕ) (o : orderOf (f .sequence) ≡ n ∷ ns) (further : (m : ℕ) → isIn m ns ≡ true → before m (orderOf (g .sequence)) ≡ before m ns) where
+  module _ (b : FirstInSequence f (F .x)) (g : Field) (further : (m : ℕ) → isIn m (b .behind) ≡ true → before m (orderOf (g .sequence)) ≡ before m (b .behind)) where
     -- one of the operation area that is not it is behind it
-    is-behind : (y : ℕ) → T (within 1 12 y) → (m : ℕ) → isIn m (numbersAt f y) ≡ true → eqb n m ≡ false → isIn m ns ≡ true
-    is-behind y u m i h = sym (ap (λ (c : Bool). c || isIn m ns) h) ∙ ap (isIn m) (sym o) ∙ in-sequence f t y u m i
+    is-behind : (y : ℕ) → T (within 1 12 y) → (m : ℕ) → isIn m (numbersAt f y) ≡ true → eqb n m ≡ false → isIn m (b .behind) ≡ true
+    is-behind y u m i h = sym (ap (λ (c : Bool). c || isIn m (b .behind)) h) ∙ ap (isIn m) (sym (b .order)) ∙ in-sequence f t y u m i
 
-    pub lowered-elsewhere : (y : ℕ) → T (within 1 12 y) → y ≢ z → map (seen g y) (inZone f y) ≡ decrease (map (seen f y) (inZone f y))
+    -- those of another zone are lowered, ..
+    pub lowered-elsewhere : (y : ScaZone) → T (within 1 12 (zoneNumber y)) → zoneNumber y ≢ zn
+        → map (seen g (zoneNumber y)) (inZone f (zoneNumber y)) ≡ decrease (map (seen f (zoneNumber y)) (inZone f (zoneNumber y)))
     lowered-elsewhere y u h =
-        let apart = elsewhere-apart y (between y (lower y u)) h in
-        seen-lowered f g y n ns o (not-13 y u) (inZone f y) apart
-        (λ m i. further m (is-behind y u m i (ne-eqb n m (λ e. true≢false (sym i ∙ ap (λ (k : ℕ). isIn k (numbersAt f y)) (sym e) ∙ apart)))))
+        let yn = zoneNumber y in
+        let apart = elsewhere-apart y h in
+        seen-lowered f g yn b (not-13 yn u) (inZone f yn) apart
+        (λ m i. further m (is-behind yn u m i (ne-eqb n m (λ e. true≢false (sym i ∙ ap (λ (k : ℕ). isIn k (numbersAt f yn)) (sym e) ∙ apart)))))
 
-    pub lowered-rest : T (within 1 12 z) → map (seen g z) rest ≡ decrease (map (seen f z) rest)
+    -- .. and those behind it in its own
+    pub lowered-rest : T (within 1 12 zn) → map (seen g zn) rest ≡ decrease (map (seen f zn) rest)
     lowered-rest u =
-        seen-lowered f g z n ns o (not-13 z u) rest rest-apart
+        seen-lowered f g zn b (not-13 zn u) rest rest-apart
         (λ m i.
-        let here′ = ap (λ (l : List field.Aircraft). isIn m (numbers l)) here ∙ ap (λ (c : Bool). eqb n m || c) i ∙ or-true (eqb n m) in
-        further m (is-behind z u m here′ (ne-eqb n m (λ e. true≢false (sym i ∙ ap (λ (k : ℕ). isIn k (numbers rest)) (sym e) ∙ rest-apart)))))
+        let here = ap (λ (l : List field.Aircraft). isIn m (numbers l)) (F .here) ∙ ap (λ (c : Bool). eqb n m || c) i ∙ or-true (eqb n m) in
+        further m (is-behind zn u m here (ne-eqb n m (λ e. true≢false (sym i ∙ ap (λ (k : ℕ). isIn k (numbers rest)) (sym e) ∙ rest-apart)))))
 
 -- whoever heads final is the first of the sequence
-pub final-first : (f : Field) → T (withinBounds f) → (x : field.Aircraft) (rest : List field.Aircraft) → inZone f 12 ≡ x ∷ rest → isFirst (f .sequence) (x .number) ≡ true
+pub final-first : {f : Field} → T (withinBounds f) → (F : First f final) → FirstInSequence f (F .x)
 unfolding finalFirst howMany aircraftAt
-final-first f t x rest here =
-    sym (ap (λ (l : List field.Aircraft). eqb (length l) 0 || isFirst (f .sequence) (getD (nobody ∷ l) 1 nobody .number)) here
-    ∙ ap (λ (c : Bool). c || isFirst (f .sequence) (x .number)) (ne-eqb (suc (length rest)) 0 (λ e. omega arith)))
-    ∙ passed (within-e f t .first)
+final-first {f} t F =
+    first-in f (F .x)
+    (sym (ap (λ (l : List field.Aircraft). eqb (length l) 0 || isFirst (f .sequence) (getD (nobody ∷ l) 1 nobody .number)) (F .here)
+    ∙ ap (λ (c : Bool). c || isFirst (f .sequence) (F .x .number)) (ne-eqb (suc (length (F .rest))) 0 (λ e. omega arith)))
+    ∙ passed (within-e f t .first))

@@ -19,7 +19,7 @@ use Rattle.field.specs.Lists.{isIn}
 use Rattle.field.proofs.TestLaws.{decided, if-true, if-false, same, flip-eqb}
 use Rattle.field.proofs.NumberLists.{or-false-left, or-false-right}
 use Rattle.questions.proofs.FindLaws.{numbers}
-use Rattle.laws.proofs.EditLaws.{ShapedSequence}
+use Rattle.laws.proofs.EditLaws.{ShapedSequence, Shaped}
 use Rattle.nasa.specs.Definitions.{ScaAircraft, decrease}
 use Rattle.nasa.specs.Stands.{seen}
 use Rattle.nasa.proofs.States.{asSeen}
@@ -27,7 +27,7 @@ use Rattle.nasa.proofs.States.{asSeen}
 -- ---- the sequence
 
 -- as many stand in it as its length says
-pub order-length : (s : Sequence) → ShapedSequence s → length (orderOf s) ≡ s .length
+order-length : (s : Sequence) → ShapedSequence s → length (orderOf s) ≡ s .length
 unfolding orderOf
 order-length s k = length-take-le (s .length) (s .numbers) (omega arith)
 
@@ -38,25 +38,6 @@ moved-up (suc m) [] ys l h = absurd (omega arith)
 moved-up (suc m) (x ∷ xs) ys l h = let e : suc m - 1 ≡ m = omega arith in ap (λ (i : ℕ). take i (xs ++ ys)) e ∙ take-append-le m xs ys (omega arith)
 
 module _ (s : Sequence) (k : ShapedSequence s) (n : ℕ) where
-  module _ (ns : List ℕ) (o : orderOf s ≡ n ∷ ns) where
-    some : 1 ≤ s .length
-    some = let l = order-length s k in let m = ap length o in omega arith
-
-    left : removed s n ≡ record { numbers = drop 1 (s .numbers) ++ (0 ∷ []); length = s .length - 1 }
-    unfolding removed
-    left =
-        let none : before n (orderOf s) ≡ 0 = ap (before n) o ∙ if-true 0 (suc (before n ns)) (same n) in
-        if-true _ s (lt-ltb (before n (orderOf s)) (length (orderOf s)) (let m = ap length o in omega arith))
-        ∙ ap (λ (j : ℕ). record { numbers = take j (s .numbers) ++ drop (suc j) (s .numbers) ++ (0 ∷ []); length = s .length - 1 }) none
-
-    -- the first leaves it
-    pub first-left : orderOf (removed s n) ≡ ns
-    unfolding orderOf
-    first-left = let m = some in ap orderOf left ∙ moved-up (s .length) (s .numbers) (0 ∷ []) m (omega arith) ∙ ap (drop 1) o
-
-    pub shaped-left : ShapedSequence (removed s n)
-    shaped-left = let m = some in rw left (record { places = simp (length-append, length-drop) (omega arith); fits = omega arith })
-
   -- another comes to its end
   pub last-put : s .length < 4 → orderOf (appended s n) ≡ orderOf s ++ (n ∷ [])
   unfolding orderOf appended
@@ -66,6 +47,42 @@ module _ (s : Sequence) (k : ShapedSequence s) (n : ℕ) where
   pub full-stays : ltb (s .length) 4 ≡ false → appended s n ≡ s
   unfolding appended
   full-stays h = if-false _ s h
+
+-- x is the first of a field's sequence, and these stand behind it
+pub record FirstInSequence (f : Field) (x : field.Aircraft) : Type 0 where
+  pub behind : List ℕ
+  pub order : orderOf (f .sequence) ≡ x .number ∷ behind
+
+module _ {f : Field} {x : field.Aircraft} (k : Shaped f) (b : FirstInSequence f x) where
+  abbrev s₀ : Sequence
+  s₀ = f .sequence
+
+  abbrev n₀ : ℕ
+  n₀ = x .number
+
+  some : 1 ≤ s₀ .length
+  some = let l = order-length s₀ (k .sequence) in let m = ap length (b .order) in omega arith
+
+  left : removed s₀ n₀ ≡ record { numbers = drop 1 (s₀ .numbers) ++ (0 ∷ []); length = s₀ .length - 1 }
+  unfolding removed
+  left =
+      let none : before n₀ (orderOf s₀) ≡ 0 = ap (before n₀) (b .order) ∙ if-true 0 (suc (before n₀ (b .behind))) (same n₀) in
+      if-true _ s₀ (lt-ltb (before n₀ (orderOf s₀)) (length (orderOf s₀)) (let m = ap length (b .order) in omega arith))
+      ∙ ap (λ (j : ℕ). record { numbers = take j (s₀ .numbers) ++ drop (suc j) (s₀ .numbers) ++ (0 ∷ []); length = s₀ .length - 1 }) none
+
+  -- it leaves the sequence, ..
+  pub first-left : orderOf (removed s₀ n₀) ≡ b .behind
+  unfolding orderOf
+  first-left = let m = some in let q = k .sequence in ap orderOf left ∙ moved-up (s₀ .length) (s₀ .numbers) (0 ∷ []) m (omega arith) ∙ ap (drop 1) (b .order)
+
+  -- .. or goes to its end
+  pub first-last : orderOf (appended (removed s₀ n₀) n₀) ≡ b .behind ++ (n₀ ∷ [])
+  first-last =
+      let m = some in
+      let q = k .sequence in
+      let shaped : ShapedSequence (removed s₀ n₀) = rw left (record { places = simp (length-append, length-drop) (omega arith); fits = omega arith }) in
+      let few = ap (λ (c : Sequence). c .length) left in
+      last-put (removed s₀ n₀) shaped n₀ (omega arith) ∙ ap (λ (l : List ℕ). l ++ (n₀ ∷ [])) first-left
 
 -- ---- how many stand before a number
 
@@ -98,22 +115,25 @@ module _ (f g : Field) (w : ℕ) where
       ∙ ap (λ (l : List ScaAircraft). seen f w x ∷ l) (seen-kept xs (λ m i. h m (ap (λ (b : Bool). eqb n m || b) i ∙ or-true (eqb n m))))
 
   -- the first of the sequence is gone: each is lowered by one
-  module _ (n : ℕ) (ns : List ℕ) (o : orderOf (f .sequence) ≡ n ∷ ns) (not-runway : eqb w 13 ≡ false) where
-    one-lowered : (x : field.Aircraft) → eqb (x .number) n ≡ false → before (x .number) (orderOf (g .sequence)) ≡ before (x .number) ns → seen g w x ≡ asSeen (seen f w x .seq - 1) (x .fix)
+  module _ {y : field.Aircraft} (b : FirstInSequence f y) (not-runway : eqb w 13 ≡ false) where
+    abbrev n₁ : ℕ
+    n₁ = y .number
+
+    one-lowered : (x : field.Aircraft) → eqb (x .number) n₁ ≡ false → before (x .number) (orderOf (g .sequence)) ≡ before (x .number) (b .behind) → seen g w x ≡ asSeen (seen f w x .seq - 1) (x .fix)
     one-lowered x a h =
         let m = x .number in
-        let later : before m (orderOf (f .sequence)) ≡ suc (before m ns) = ap (before m) o ∙ if-false 0 (suc (before m ns)) (flip-eqb m n a) in
-        let less : suc (before m ns) ≡ suc (before m (orderOf (f .sequence))) - 1 = omega arith in
+        let later : before m (orderOf (f .sequence)) ≡ suc (before m (b .behind)) = ap (before m) (b .order) ∙ if-false 0 (suc (before m (b .behind))) (flip-eqb m n₁ a) in
+        let less : suc (before m (b .behind)) ≡ suc (before m (orderOf (f .sequence))) - 1 = omega arith in
         ap (λ (b : Bool). asSeen (cond b 1 (suc (before m (orderOf (g .sequence))))) (x .fix)) not-runway
         ∙ ap (λ (b : ℕ). asSeen (suc b) (x .fix)) h
         ∙ ap (λ (b : ℕ). asSeen b (x .fix)) less
         ∙ ap (λ (b : Bool). asSeen (cond b 1 (suc (before m (orderOf (f .sequence)))) - 1) (x .fix)) (sym not-runway)
 
-    pub seen-lowered : (xs : List field.Aircraft) → isIn n (numbers xs) ≡ false → ((m : ℕ) → isIn m (numbers xs) ≡ true → before m (orderOf (g .sequence)) ≡ before m ns)
+    pub seen-lowered : (xs : List field.Aircraft) → isIn n₁ (numbers xs) ≡ false → ((m : ℕ) → isIn m (numbers xs) ≡ true → before m (orderOf (g .sequence)) ≡ before m (b .behind))
         → map (seen g w) xs ≡ decrease (map (seen f w) xs)
     seen-lowered [] a h = refl
     seen-lowered (x ∷ xs) a h =
         let m = x .number in
-        ap (λ (c : ScaAircraft). c ∷ map (seen g w) xs) (one-lowered x (or-false-left (eqb m n) (isIn n (numbers xs)) a) (h m (ap (λ (b : Bool). b || isIn m (numbers xs)) (same m))))
+        ap (λ (c : ScaAircraft). c ∷ map (seen g w) xs) (one-lowered x (or-false-left (eqb m n₁) (isIn n₁ (numbers xs)) a) (h m (ap (λ (b : Bool). b || isIn m (numbers xs)) (same m))))
         ∙ ap (λ (l : List ScaAircraft). asSeen (seen f w x .seq - 1) (x .fix) ∷ l)
-        (seen-lowered xs (or-false-right (eqb m n) (isIn n (numbers xs)) a) (λ j i. h j (ap (λ (b : Bool). eqb m j || b) i ∙ or-true (eqb m j))))
+        (seen-lowered xs (or-false-right (eqb m n₁) (isIn n₁ (numbers xs)) a) (λ j i. h j (ap (λ (b : Bool). eqb m j || b) i ∙ or-true (eqb m j))))

@@ -20,7 +20,7 @@ use Rattle.field.proofs.NumberLists.{every-listed, zone-listed}
 use Rattle.laws.proofs.BoundLaws.{within-each}
 use Rattle.laws.proofs.Fits.{fits-parts}
 use Rattle.reason.proofs.Invariant.{parts}
-use Rattle.nasa.specs.Definitions.{ScaAircraft, ScaZone, holding3, holding2, lez, maz, base, intermediate, final, sameSide, assigned, approachAssigned, virtual}
+use Rattle.nasa.specs.Definitions.{ScaZone, holding3, holding2, lez, maz, base, intermediate, final, sameSide, assigned, approachAssigned, virtual}
 use Rattle.nasa.specs.Rules.{zoneNumber}
 use Rattle.nasa.specs.Stands.{sideNamed, seen, stateOf}
 use Rattle.nasa.proofs.States.{zone-number}

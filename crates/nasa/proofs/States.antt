@@ -4,7 +4,7 @@ use mathlib.Core.Path.{_≡_, refl, sym, ap, _∙_, fun-ext}
 use mathlib.Core.Logic.{_≢_, _⊎_, inl, inr}
 use mathlib.Core.Bool.{Bool, true, false, cond}
 use mathlib.Core.List.{List, [], _∷_, _++_, map, map-append}
-use Prim.Native.Nat.{ℕ, suc, _<_}
+use Prim.Native.Nat.{ℕ, suc, _≤_, _<_}
 use native.Mathlib.Omega.{arith}
 use borrow.Author.Tests.{ne-eqb, eqb-true, eqb-false}
 use lib.Dec.{eqb}
@@ -49,128 +49,146 @@ zone-number final = record { least = omega arith; most = omega arith }
 zone-number runway = record { least = omega arith; most = omega arith }
 
 -- ---- a field keeps its places
-pub gone-shaped : (f : Field) → Shaped f → (z : ℕ) → Between 1 13 z → Shaped (headGone f z)
+gone-shaped : (f : Field) → Shaped f → (z : ScaZone) → Shaped (headGone f (zoneNumber z))
 unfolding headGone
-gone-shaped f k z b = shaped-with-zone f z (withoutHead (zoneOf f z)) b (k .zones) k (shaped-without-head (zoneOf f z) (k .zone z))
+gone-shaped f k z = let n = zoneNumber z in shaped-with-zone f n (withoutHead (zoneOf f n)) (zone-number z) (k .zones) k (shaped-without-head (zoneOf f n) (k .zone n))
 
-pub put-shaped : (f : Field) → Shaped f → (z : ℕ) → Between 1 13 z → (a : field.Aircraft) → Shaped (tailPut f z a)
+put-shaped : (f : Field) → Shaped f → (z : ScaZone) (a : field.Aircraft) → Shaped (tailPut f (zoneNumber z) a)
 unfolding tailPut
-put-shaped f k z b a = shaped-with-zone f z (withTail (zoneOf f z) a) b (k .zones) k (shaped-with-tail (zoneOf f z) a (k .zone z))
+put-shaped f k z a = let n = zoneNumber z in shaped-with-zone f n (withTail (zoneOf f n) a) (zone-number z) (k .zones) k (shaped-with-tail (zoneOf f n) a (k .zone n))
 
-pub moved-shaped : (f : Field) → Shaped f → (z w : ℕ) → Between 1 13 z → Between 1 13 w → Shaped (moved f z w)
-unfolding moved
-moved-shaped f k z w b c = put-shaped (headGone f z) (gone-shaped f k z b) w c (arrived (f .legs) w (aircraftAt f z 1))
+-- ---- the first of a zone
 
--- ---- the head of zone z, x, goes to the end of zone w
-module _ (f : Field) (k : Shaped f) (z w : ℕ) (zb : Between 1 13 z) (wb : Between 1 13 w) (apart : w ≢ z) (x : field.Aircraft) (rest : List field.Aircraft) (here : inZone f z ≡ x ∷ rest) where
-  -- the field without it
-  abbrev gone : Field
-  gone = headGone f z
+-- x is the first of zone z, and the rest are behind it
+pub record First (f : Field) (z : ScaZone) : Type 0 where
+  pub x : field.Aircraft
+  pub rest : List field.Aircraft
+  pub here : inZone f (zoneNumber z) ≡ x ∷ rest
 
-  pub gone-here : inZone gone z ≡ rest
-  unfolding headGone
-  gone-here = queue-taken f k z zb ∙ ap (drop 1) here
+-- the field without the head of a zone has the other queues
+pub gone-there : (f : Field) (z y : ℕ) → y ≢ z → inZone (headGone f z) y ≡ inZone f y
+unfolding headGone
+gone-there f z y h = queue-kept f z (withoutHead (zoneOf f z)) y h
 
-  pub gone-there : (y : ℕ) → y ≢ z → inZone gone y ≡ inZone f y
-  unfolding headGone
-  gone-there y h = queue-kept f z (withoutHead (zoneOf f z)) y h
+module _ {f : Field} {z : ScaZone} (F : First f z) where
+  abbrev n : ℕ
+  n = zoneNumber z
 
-  pub head-first : aircraftAt f z 1 ≡ x
+  -- somebody is there
+  pub someone : 1 ≤ howMany f n
+  unfolding howMany
+  someone = let m = ap length (F .here) in omega arith
+
+  -- it stands at place 1
+  pub head-first : aircraftAt f n 1 ≡ F .x
   unfolding aircraftAt
-  head-first = ap (λ (l : List field.Aircraft). getD (nobody ∷ l) 1 nobody) here
+  head-first = ap (λ (l : List field.Aircraft). getD (nobody ∷ l) 1 nobody) (F .here)
 
-  module _ (a : field.Aircraft) (room : howMany f w < 4) where
-    room-left : howMany gone w < 4
-    unfolding howMany
-    room-left = let e = ap length (gone-there w apart) in omega arith
+  -- without it the queue is the rest, ..
+  pub gone-here : Shaped f → inZone (headGone f n) n ≡ F .rest
+  unfolding headGone
+  gone-here k = queue-taken f k n (zone-number z) ∙ ap (drop 1) (F .here)
 
-    -- one put at the end of zone w of the field without it
-    pub put-there : inZone (tailPut gone w a) w ≡ inZone f w ++ (a ∷ [])
-    unfolding tailPut
-    put-there = queue-put gone (gone-shaped f k z zb) w a wb room-left ∙ ap (λ (l : List field.Aircraft). l ++ (a ∷ [])) (gone-there w apart)
+  -- .. and so is the state's
+  pub gone-state : Shaped f → stateOf (headGone f n) ≡ withQueue (stateOf f) z (map (seen f n) (F .rest))
+  unfolding stateOf withQueue headGone withZone
+  gone-state k = same-state queues refl refl
+    where
+      queues : (y : ScaZone) → stateOf (headGone f n) .queue y ≡ withQueue (stateOf f) z (map (seen f n) (F .rest)) .queue y
+      queues y = elim (decided (eqb (zoneNumber y) n)) [
+        | inl e ↦ ap (λ (m : ℕ). map (seen f m) (inZone (headGone f n) m)) (eqb-true (zoneNumber y) n e) ∙ ap (map (seen f n)) (gone-here k) ∙ sym (if-true _ _ e)
+        | inr e ↦ ap (map (seen f (zoneNumber y))) (gone-there f n (zoneNumber y) (eqb-false (zoneNumber y) n e)) ∙ sym (if-false _ _ e)
+      ]
 
-    pub put-here : inZone (tailPut gone w a) z ≡ rest
-    unfolding tailPut
-    put-here = queue-kept gone w (withTail (zoneOf gone w) a) z (λ e. apart (sym e)) ∙ gone-here
-
-    pub put-elsewhere : (y : ℕ) → y ≢ z → y ≢ w → inZone (tailPut gone w a) y ≡ inZone f y
-    unfolding tailPut
-    put-elsewhere y h j = queue-kept gone w (withTail (zoneOf gone w) a) y j ∙ gone-there y h
-
--- ---- the head of a zone taken off the field
-pub gone-state : (f : Field) → Shaped f → (z : ScaZone) (x : field.Aircraft) (rest : List field.Aircraft) → inZone f (zoneNumber z) ≡ x ∷ rest
-    → stateOf (headGone f (zoneNumber z)) ≡ withQueue (stateOf f) z (map (seen f (zoneNumber z)) rest)
-unfolding stateOf withQueue headGone withZone
-gone-state f k z x rest here = same-state queues refl refl
-  where
-    queues : (y : ScaZone) → stateOf (headGone f (zoneNumber z)) .queue y ≡ withQueue (stateOf f) z (map (seen f (zoneNumber z)) rest) .queue y
-    queues y = go (decided (eqb (zoneNumber y) (zoneNumber z)))
-      where
-        own : (n : ℕ) → List ScaAircraft
-        own n = map (seen f n) (inZone f n)
-
-        go : (eqb (zoneNumber y) (zoneNumber z) ≡ true) ⊎ (eqb (zoneNumber y) (zoneNumber z) ≡ false)
-            → stateOf (headGone f (zoneNumber z)) .queue y ≡ cond (eqb (zoneNumber y) (zoneNumber z)) (map (seen f (zoneNumber z)) rest) (own (zoneNumber y))
-        go (inl e) =
-            ap (λ (n : ℕ). map (seen f n) (inZone (headGone f (zoneNumber z)) n)) (eqb-true (zoneNumber y) (zoneNumber z) e)
-            ∙ ap (map (seen f (zoneNumber z))) (queue-taken f k (zoneNumber z) (zone-number z) ∙ ap (drop 1) here)
-            ∙ sym (if-true (map (seen f (zoneNumber z)) rest) (own (zoneNumber y)) e)
-        go (inr e) =
-            ap (map (seen f (zoneNumber y))) (queue-kept f (zoneNumber z) (withoutHead (zoneOf f (zoneNumber z))) (zoneNumber y) (eqb-false (zoneNumber y) (zoneNumber z) e))
-            ∙ sym (if-false (map (seen f (zoneNumber z)) rest) (own (zoneNumber y)) e)
+  -- the state with it at the end of zone w
+  abbrev pub there : ScaZone → SCA
+  there w = add (withQueue (stateOf f) z (map (seen f n) (F .rest))) w (seen f n (F .x))
 
 -- what a queue is by its zone: w, z or another
-pub by-zone : {A : Type 0} (y z w : ℕ) (p q : A) (g : ℕ → A) (l : A) → (y ≡ w → l ≡ p) → (y ≡ z → y ≢ w → l ≡ q) → (y ≢ z → y ≢ w → l ≡ g y) → l ≡ cond (eqb y w) p (cond (eqb y z) q (g y))
-by-zone y z w p q g l a b c = go (decided (eqb y w)) (decided (eqb y z))
+by-zone : {A : Type 0} {l p q o : A} (y z w : ℕ) → (y ≡ w → l ≡ p) → (y ≡ z → l ≡ q) → (y ≢ z → y ≢ w → l ≡ o) → l ≡ cond (eqb y w) p (cond (eqb y z) q o)
+by-zone {A} {l} {p} {q} {o} y z w a b c = go (decided (eqb y w)) (decided (eqb y z))
   where
-    go : (eqb y w ≡ true) ⊎ (eqb y w ≡ false) → (eqb y z ≡ true) ⊎ (eqb y z ≡ false) → l ≡ cond (eqb y w) p (cond (eqb y z) q (g y))
-    go (inl h) j = a (eqb-true y w h) ∙ sym (if-true p (cond (eqb y z) q (g y)) h)
-    go (inr h) (inl j) = b (eqb-true y z j) (eqb-false y w h) ∙ sym (if-false p (cond (eqb y z) q (g y)) h ∙ if-true q (g y) j)
-    go (inr h) (inr j) = c (eqb-false y z j) (eqb-false y w h) ∙ sym (if-false p (cond (eqb y z) q (g y)) h ∙ if-false q (g y) j)
+    go : (eqb y w ≡ true) ⊎ (eqb y w ≡ false) → (eqb y z ≡ true) ⊎ (eqb y z ≡ false) → l ≡ cond (eqb y w) p (cond (eqb y z) q o)
+    go (inl h) j = a (eqb-true y w h) ∙ sym (if-true p (cond (eqb y z) q o) h)
+    go (inr h) (inl j) = b (eqb-true y z j) ∙ sym (if-false p (cond (eqb y z) q o) h ∙ if-true q o j)
+    go (inr h) (inr j) = c (eqb-false y z j) (eqb-false y w h) ∙ sym (if-false p (cond (eqb y z) q o) h ∙ if-false q o j)
 
--- ---- the head of a zone, not on the runway before or after, moved to the end of another
-module _ (f : Field) (k : Shaped f) (z w : ScaZone) (apart : zoneNumber w ≢ zoneNumber z) (x : field.Aircraft) (rest : List field.Aircraft) (here : inZone f (zoneNumber z) ≡ x ∷ rest)
-    (room : howMany f (zoneNumber w) < 4) (alike : eqb (zoneNumber z) 13 ≡ eqb (zoneNumber w) 13) where
+-- ---- the first of zone z goes to the end of another, w, which has room
+pub record Move (f : Field) (z w : ScaZone) : Type 0 where
+  pub shaped : Shaped f
+  pub first : First f z
+  pub apart : zoneNumber w ≢ zoneNumber z
+  pub room : howMany f (zoneNumber w) < 4
+
+module _ {f : Field} {z w : ScaZone} (m : Move f z w) where
   abbrev zn : ℕ
   zn = zoneNumber z
 
   abbrev wn : ℕ
   wn = zoneNumber w
 
-  abbrev S : SCA
-  S = stateOf f
+  -- the field without it
+  abbrev gone : Field
+  gone = headGone f zn
 
-  -- as it arrives it has the same sequence number and fix
-  seen-there : seen f wn (arrived (f .legs) wn x) ≡ seen f zn x
+  abbrev x : field.Aircraft
+  x = m .first .x
+
+  -- the field after it keeps its places
+  pub moved-shaped : Shaped (moved f zn wn)
+  unfolding moved
+  moved-shaped = put-shaped gone (gone-shaped f (m .shaped) z) w (arrived (f .legs) wn (aircraftAt f zn 1))
+
+  -- where one is put at the end of zone w of the field without it: the queue there, ..
+  pub put-there : (a : field.Aircraft) → inZone (tailPut gone wn a) wn ≡ inZone f wn ++ (a ∷ [])
+  unfolding tailPut howMany
+  put-there a =
+      let kept = gone-there f zn wn (m .apart) in
+      let few : howMany gone wn < 4 = let e = ap length kept in let l = m .room in omega arith in
+      queue-put gone (gone-shaped f (m .shaped) z) wn a (zone-number w) few ∙ ap (λ (l : List field.Aircraft). l ++ (a ∷ [])) kept
+
+  -- .. that of zone z, ..
+  pub put-here : (a : field.Aircraft) → inZone (tailPut gone wn a) zn ≡ m .first .rest
+  unfolding tailPut
+  put-here a = queue-kept gone wn (withTail (zoneOf gone wn) a) zn (λ e. m .apart (sym e)) ∙ gone-here (m .first) (m .shaped)
+
+  -- .. and any other
+  pub put-elsewhere : (a : field.Aircraft) (y : ℕ) → y ≢ zn → y ≢ wn → inZone (tailPut gone wn a) y ≡ inZone f y
+  unfolding tailPut
+  put-elsewhere a y h j = queue-kept gone wn (withTail (zoneOf gone wn) a) y j ∙ gone-there f zn y h
+
+  -- not on the runway before or after, it has the same sequence number and fix as it arrives, ..
+  seen-there : eqb zn 13 ≡ eqb wn 13 → seen f wn (arrived (f .legs) wn x) ≡ seen f zn x
   unfolding arrived onLeg
-  seen-there = ap (λ (b : Bool). asSeen (cond b 1 (suc (before (x .number) (orderOf (f .sequence))))) (x .fix)) (sym alike)
+  seen-there alike = ap (λ (b : Bool). asSeen (cond b 1 (suc (before (x .number) (orderOf (f .sequence))))) (x .fix)) (sym alike)
 
-  pub moved-state : stateOf (moved f zn wn) ≡ add (withQueue S z (map (seen f zn) rest)) w (seen f zn x)
+  -- .. and the state has it there
+  pub moved-state : eqb zn 13 ≡ eqb wn 13 → stateOf (moved f zn wn) ≡ there (m .first) w
   unfolding moved stateOf add withQueue tailPut headGone withZone
-  moved-state = same-state queues refl refl
+  moved-state alike = same-state queues refl refl
     where
       a : field.Aircraft
       a = arrived (f .legs) wn (aircraftAt f zn 1)
 
-      zb : Between 1 13 zn
-      zb = zone-number z
+      left : List ScaAircraft
+      left = map (seen f zn) (m .first .rest)
 
-      wb : Between 1 13 wn
-      wb = zone-number w
+      own : (y : ℕ) → List ScaAircraft
+      own y = map (seen f y) (inZone f y)
 
       arrives : seen f wn a ≡ seen f zn x
-      arrives = ap (λ (c : field.Aircraft). seen f wn (arrived (f .legs) wn c)) (head-first f k zn wn zb wb apart x rest here) ∙ seen-there
+      arrives = ap (λ (c : field.Aircraft). seen f wn (arrived (f .legs) wn c)) (head-first (m .first)) ∙ seen-there alike
 
-      there : map (seen f wn) (inZone (moved f zn wn) wn) ≡ cond (eqb wn zn) (map (seen f zn) rest) (map (seen f wn) (inZone f wn)) ++ (seen f zn x ∷ [])
-      there =
-          ap (map (seen f wn)) (put-there f k zn wn zb wb apart x rest here a room)
+      at-end : map (seen f wn) (inZone (moved f zn wn) wn) ≡ cond (eqb wn zn) left (own wn) ++ (seen f zn x ∷ [])
+      at-end =
+          ap (map (seen f wn)) (put-there a)
           ∙ map-append (seen f wn) (inZone f wn) (a ∷ [])
-          ∙ ap (λ (c : ScaAircraft). map (seen f wn) (inZone f wn) ++ (c ∷ [])) arrives
-          ∙ ap (λ (l : List ScaAircraft). l ++ (seen f zn x ∷ [])) (sym (if-false (map (seen f zn) rest) (map (seen f wn) (inZone f wn)) (ne-eqb wn zn apart)))
+          ∙ ap (λ (c : ScaAircraft). own wn ++ (c ∷ [])) arrives
+          ∙ ap (λ (l : List ScaAircraft). l ++ (seen f zn x ∷ [])) (sym (if-false left (own wn) (ne-eqb wn zn (m .apart))))
 
-      queues : (y : ScaZone) → stateOf (moved f zn wn) .queue y ≡ add (withQueue S z (map (seen f zn) rest)) w (seen f zn x) .queue y
-      queues y = by-zone (zoneNumber y) zn wn (cond (eqb wn zn) (map (seen f zn) rest) (map (seen f wn) (inZone f wn)) ++ (seen f zn x ∷ []))
-          (map (seen f zn) rest) (λ n. map (seen f n) (inZone f n)) (map (seen f (zoneNumber y)) (inZone (moved f zn wn) (zoneNumber y)))
-          (λ e. ap (λ (n : ℕ). map (seen f n) (inZone (moved f zn wn) n)) e ∙ there)
-          (λ e h. ap (λ (n : ℕ). map (seen f n) (inZone (moved f zn wn) n)) e ∙ ap (map (seen f zn)) (put-here f k zn wn zb wb apart x rest here a room))
-          (λ h j. ap (map (seen f (zoneNumber y))) (put-elsewhere f k zn wn zb wb apart x rest here a room (zoneNumber y) h j))
+      queues : (y : ScaZone) → stateOf (moved f zn wn) .queue y ≡ there (m .first) w .queue y
+      queues y =
+          by-zone (zoneNumber y) zn wn
+          (λ e. ap (λ (n : ℕ). map (seen f n) (inZone (moved f zn wn) n)) e ∙ at-end)
+          (λ e. ap (λ (n : ℕ). map (seen f n) (inZone (moved f zn wn) n)) e ∙ ap (map (seen f zn)) (put-here a))
+          (λ h j. ap (map (seen f (zoneNumber y))) (put-elsewhere a (zoneNumber y) h j))

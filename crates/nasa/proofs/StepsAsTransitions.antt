@@ -4,7 +4,6 @@ use mathlib.Core.Path.{_≡_, refl, sym, ap, _∙_, subst}
 use mathlib.Core.Bool.{cond}
 use mathlib.Core.List.{List, [], _∷_, map}
 use Prim.Native.Nat.{ℕ, suc}
-use native.Mathlib.Omega.{arith}
 use lib.Dec.{T, eqb, leb, le→leb}
 use lib.Ieee.Fits.{and-i}
 use Rattle.request.specs.declared.Request.{Request}
@@ -50,7 +49,7 @@ ticked-state f amount =
     same-state (λ z. ap (map (seen f (zoneNumber z))) (queue-ticked f amount (zoneNumber z)) ∙ seen-ticked f amount (zoneNumber z) (inZone f (zoneNumber z))) refl refl
 
 tick-is : (f : Field) (r : Request) → r .kind ≡ 12 → numberOf f r ≡ 0 → Is f r stays
-tick-is f r k e = leads f r stays (stateOf f) (ticked f (r .amount)) e (effect-at f r k) refl (ticked-state f (r .amount))
+tick-is f r k e = leads f r stays e (ticked-state f (r .amount)) (effect-at f r k) refl
 
 -- ---- the kind by its number
 of-kind : (f : Field) (h : T (hasPlaces f)) (r : Request) → numberOf f r ≡ 0 → Is f r (transitionOf f r)

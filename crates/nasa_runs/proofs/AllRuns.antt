@@ -41,7 +41,8 @@ use Rattle.nasa.specs.Enabled.{lands, taxies, misses, transition, Entrant, requ
 use Rattle.nasa.specs.Runs.{start, onward}
 use Rattle.nasa.proofs.DescendFinalTaxi.{each-side}
 use Rattle.nasa.proofs.StepsAsTransitions.{ticked-state}
-use Rattle.nasa.proofs.Enabled.{First, somebody}
+use Rattle.nasa.proofs.States.{First}
+use Rattle.nasa.proofs.Enabled.{somebody}
 use Rattle.nasa.proofs.Followed.{enabled}
 use Rattle.nasa.proofs.ListsAsRuns.{empty-state}
 use Rattle.nasa_runs.specs.AllRuns.{Comes, AllRuns}

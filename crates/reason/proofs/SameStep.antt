@@ -2,7 +2,7 @@
 -- Assumes nothing.
 use mathlib.Core.Path.{_≡_, refl, sym, ap, _∙_, subst, fun-ext}
 use mathlib.Core.Logic.{inl, inr}
-use mathlib.Core.Bool.{Bool, true, false, cond, not, _&&_, _||_}
+use mathlib.Core.Bool.{Bool, true, false, cond, not, _&&_}
 use mathlib.Core.List.{List, [], _∷_, _++_, map}
 use Prim.Native.Nat.{ℕ}
 use lib.Dec.{T, eqb, leb}
@@ -48,15 +48,15 @@ by-kinds {A = A} P kind (p1, p2, p3, p4, p5, p6, p7, p8, p9, p10, p11, p12) =
     pick false p q = q
 
 -- two fields by the same test
-either-same : {f f₁ g g₁ : Field} (b c : Bool) → b ≡ c → Same f g → Same f₁ g₁ → Same (cond b f f₁) (cond c g g₁)
-either-same {f} {f₁} {g} {g₁} b c e s t = subst (λ (d : Bool). Same (cond b f f₁) (cond d g g₁)) e (go b)
+either-same : {f f₁ g g₁ : Field} {b c : Bool} → b ≡ c → Same f g → Same f₁ g₁ → Same (cond b f f₁) (cond c g g₁)
+either-same {f} {f₁} {g} {g₁} {b} {c} e s t = subst (λ (d : Bool). Same (cond b f f₁) (cond d g g₁)) e (go b)
   where
     go : (b : Bool) → Same (cond b f f₁) (cond b g g₁)
     go true = s
     go false = t
 
-pub same-sym : (f g : Field) → Same f g → Same g f
-same-sym f g s =
+same-sym : {f g : Field} → Same f g → Same g f
+same-sym s =
     record {
       zones = s .zones-too;
       zones-too = s .zones;
@@ -67,7 +67,7 @@ same-sym f g s =
     }
 
 -- ---- what the rules ask
-module _ (f g : Field) (s : Same f g) where
+module _ {f g : Field} (s : Same f g) where
   abbrev e : inZone f ≡ inZone g
   e = queues-same f g s
 
@@ -182,46 +182,46 @@ module _ (f g : Field) (s : Same f g) where
   unfolding outOfSequence
   out-same n = same-sequence f g s (ap (λ (q : Sequence). removed q n) (s .sequence)) (s .next)
 
-moved-same : (f g : Field) (s : Same f g) (z w : ℕ) → Same (moved f z w) (moved g z w)
+moved-same : {f g : Field} (s : Same f g) (z w : ℕ) → Same (moved f z w) (moved g z w)
 unfolding moved
-moved-same f g s z w = put-same (headGone f z) (headGone g z) (gone-same f g s z) w (ap (λ (l : Legs). arrived l w (aircraftAt f z 1)) (s .legs) ∙ ap (arrived (g .legs) w) (at-same f g s z 1))
+moved-same {f} {g} s z w = put-same (gone-same s z) w (ap (λ (l : Legs). arrived l w (aircraftAt f z 1)) (s .legs) ∙ ap (arrived (g .legs) w) (at-same s z 1))
 
-entered-same : (f g : Field) (s : Same f g) (r : Request) (z : ℕ) → Same (entered f r z) (entered g r z)
+entered-same : {f g : Field} (s : Same f g) (r : Request) (z : ℕ) → Same (entered f r z) (entered g r z)
 unfolding entered fixTaken
-entered-same f g s r z =
+entered-same {f} {g} s r z =
     let fix : fixTaken f (r .side) ≡ fixTaken g (r .side) =
     ap (λ (q : Sequence). cond (eqb (length (orderOf q)) 0) (r .side) (f .next)) (s .sequence) ∙ ap (λ (n : ℕ). cond (eqb (length (orderOf (g .sequence))) 0) (r .side) n) (s .next) in
-    same-sequence _ _ (put-same f g s z (ap (λ (n : ℕ). entering (r .number) n (r .amount) (r .desk)) fix)) (ap (λ (q : Sequence). appended q (r .number)) (s .sequence)) (ap opposite fix)
+    same-sequence _ _ (put-same s z (ap (λ (n : ℕ). entering (r .number) n (r .amount) (r .desk)) fix)) (ap (λ (q : Sequence). appended q (r .number)) (s .sequence)) (ap opposite fix)
 
-module _ (f g : Field) (s : Same f g) (r : Request) where
+module _ {f g : Field} (s : Same f g) (r : Request) where
   room-same : (side : ℕ) → Same (madeRoom f side) (madeRoom g side)
   unfolding madeRoom
-  room-same side = either-same _ _ (empty-same f g s (at3000 side)) s (moved-same f g s (at3000 side) (at2000 (at3000 side)))
+  room-same side = either-same (empty-same s (at3000 side)) s (moved-same s (at3000 side) (at2000 (at3000 side)))
 
   above-same : Same (enteredAbove f r) (enteredAbove g r)
   unfolding enteredAbove
-  above-same = entered-same _ _ (room-same (r .side)) r (at3000 (r .side))
+  above-same = entered-same (room-same (r .side)) r (at3000 (r .side))
 
   approached-same : (z ahead : ℕ) → Same (approached f (r .number) z ahead) (approached g (r .number) z ahead)
   unfolding approached
   approached-same z ahead =
-      let a = may-approach-same f g s (r .number) ahead in
-      let b = base-same f g s (sideOf z) in
+      let a = may-approach-same s (r .number) ahead in
+      let b = base-same s (sideOf z) in
       let test : (mayApproach (f .sequence) (r .number) ahead && baseFree f (sideOf z)) ≡ (mayApproach (g .sequence) (r .number) ahead && baseFree g (sideOf z)) = cc (a, b) in
-      either-same (within 5 6 z) (within 5 6 z) refl (either-same _ _ test (moved-same f g s z (base (sideOf z))) (moved-same f g s z (at2000 (sideOf z)))) (moved-same f g s z (base (sideOf z)))
+      either-same {b = within 5 6 z} refl (either-same test (moved-same s z (base (sideOf z))) (moved-same s z (at2000 (sideOf z)))) (moved-same s z (base (sideOf z)))
 
   landed-same : Same (landed f r) (landed g r)
   unfolding landed
-  landed-same = out-same _ _ (moved-same f g s finalApproach runway) (r .number)
+  landed-same = out-same (moved-same s finalApproach runway) (r .number)
 
   exited-same : Same (exited f r) (exited g r)
   unfolding exited
-  exited-same = out-same _ _ (gone-same f g s intermediate) (r .number)
+  exited-same = out-same (gone-same s intermediate) (r .number)
 
   missed-same : Same (missedApproach f r) (missedApproach g r)
   unfolding missedApproach fixAfterMiss
   missed-same =
-      let a = at-same f g s finalApproach 1 in
+      let a = at-same s finalApproach 1 in
       let x = aircraftAt f finalApproach 1 in
       let y = aircraftAt g finalApproach 1 in
       let fix : fixAfterMiss f x ≡ fixAfterMiss g y =
@@ -234,7 +234,7 @@ module _ (f g : Field) (s : Same f g) (r : Request) where
       let after = withFix (arrivedByMiss (g .legs) (missed (y .fix)) y) (fixAfterMiss g y) in
       let went : before ≡ after = ap (λ (b : Aircraft). withFix b (fixAfterMiss f x)) away ∙ ap (withFix (arrivedByMiss (g .legs) (missed (y .fix)) y)) fix in
       let put : Same (tailPut (headGone f finalApproach) (missed (x .fix)) before) (tailPut (headGone g finalApproach) (missed (x .fix)) after) =
-      put-same (headGone f finalApproach) (headGone g finalApproach) (gone-same f g s finalApproach) (missed (x .fix)) went in
+      put-same (gone-same s finalApproach) (missed (x .fix)) went in
       same-sequence _ _ (subst (λ (v : ℕ). Same (tailPut (headGone f finalApproach) (missed (x .fix)) before) (tailPut (headGone g finalApproach) v after)) w put)
       (ap (λ (q : Sequence). appended (removed q (r .number)) (r .number)) (s .sequence)) (ap opposite fix)
 
@@ -242,27 +242,27 @@ module _ (f g : Field) (s : Same f g) (r : Request) where
   unfolding held
   held-same z =
       let side = sideOf z in
-      either-same _ _ (empty-same f g s (at3000 side)) (either-same _ _ (empty-same f g s (at2000 side)) (moved-same f g s z (at2000 side)) (moved-same f g s z (at3000 side)))
-      (moved-same _ _ (moved-same f g s (at3000 side) (at2000 side)) z (at3000 side))
+      either-same (empty-same s (at3000 side)) (either-same (empty-same s (at2000 side)) (moved-same s z (at2000 side)) (moved-same s z (at3000 side)))
+      (moved-same (moved-same s (at3000 side) (at2000 side)) z (at3000 side))
 
   effect-same : Same (effectOf f r) (effectOf g r)
   unfolding effectOf
   effect-same =
-      subst (λ (z : ℕ). Same (effectFor (r .kind) f r (zoneBefore f r) (zoneAhead f r)) (effectFor (r .kind) g r z (zoneAhead g r))) (ap (λ (p : Place). p .zone) (place-same f g s (r .number)))
+      subst (λ (z : ℕ). Same (effectFor (r .kind) f r (zoneBefore f r) (zoneAhead f r)) (effectFor (r .kind) g r z (zoneAhead g r))) (ap (λ (p : Place). p .zone) (place-same s (r .number)))
       (subst (λ (l : ℕ). Same (effectFor (r .kind) f r (zoneBefore f r) (zoneAhead f r)) (effectFor (r .kind) g r (zoneBefore f r) l))
-      (leader-same f g s (r .number)) (each (zoneBefore f r) (zoneAhead f r)))
+      (leader-same s (r .number)) (each (zoneBefore f r) (zoneAhead f r)))
     where
       each : (z ahead : ℕ) → Same (effectFor (r .kind) f r z ahead) (effectFor (r .kind) g r z ahead)
       each z ahead =
           by-kinds Same (r .kind) (
             above-same,
-            entered-same f g s r (lateral (r .side)),
-            moved-same f g s z (at2000 z),
+            entered-same s r (lateral (r .side)),
+            moved-same s z (at2000 z),
             approached-same z ahead,
-            moved-same f g s z intermediate,
-            moved-same f g s intermediate finalApproach,
+            moved-same s z intermediate,
+            moved-same s intermediate finalApproach,
             landed-same,
-            gone-same f g s runway,
+            gone-same s runway,
             exited-same,
             missed-same,
             held-same z,
@@ -275,21 +275,21 @@ both-ways true b h k = sym (passed (h tt))
 both-ways false true h k = absurd (k tt)
 both-ways false false h k = refl
 
-bounds-same : (f g : Field) → Same f g → withinBounds f ≡ withinBounds g
-bounds-same f g s = both-ways (withinBounds f) (withinBounds g) (within-same f g s) (within-same g f (same-sym f g s))
+bounds-same : {f g : Field} → Same f g → withinBounds f ≡ withinBounds g
+bounds-same {f} {g} s = both-ways (withinBounds f) (withinBounds g) (within-same f g s) (within-same g f (same-sym s))
 
-number-same : (f g : Field) → Same f g → (r : Request) → numberOf f r ≡ numberOf g r
+number-same : {f g : Field} → Same f g → (r : Request) → numberOf f r ≡ numberOf g r
 unfolding numberOf
-number-same f g s r =
-    let a = bounds-same f g s in
-    let b = checks-same f g s r in
-    let c = bounds-same (effectOf f r) (effectOf g r) (effect-same f g s r) in
+number-same s r =
+    let a = bounds-same s in
+    let b = checks-same s r in
+    let c = bounds-same (effect-same s r) in
     cc (a, b, c)
 
 -- ---- places, bounds and reason of the one are those of the other
-reason-same : (f g : Field) → Same f g → Reason f → Reason g
+reason-same : {f g : Field} → Same f g → Reason f → Reason g
 unfolding sequenceListed approachOrder areaOrder roomToMiss lateralOrder
-reason-same f g s c =
+reason-same {f} {g} s c =
     record {
       approach-order = subst T (ap (λ (l : List Listed). neverFalls (map (λ a. fromLanding (a .zone)) l)) same) (c .approach-order);
       area-order = subst T (ap (λ (l : List Listed). ordered l right && ordered l left) same) (c .area-order);
@@ -305,14 +305,14 @@ reason-same f g s c =
     ordered l side = neverFalls (map (λ a. heightIn side (a .zone)) (those (isInArea side) l))
 
     one : (n : ℕ) → listed f n ≡ listed g n
-    one n = λ i. record { number = n; zone = place-same f g s n i .zone; fix = fix-same f g s n i }
+    one n = λ i. record { number = n; zone = place-same s n i .zone; fix = fix-same s n i }
 
     same : map (listed f) (orderOf (f .sequence)) ≡ map (listed g) (orderOf (g .sequence))
     same = ap (λ (h : ℕ → Listed). map h (orderOf (f .sequence))) (fun-ext one) ∙ ap (λ (q : Sequence). map (listed g) (orderOf q)) (s .sequence)
 
 pub sound-same : (f g : Field) → Same f g → Sound f → Sound g
 unfolding hasPlaces
-sound-same f g s k = record { places = places; bounds = within-same f g s (k .bounds); reason = reason-same f g s (k .reason) }
+sound-same f g s k = record { places = places; bounds = within-same f g s (k .bounds); reason = reason-same s (k .reason) }
   where
     zones : (f : Field) → Bool
     zones f = eqb (length (f .zones)) 13 && every (λ z. eqb (length (zoneOf f z .aircraft)) 4) everywhere
@@ -330,7 +330,7 @@ sound-same f g s k = record { places = places; bounds = within-same f g s (k .bo
 -- what a request keeps of the one it keeps of the other
 pub kept-same : (f g : Field) → Same f g → Sound f → (r : Request) → KeptBy g r → KeptBy f r
 kept-same f g s k r c =
-    let n = number-same f g s r in
+    let n = number-same s r in
     let same : stepOf g r .answer .number ≡ stepOf f r .answer .number = number-is g r ∙ sym n ∙ sym (number-is f r) in
     record {
       sound =
@@ -338,7 +338,7 @@ kept-same f g s k r c =
             | inl e ↦
                 let zero = eqb-true (numberOf f r) 0 e in
                 subst Sound (sym (field-accepted f r zero))
-                (sound-same (effectOf g r) (effectOf f r) (same-sym (effectOf f r) (effectOf g r) (effect-same f g s r)) (subst Sound (field-accepted g r (sym n ∙ zero)) (c .sound)))
+                (sound-same (effectOf g r) (effectOf f r) (same-sym (effect-same s r)) (subst Sound (field-accepted g r (sym n ∙ zero)) (c .sound)))
             | inr e ↦ subst Sound (sym (field-refused f r (eqb-false (numberOf f r) 0 e))) k
           ];
       not-10 = subst (λ (m : ℕ). T (not (eqb m 10))) same (c .not-10);

@@ -42,24 +42,14 @@ loop-less c = search needs
 
 loop-again : tie.Need-loop-again Inv-loop μ-loop
 loop-again c =
-    let at = c .before .before .before .before .before .before in
-    let a = at .before .before .args in
-    let l = at .loop in
-    putting-more (a .e) (a .index .entries) (l .entries) (l .moved) (l .i) _ (l .inv) (omega arith) (c .before .first-of .ensures) (c .second-of .ensures)
+    let l = c .before .before .before .before .before .before .loop in
+    putting-more (l .inv) _ (omega arith) (c .before .first-of .ensures) (c .second-of .ensures)
 
 returns : tie.Need-returns Inv-loop μ-loop
-returns c =
-    let at = c .before in
-    let a = at .before .before .args in
-    let l = at .loop in
-    putting-all (a .e) (a .index .entries) (l .entries) (l .moved) (l .i) (l .inv) (omega arith)
+returns c = putting-all (c .before .loop .inv) (omega arith)
 
 returns-2 : tie.Need-returns-2 Inv-loop μ-loop
-returns-2 c =
-    let at = c .before .before .before in
-    let a = at .before .before .args in
-    let l = at .loop in
-    putting-stop (a .e) (a .index .entries) (l .entries) (l .moved) (l .i) (l .inv) (c .if1 .taken)
+returns-2 c = putting-stop (c .before .before .before .loop .inv) (c .if1 .taken)
 
 pub with-entry-spec : {M : Type 1} → statement M
 with-entry-spec =
