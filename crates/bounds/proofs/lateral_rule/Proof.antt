@@ -24,7 +24,8 @@ how-many-requires-2 c κs = search needs
 returns-2 : tie.Need-returns-2
 unfolding lateralRule
 returns-2 c =
-    let lateral = is-not (c .before .before .before .how-many .ensures) (c .before .before .if1 .left) in
+    let at1 = c .before .before in
+    let lateral = is-not (at1 .before .how-many .ensures) (at1 .if1 .left) in
     sym (or-else lateral (and-cut _ (and-cut _ (is-not (c .before .how-many2 .ensures) (c .if2 .taken)))))
 
 add-how-many-2 : tie.Need-add-how-many-2
@@ -36,8 +37,10 @@ how-many-requires-3 c κs = search needs
 returns-3 : tie.Need-returns-3
 unfolding lateralRule
 returns-3 c =
-    let lateral = is-not (c .before .before .before .before .before .how-many .ensures) (c .before .before .before .before .if1 .left) in
-    let high = is (c .before .before .before .how-many2 .ensures) (c .before .before .if2 .left) in
+    let at2 = c .before .before in
+    let at1 = at2 .before .before in
+    let lateral = is-not (at1 .before .how-many .ensures) (at1 .if1 .left) in
+    let high = is (at2 .before .how-many2 .ensures) (at2 .if2 .left) in
     sym (or-else lateral (and-cut _ (and-then high (is-not (c .before .how-many3 .ensures) (c .if3 .taken)))))
 
 add-how-many-3 : tie.Need-add-how-many-3
@@ -49,9 +52,12 @@ how-many-requires-4 c κs = search needs
 returns-4 : tie.Need-returns-4
 unfolding lateralRule
 returns-4 c =
-    let lateral = is-not (c .before .before .before .before .before .before .how-many .ensures) (c .before .before .before .before .before .if1 .left) in
-    let high = is (c .before .before .before .before .how-many2 .ensures) (c .before .before .before .if2 .left) in
-    let low = is (c .before .before .how-many3 .ensures) (c .before .if3 .left) in
+    let at3 = c .before in
+    let at2 = at3 .before .before in
+    let at1 = at2 .before .before in
+    let lateral = is-not (at1 .before .how-many .ensures) (at1 .if1 .left) in
+    let high = is (at2 .before .how-many2 .ensures) (at2 .if2 .left) in
+    let low = is (at3 .before .how-many3 .ensures) (at3 .if3 .left) in
     sym (or-else lateral (and-then (and-then high low) (sym (ap (λ (n : ℕ). eqb n 0) (c .how-many4 .ensures)))))
 
 pub lateral-rule-spec : {M : Type 1} → statement M

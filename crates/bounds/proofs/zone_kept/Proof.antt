@@ -37,8 +37,9 @@ is-nobody-requires c κs = search needs
 returns-2 : tie.Need-returns-2 Inv-loop μ-loop
 unfolding zoneKept
 returns-2 c =
-    let a = c .before .before .before .before .before .before .args .t1 in
-    let l = c .before .before .before .before .loop in
+    let k = c .before .before .before .before in
+    let l = k .loop in
+    let a = k .before .before .args .t1 in
     sym (kept-not isNobody (a .aircraft) (a .length) (l .i) _ (l .inv) (omega arith) (fails (c .before .is-nobody .ensures) (c .if2 .taken)))
 
 add-i : tie.Need-add-i Inv-loop μ-loop
@@ -49,8 +50,9 @@ loop-less c = search needs
 
 loop-again : tie.Need-loop-again Inv-loop μ-loop
 loop-again c =
-    let a = c .before .before .before .before .before .before .args .t1 in
-    let l = c .before .before .before .before .loop in
+    let k = c .before .before .before .before in
+    let l = k .loop in
+    let a = k .before .before .args .t1 in
     kept-more isNobody (a .aircraft) (a .length) (l .i) _ (l .inv) (omega arith) (holds (c .before .is-nobody .ensures) (c .if2 .left))
 
 returns-3 : tie.Need-returns-3 Inv-loop μ-loop

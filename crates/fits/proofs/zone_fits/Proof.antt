@@ -41,8 +41,9 @@ fits-zone-requires c κs = search needs
 
 returns : tie.Need-returns Inv-loop μ-loop
 returns c =
-    let a = c .before .before .before .before .before .before .args in
-    let l = c .before .before .before .before .loop in
+    let k = c .before .before .before .before in
+    let l = k .loop in
+    let a = k .before .before .args in
     sym (each-not (fitsZone (a .legs) (a .zone)) (queueOf (a .t3)) 0 (l .i) (l .inv .1 .1) (queue-next (a .t3) (l .i) _ (omega arith)) (fails (c .before .fits-zone .ensures) (c .if1 .taken)))
 
 add-i : tie.Need-add-i Inv-loop μ-loop
@@ -53,8 +54,9 @@ loop-less c = search needs
 
 loop-again : tie.Need-loop-again Inv-loop μ-loop
 loop-again c =
-    let a = c .before .before .before .before .before .before .args in
-    let l = c .before .before .before .before .loop in
+    let k = c .before .before .before .before in
+    let l = k .loop in
+    let a = k .before .before .args in
     let fit = holds (c .before .fits-zone .ensures) (c .if1 .left) in
     (l .inv .0, (l .inv .1 .0, each-more (fitsZone (a .legs) (a .zone)) (queueOf (a .t3)) 0 (l .i) (l .inv .1 .1) (omega arith) (queue-next (a .t3) (l .i) _ (omega arith)) fit))
 

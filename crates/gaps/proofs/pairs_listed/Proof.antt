@@ -30,7 +30,10 @@ Inv-loop f spacing s end pairs₀ count₀ i₀ pairs count i = Passed f spacing
 abbrev μ-loop : tie.MeasureT-loop
 μ-loop f spacing s end pairs₀ count₀ i₀ pairs count i = end - i
 
--- the field, from the loop's head
+-- the way back from a pair's test to the loop's head, and from there to the field
+abbrev head : tie.After-both-on-approach Inv-loop μ-loop → tie.At-loop Inv-loop μ-loop
+head c = c .before .before .before .before
+
 abbrev field-of : tie.At-loop Inv-loop μ-loop → Field
 field-of c = c .before .before .before .before .args .f
 
@@ -75,8 +78,8 @@ pair-of-requires : tie.Need-pair-of-requires Inv-loop μ-loop
 pair-of-requires c κs = search needs
 
 -- there is room for a pair
-room : (c : tie.After-pair-of Inv-loop μ-loop) → c .before .before .before .before .before .before .loop .count < 3
-room c = let l = c .before .before .before .before .before .before .loop in omega (arith, l .inv .found .few, l .inv .fits)
+room : (c : tie.After-pair-of Inv-loop μ-loop) → head (c .before .before) .loop .count < 3
+room c = let l = head (c .before .before) .loop in omega (arith, l .inv .found .few, l .inv .fits)
 
 mul-pairs : tie.Need-mul-pairs Inv-loop μ-loop
 mul-pairs c = omega (arith, room c)
@@ -96,7 +99,7 @@ loop-less c = search needs
 loop-again : tie.Need-loop-again Inv-loop μ-loop
 loop-again c =
     let both = c .before in
-    let k = both .before .before .before .before in
+    let k = head both in
     let l = k .loop in
     let f = field-of k in
     let i-below : l .i < length (orderOf (f .sequence)) = omega (arith, l .inv .whole) in

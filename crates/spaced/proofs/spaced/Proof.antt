@@ -33,8 +33,12 @@ ends {before} {after} {n = n} p l h e = subst (λ (b : List ℕ). (n ≡ length 
 room-known : (c : tie.After-bytes) → length (now (c .before .before .args .out)) ≡ spacedRoom
 room-known c = c .bytes .given .0 .1
 
+-- the way back from the play to the start, and the file
+abbrev start : tie.After-play → tie.Start
+start c = c .before .before .before .before .before .before
+
 abbrev file-of : tie.After-play → List ℕ
-file-of c = now (c .before .before .before .before .before .before .args .file)
+file-of c = now (start c .args .file)
 
 -- the file's number is told
 number-told : (c : tie.After-play) → c .play .result .number ≡ fileNumber (file-of c)
@@ -65,7 +69,7 @@ put-refused-requires : tie.Need-put-refused-requires
 put-refused-requires c κs = search needs
 
 -- past the first test the spacing is legal
-legal : (c : tie.After-play) → legalSpacing (c .before .before .before .before .before .before .args .spacing) ≡ true
+legal : (c : tie.After-play) → legalSpacing (start c .args .spacing) ≡ true
 legal c = holds (c .before .before .before .legal-spacing .ensures) (c .before .before .if1 .left)
 
 returns-2 : tie.Need-returns-2
@@ -89,7 +93,7 @@ returns-3 c =
     let g = c .before in
     let t = g .before .before in
     let k = t .before in
-    let spacing = k .before .before .before .before .before .before .args .spacing in
+    let spacing = start k .args .spacing in
     let accepted : fileNumber (file-of k) ≡ 0 = sym (number-told k) ∙ t .if2 .left in
     ends (c .put-spacings .ensures) (room-known (k .before .before .before .before)) (spacings-short (g .gaps .result) (spacings-known (g .gaps .result) (g .gaps .ok)))
     (ap spacingsReport (g .gaps .ensures ∙ ap (λ (f : Field). gapsOf f spacing) (field-told k)) ∙ sym (if-true _ _ (legal k) ∙ if-true _ _ (eq-eqb _ 0 accepted)))
