@@ -19,7 +19,7 @@ use Rattle.practice.specs.Practice.{holds, practiceOf, encoded}
 use Rattle.practice.proofs.Requests.{count}
 use Rattle.practice.proofs.AcceptedFile.{accepted, whole-of}
 use Rattle.practice.proofs.Meaning.{held}
-use Rattle.practice.proofs.FileReadBack.{read-back, from-bytes}
+use Rattle.practice.proofs.FileReadBack.{file-read-back, from-bytes}
 use Rattle.writer.specs.Writer.{fileOf, requestsAllowed, firstOffence, fileFits, writingNumber}
 use Rattle.writer.proofs.RequestBytes.{AreBytes}
 use Rattle.writer.proofs.WritingNumbers.{firstNumber, file-size, allowed}
@@ -40,7 +40,7 @@ pub printed-read : (input : List ℕ) → authoredNumber input ≡ 0 → practic
 printed-read input e =
     let z = sym (number-long input (long-enough input e)) ∙ e in
     let a = allowed (legsGiven input) (requestsGiven input) fileRoom z in
-    ap practiceOf (file-printed input e) ∙ read-back (legsGiven input) (requestsOf (requestsGiven input)) (a .few) (a .legal) ∙ ap (holds (legsGiven input)) (from-bytes (requestsGiven input))
+    ap practiceOf (file-printed input e) ∙ file-read-back (legsGiven input) (requestsOf (requestsGiven input)) (a .few) (a .legal) ∙ ap (holds (legsGiven input)) (from-bytes (requestsGiven input))
 
 -- ---- every file that is allowed fits the buffer, so that 28 is never printed
 few-bytes : (bytes : List ℕ) → requestsAllowed bytes ≡ true → length (requestsOf bytes) ≤ mostRequests
@@ -127,8 +127,8 @@ over-printed input h =
     not-zero true e = omega arith
     not-zero false e = omega arith
 
-pub longer-input : (input : List ℕ) → 24584 < length input → authoredOf (take 24585 input) ≡ authoredOf input
-longer-input input h =
+pub author-longer-input : (input : List ℕ) → 24584 < length input → authoredOf (take 24585 input) ≡ authoredOf input
+author-longer-input input h =
     let l = length-take-le 24585 input (omega arith) in
     over-printed (take 24585 input) (omega arith)
     ∙ ap (λ (legs : FileLegs). refusedLine (cond (legsAllowed legs) 5 7)) (legs-part 24585 input (omega arith))

@@ -129,11 +129,11 @@ pub printed-report : (input : List ℕ) → desksNumber input ≡ 0 → reportFr
 unfolding desksOf
 printed-report input e = sym (if-true _ _ (eq-eqb (desksNumber input) 0 e))
 
-pub record Accepted (input : List ℕ) : Type 0 where
+pub record AcceptedCalls (input : List ℕ) : Type 0 where
   pub long : 8 ≤ length input
   pub few : callBytes input / 8 ≤ mostRequests
 
-pub accepted-input : (input : List ℕ) → desksNumber input ≡ 0 → Accepted input
+pub accepted-input : (input : List ℕ) → desksNumber input ≡ 0 → AcceptedCalls input
 unfolding desksNumber
 accepted-input input e =
     let tests : List (ℕ × Bool) = (7, leb 8 (length input)) ∷ (7, legsAllowed (legsOf input)) ∷ (5, eqb (callBytes input % 8) 0) ∷ (5, leb (callBytes input / 8) mostRequests) ∷ [] in

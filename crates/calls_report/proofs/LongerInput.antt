@@ -40,8 +40,8 @@ over-printed input h =
     not-zero true e = omega arith
     not-zero false e = omega arith
 
-pub longer-input : (input : List ℕ) → 32776 < length input → desksOf (take 32777 input) ≡ desksOf input
-longer-input input h =
+pub desks-longer-input : (input : List ℕ) → 32776 < length input → desksOf (take 32777 input) ≡ desksOf input
+desks-longer-input input h =
     let l = length-take-le 32777 input (omega arith) in
     over-printed (take 32777 input) (omega arith)
     ∙ ap (λ (legs : FileLegs). refusedLine (cond (legsAllowed legs) 5 7)) (legs-part 32777 input (omega arith))

@@ -13,11 +13,11 @@ use Rattle.contents.proofs.Table.{TableKnown, table-known}
 use Rattle.contents.proofs.FilesPlaced.{file-within}
 
 -- an accepted binder passes both tests
-pub record Accepted (bytes : List ℕ) : Type 0 where
+pub record AcceptedBinder (bytes : List ℕ) : Type 0 where
   pub table : TableKnown bytes
   pub placed : filesPlaced bytes ≡ true
 
-pub accepted : (bytes : List ℕ) → binderNumber bytes ≡ 0 → Accepted bytes
+pub accepted : (bytes : List ℕ) → binderNumber bytes ≡ 0 → AcceptedBinder bytes
 unfolding binderNumber
 accepted bytes e =
     let both = passed (tableAllowed bytes && filesPlaced bytes) e in

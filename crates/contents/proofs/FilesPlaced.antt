@@ -21,19 +21,19 @@ module _ (bytes : List ℕ) where
       ∙ ap (λ (j : ℕ). eqb (offsetAt bytes i) end && backToBack bytes (end + lengthAt bytes i) j (count - (i + 1))) (sym (add-one i))
 
   -- the loop that has passed the files before the i-th, the last of which ends at `end`
-  pub record Passed (count end i : ℕ) : Type 0 where
+  pub record FilesPassed (count end i : ℕ) : Type 0 where
     pub below : i ≤ count
     pub rest : backToBack bytes end i (count - i) ≡ filesPlaced bytes
 
-  pub passed-none : (count : ℕ) → count ≡ entryCount bytes → Passed count (entryPlace count) 0
+  pub passed-none : (count : ℕ) → count ≡ entryCount bytes → FilesPassed count (entryPlace count) 0
   unfolding filesPlaced
   passed-none count e =
       let z : count - 0 ≡ count = omega arith in
       record { below = omega arith; rest = ap (backToBack bytes (entryPlace count) 0) z ∙ ap (λ (n : ℕ). backToBack bytes (entryPlace n) 0 n) e }
 
-  module _ {count end i : ℕ} (p : Passed count end i) where
+  module _ {count end i : ℕ} (p : FilesPassed count end i) where
     -- a file that begins there
-    pub passed-more : (size : ℕ) → i < count → offsetAt bytes i ≡ end → size ≡ lengthAt bytes i → Passed count (end + size) (i + 1)
+    pub passed-more : (size : ℕ) → i < count → offsetAt bytes i ≡ end → size ≡ lengthAt bytes i → FilesPassed count (end + size) (i + 1)
     passed-more size h o z =
         let after : ℕ → Bool = λ n. backToBack bytes (end + n) (i + 1) (count - (i + 1)) in
         let here = next end i count h ∙ ap (λ (t : Bool). t && after (lengthAt bytes i)) (eq-eqb (offsetAt bytes i) end o) in

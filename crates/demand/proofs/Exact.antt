@@ -36,7 +36,7 @@ use Rattle.moves.proofs.StaysOrderly.{placedFits}
 use Rattle.moves.proofs.Carried.{onRunway, Came, stayed, went, turned, followed, came-in}
 use Rattle.moves.proofs.AfterAccepted.{zone-in}
 use Rattle.rules.proofs.StepLaws.{number-is, field-accepted, field-refused, input-of, zone-answered}
-use Rattle.moves.proofs.AcceptedOrRefused.{Accepted, outcome}
+use Rattle.moves.proofs.AcceptedOrRefused.{AcceptedOnLine, outcome}
 use Rattle.demand.proofs.Demand.{empty-orderly}
 use Rattle.demand.proofs.Flights.{legs-legal, Known, known-waiting, known-ticked, known-onward, known-turned, known-along, known-entry}
 
@@ -131,7 +131,7 @@ module _ {w : WholeLegs} {s : ℕ → Flight} {f : Side} {line : List Placed} {r
   refused-known h l =
       each-map l (λ e. known-same w s more e (sym (more-by (e .aircraft .number) (ne-eqb (stepOf F r .answer .number) 0 (λ q. h (sym (number-is F r) ∙ q))))))
 
-  module _ (a : Accepted f line runway (inMiles w) r) where
+  module _ (a : AcceptedOnLine f line runway (inMiles w) r) where
     b0 : eqb (stepOf F r .answer .number) 0 ≡ true
     b0 = eq-eqb (stepOf F r .answer .number) 0 (number-is F r ∙ a .number-0)
 
@@ -186,7 +186,7 @@ module _ {w : WholeLegs} {s : ℕ → Flight} {f : Side} {line : List Placed} {r
           (known-entry (v .new-speed) (v .none-waited) (v .no-leg) (v .not-flown) (answered g (v .new-number) q))
 
   -- everyone after an accepted request
-  accepted-known : (a : Accepted f line runway (inMiles w) r) → AllKnown w more (a .after .first-after) (a .after .line-after) (a .after .runway-after)
+  accepted-known : (a : AcceptedOnLine f line runway (inMiles w) r) → AllKnown w more (a .after .first-after) (a .after .line-after) (a .after .runway-after)
   accepted-known a = elim (decided (eqb (r .kind) 12)) [ inl e ↦ by-tick (eqb-true (r .kind) 12 e) | inr e ↦ by-other (eqb-false (r .kind) 12 e) ]
     where
       KnownAfter : Type 0

@@ -8,11 +8,11 @@ use lib.Dec.{T, eqb, leb, leb→le, le→leb}
 use lib.Ieee.{Float, ofInt}
 use lib.Ieee.Fits.{and-i, and-l, and-r}
 use Rattle.limits.specs.Limits.{longestTick, longestLeg, longestOwnLegMiles}
-use Rattle.leg.specs.Progress.{whole, sixtyFourths, progressAfter, waitedWith, missedLeg, legalLeg}
+use Rattle.leg.specs.Progress.{whole, sixtyFourths, progressAfter, waitedWith, legAfterMiss, legalLeg}
 use Rattle.leg.specs.Ticks.{Between, Exactly, LegIn4096ths, FlownExactly}
 use Rattle.leg.specs.declared.Progress.{Progress}
 use Rattle.leg.specs.declared.Progress.the-variants.{Flying}
-use Rattle.leg.proofs.ProgressLaws.{zero-exact, sixty-fourths-in-4096ths, sixty-fourths-legal, one-tick-exact-in-4096ths, one-tick-waited-in-4096ths, missed-leg-exact}
+use Rattle.leg.proofs.ProgressLaws.{zero-exact, sixty-fourths-in-4096ths, sixty-fourths-legal, one-tick-exact-in-4096ths, one-tick-waited-in-4096ths, leg-after-miss-exact}
 use Rattle.request.specs.Input.{within}
 use Rattle.request.specs.declared.Request.{Request}
 use Rattle.field.specs.declared.Aircraft.{Aircraft}
@@ -264,8 +264,8 @@ module _ {w : WholeLegs} {s : Flight} {e g : Placed} (p : Known w s (e .zone) (e
       let k = s .leg in
       let v = e .aircraft .speed in
       let whole-final = all-of in
-      let ahead : Exactly (missedLeg (sixtyFourths (w .missed-leg)) (e .aircraft .progress) (e .aircraft .leg)) (j + (k - min k (v * s .ticks))) =
-      missed-leg-exact (sixtyFourths (w .missed-leg)) (e .aircraft .leg) (e .aircraft .progress) j k (min k (v * s .ticks)) (sixty-fourths-in-4096ths (w .missed-leg) (w .missed-fits) .exact)
+      let ahead : Exactly (legAfterMiss (sixtyFourths (w .missed-leg)) (e .aircraft .progress) (e .aircraft .leg)) (j + (k - min k (v * s .ticks))) =
+      leg-after-miss-exact (sixtyFourths (w .missed-leg)) (e .aircraft .leg) (e .aircraft .progress) j k (min k (v * s .ticks)) (sixty-fourths-in-4096ths (w .missed-leg) (w .missed-fits) .exact)
       (p .account .leg) (p .account .miles (flown-final (e .zone) (on .from-final))) (omega arith) (omega arith) in
       subst (Exactly (g .aircraft .leg)) (left-of j k (v * s .ticks) ∙ ap (λ (x : ℕ). j + (k - x * s .ticks)) (p .same-speed))
       (subst (λ (x : Float). Exactly x (j + (k - min k (v * s .ticks)))) (sym (on .leg-ahead)) ahead)

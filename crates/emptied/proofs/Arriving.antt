@@ -9,7 +9,7 @@ use lib.Ieee.{Float}
 use lib.Ieee.Fits.{and-i, and-l, and-r}
 use lib.ListN.{replicate}
 use Rattle.limits.specs.Limits.{longestTick, mostTicks, fastest}
-use Rattle.leg.specs.Progress.{withinLeg, flownOut, legalMissedLeg}
+use Rattle.leg.specs.Progress.{withinLeg, flownOut, legalLegAfterMiss}
 use Rattle.leg.specs.Ticks.{Between, afterTicks}
 use Rattle.leg.specs.declared.Progress.{Progress}
 use Rattle.leg.specs.declared.Progress.the-variants.{Waiting, Flying}
@@ -46,7 +46,7 @@ each-zone-then p k zero h = tt
 each-zone-then p k (suc n) h = and-i (p k) (every p (zonesFrom (suc k) n)) (h k (omega arith) (omega arith)) (each-zone-then p (suc k) n (λ z l u. h z (omega arith) (omega arith)))
 
 -- ---- from any field within the bounds
-arrives : (leg : Float) (p : Progress) {speed : ℕ} (k : ℕ) → T (legalMissedLeg leg) → Between 1 fastest speed → T (not (isWaiting p)) → T (withinLeg p leg) → mostTicks ≤ k
+arrives : (leg : Float) (p : Progress) {speed : ℕ} (k : ℕ) → T (legalLegAfterMiss leg) → Between 1 fastest speed → T (not (isWaiting p)) → T (withinLeg p leg) → mostTicks ≤ k
     → T (flownOut (afterTicks p speed (replicate k longestTick) leg) leg)
 arrives leg Waiting k l s n w h = absurd n
 arrives leg (Flying miles) k l s n w h = arrival-in-8192 miles leg k l s w h

@@ -6,7 +6,7 @@ use native.Mathlib.Omega.{arith}
 use borrow.Author.Tests.{ne-eqb, le-leb}
 use lib.Dec.{eqb}
 use lib.Ieee.{Float}
-use Rattle.leg.specs.Progress.{whole, missedLeg}
+use Rattle.leg.specs.Progress.{whole, legAfterMiss}
 use Rattle.leg.specs.declared.Progress.the-variants.{Waiting, Flying}
 use Rattle.field.specs.declared.Aircraft.{Aircraft}
 use Rattle.field.specs.declared.Legs.{Legs}
@@ -49,6 +49,6 @@ pub into-arrived : (legs : Legs) (z : ℕ) (a : Aircraft) → Into z (legOf legs
 unfolding arrived onLeg
 into-arrived legs z a = record { number = refl; fix = refl; speed = refl; waited = refl; progress = refl; leg-is = refl; desk = refl }
 
-pub into-arrived-by-miss : (legs : Legs) (z : ℕ) (a : Aircraft) → Into z (missedLeg (legs .missed) (a .progress) (a .leg)) a (arrivedByMiss legs z a)
+pub into-arrived-by-miss : (legs : Legs) (z : ℕ) (a : Aircraft) → Into z (legAfterMiss (legs .missed) (a .progress) (a .leg)) a (arrivedByMiss legs z a)
 unfolding arrivedByMiss onLeg
 into-arrived-by-miss legs z a = record { number = refl; fix = refl; speed = refl; waited = refl; progress = refl; leg-is = refl; desk = refl }

@@ -5,7 +5,7 @@ use Prim.Native.Nat.{ℕ, zero, suc, _+_, _%_}
 use lib.Dec.{eqb, leb}
 use lib.ListN.{length, getD, take, replicate}
 use lib.Ieee.{Float}
-use Rattle.leg.specs.Progress.{whole, sixtyFourths, flownOut, missedLeg}
+use Rattle.leg.specs.Progress.{whole, sixtyFourths, flownOut, legAfterMiss}
 use Rattle.leg.specs.declared.Progress.{Progress}
 use Rattle.leg.specs.declared.Progress.the-variants.{Waiting, Flying}
 use Rattle.field.specs.declared.Aircraft.{Aircraft}
@@ -169,7 +169,7 @@ arrived legs z a = onLeg a (progressInto z) (legOf legs z)
 
 -- an aircraft of final as it comes into zone z by a miss: its own leg is the missed leg with the rest of the one that it was on (02, 2.7)
 unfoldable pub arrivedByMiss : Legs → ℕ → Aircraft → Aircraft
-arrivedByMiss legs z a = onLeg a (progressInto z) (missedLeg (legs .missed) (a .progress) (a .leg))
+arrivedByMiss legs z a = onLeg a (progressInto z) (legAfterMiss (legs .missed) (a .progress) (a .leg))
 
 -- an aircraft with another fix; all else stays, the miles waited (02, 2.2), its own leg (02, 2.7) and its desk (02, 2.10) too
 unfoldable pub withFix : Aircraft → ℕ → Aircraft

@@ -10,7 +10,7 @@ use crate::zones::INTERMEDIATE;
 use crate::zones::RUNWAY;
 use leg::Progress;
 use leg::flown_out;
-use leg::missed_leg;
+use leg::leg_after_miss;
 ghost use mathlib.Core.Path.{_≡_};
 ghost use Rattle.field.specs.Airspace.{isSide, opposite, sideOf, isFlyingZone, nobody, emptyZone, zoneOf, queueLength, orderLength};
 ghost use Rattle.field.specs.Airspace.{legOf, progressInto, entering, onLeg, arrived, arrivedByMiss, withFix, legFlownOut, emptyField};
@@ -175,7 +175,11 @@ pub fn arrived_by_miss(legs: Legs, zone: usize, a: Aircraft) -> Aircraft
     ensures { λ r. ⌜ r ≡ arrivedByMiss legs zone a ⌝ }
 {
     let p = a.progress;
-    on_leg(a, progress_into(zone), missed_leg(legs.missed, p, a.leg))
+    on_leg(
+        a,
+        progress_into(zone),
+        leg_after_miss(legs.missed, p, a.leg),
+    )
 }
 
 // An aircraft with another fix, and all else as it was.

@@ -5,7 +5,7 @@ use Prim.Native.Nat.{ℕ}
 use lib.Dec.{eqb, leb}
 use lib.Ieee.{Float, eq}
 use Rattle.limits.specs.Limits.{fastest, desks}
-use Rattle.leg.specs.Progress.{whole, waitedWithin, withinLeg, legalLeg, legalMissedLeg}
+use Rattle.leg.specs.Progress.{whole, waitedWithin, withinLeg, legalLeg, legalLegAfterMiss}
 use Rattle.leg.specs.declared.Progress.{Progress}
 use Rattle.leg.specs.declared.Progress.the-variants.{Waiting, Flying}
 use Rattle.field.specs.declared.Aircraft.{Aircraft}
@@ -21,7 +21,7 @@ isWaiting (Flying miles) = false
 
 -- the own leg of one in zone z (02, 2.7): of any legal length in a missed zone; elsewhere as long as the field's leg of the zone, which is 0 where nobody flies
 unfoldable pub legFits : Legs → ℕ → Float → Bool
-legFits legs z leg = cond (eqb z (missed right) || eqb z (missed left)) (legalMissedLeg leg) (eq leg (legOf legs z))
+legFits legs z leg = cond (eqb z (missed right) || eqb z (missed left)) (legalLegAfterMiss leg) (eq leg (legOf legs z))
 
 -- one in zone z: its fix is a side; its speed, its desk and its miles waited are within their limits; its own leg fits; and in zones 7 to 12 it flies, its
 -- miles within its own leg, while in all others it waits

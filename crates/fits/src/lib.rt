@@ -12,7 +12,7 @@ use field::zones::LAST_MISSED;
 use field::zones::RUNWAY;
 use leg::Progress;
 use leg::legal;
-use leg::legal_missed;
+use leg::legal_after_miss;
 use leg::waited_within;
 use leg::within;
 use limits::DESKS;
@@ -41,10 +41,10 @@ pub fn leg_fits(legs: Legs, zone: usize, leg: f64) -> bool
     ensures { λ r. ⌜ r ≡ legFits legs zone leg ⌝ }
 {
     if zone == FIRST_FLOWN {
-        return legal_missed(leg);
+        return legal_after_miss(leg);
     }
     if zone == LAST_MISSED {
-        return legal_missed(leg);
+        return legal_after_miss(leg);
     }
     leg == leg_of(legs, zone)
 }

@@ -30,14 +30,14 @@ held-more found p h =
 
 module _ (f : Field) (spacing : ℕ) where
   -- what is found before neighbour i: the array, the count, and that the rest of the sequence gives the rest of the pairs
-  pub record Found (s : Sequence) (pairs : List Pair) (count i : ℕ) : Type 0 where
+  pub record PairsFound (s : Sequence) (pairs : List Pair) (count i : ℕ) : Type 0 where
     pub found : List Pair
     pub array : pairs ≡ held found
     pub counted : count ≡ length found
     pub few : count < i
     pub rest : found ++ pairsIn f spacing (drop (i - 1) (orderOf s)) ≡ pairsIn f spacing (orderOf s)
 
-  pub found-none : (s : Sequence) {pairs : List Pair} → pairs ≡ replicate 3 noPair → Found s pairs 0 1
+  pub found-none : (s : Sequence) {pairs : List Pair} → pairs ≡ replicate 3 noPair → PairsFound s pairs 0 1
   found-none s e = record { found = []; array = e; counted = refl; few = omega arith; rest = refl }
 
   -- neighbour i and the one before it, and the rest from neighbour i on
@@ -51,7 +51,7 @@ module _ (f : Field) (spacing : ℕ) where
       ap (pairsIn f spacing) (order-next s (i - 1) (omega arith) ∙ ap (λ (k : ℕ). l ∷ drop k (orderOf s)) back ∙ ap (λ (r : List ℕ). l ∷ r) (order-next s i h))
       ∙ ap (λ (r : List ℕ). pairIfBoth f spacing l m ++ pairsIn f spacing r) (sym (order-next s i h) ∙ ap (λ (k : ℕ). drop k (orderOf s)) on)
 
-  module _ (s : Sequence) (i : ℕ) (low : 1 ≤ i) (h : i < length (orderOf s)) {pairs : List Pair} {count : ℕ} (p : Found s pairs count i) where
+  module _ (s : Sequence) (i : ℕ) (low : 1 ≤ i) (h : i < length (orderOf s)) {pairs : List Pair} {count : ℕ} (p : PairsFound s pairs count i) where
     abbrev l : ℕ
     l = getD (s .numbers) (i - 1) 0
 
@@ -59,7 +59,7 @@ module _ (f : Field) (spacing : ℕ) where
     m = getD (s .numbers) i 0
 
     -- neighbours that are no pair
-    pub found-same : (onApproach f l && onApproach f m) ≡ false → {pairs' : List Pair} {count' : ℕ} → pairs' ≡ pairs → count' ≡ count → Found s pairs' count' (i + 1)
+    pub found-same : (onApproach f l && onApproach f m) ≡ false → {pairs' : List Pair} {count' : ℕ} → pairs' ≡ pairs → count' ≡ count → PairsFound s pairs' count' (i + 1)
     unfolding pairIfBoth
     found-same e a n = record {
       found = p .found;
@@ -73,7 +73,7 @@ module _ (f : Field) (spacing : ℕ) where
 
     -- neighbours that are one
     pub found-more : (onApproach f l && onApproach f m) ≡ true → count < 3 → {q : Pair} → q ≡ pairOf f spacing l m → {pairs' : List Pair} {count' : ℕ} → pairs' ≡ set pairs count q → count' ≡ count + 1
-        → Found s pairs' count' (i + 1)
+        → PairsFound s pairs' count' (i + 1)
     unfolding pairIfBoth
     found-more e room {q} same a n = record {
       found = p .found ++ (q ∷ []);
@@ -96,7 +96,7 @@ module _ (f : Field) (spacing : ℕ) where
   alone (n ∷ m ∷ ns) h = absurd (omega arith)
 
   -- past the last neighbour
-  pub found-all : (s : Sequence) (i : ℕ) {pairs : List Pair} {count : ℕ} → length (orderOf s) ≤ i → Found s pairs count i
+  pub found-all : (s : Sequence) (i : ℕ) {pairs : List Pair} {count : ℕ} → length (orderOf s) ≤ i → PairsFound s pairs count i
       → _≡_ {A = Spacings} (record { number = 0; count = count; pairs = pairs }) (pairsListed (pairsIn f spacing (orderOf s)))
   unfolding pairsListed
   found-all s i h p =

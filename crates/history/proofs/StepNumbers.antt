@@ -6,6 +6,7 @@ use Prim.Native.Nat.{ℕ, _≤_}
 use lib.Dec.{eqb, leb, ltb}
 use borrow.Author.Tests.{eq-eqb, ne-eqb, eqb-true, eqb-false, leb-true}
 use native.Mathlib.Omega.{arith}
+use Rattle.limits.specs.Limits.{mostKept}
 use Rattle.request.specs.Input.{within, inputNumber}
 use Rattle.request.specs.declared.Request.{Request}
 use Rattle.request.proofs.InputTests.{both-left}
@@ -19,7 +20,7 @@ use Rattle.finder.specs.Finder.{withinBoundsIndexed}
 use Rattle.indexed.specs.declared.SteppedIndexed.{SteppedIndexed}
 use Rattle.indexed.specs.Indexed.{withIndex, numberIndexed, stepIndexed}
 use Rattle.history.specs.declared.History.{History}
-use Rattle.history.specs.History.{mostKept, counted, keptWithinBounds, withinBoundsHistory, keeping, numberHistory, stepHistory, numberBack, givenBack, stepBack}
+use Rattle.history.specs.History.{counted, keptWithinBounds, withinBoundsHistory, keeping, numberHistory, stepHistory, numberBack, givenBack, stepBack}
 
 -- ---- the step on a field with its index
 module _ (x : Indexed) (r : Request) where

@@ -4,7 +4,7 @@ use mathlib.Core.List.{List, [], _∷_, _++_}
 use Prim.Native.Nat.{ℕ, _+_, _-_}
 use lib.Dec.{eqb, leb, ltb}
 use lib.ListN.{getD, take, drop, set, replicate}
-use Rattle.limits.specs.Limits.{desks}
+use Rattle.limits.specs.Limits.{desks, mostKept}
 use Rattle.request.specs.Input.{within, firstRefused, inputNumber}
 use Rattle.request.specs.declared.Request.{Request}
 use Rattle.field.specs.declared.Legs.{Legs}
@@ -18,10 +18,6 @@ use Rattle.history.specs.declared.History.{History}
 use Rattle.history.specs.declared.SteppedHistory.{SteppedHistory}
 
 -- ---- a field with kept ones
-
--- how many fields are kept at most (02, 2.13)
-abbrev pub mostKept : ℕ
-mostKept = 8
 
 -- a field with its index, such as one that a classroom list gives (02, 2.12), with none kept before it; the eight places for kept ones all have the empty
 -- field with its legs (02, 2.13)

@@ -8,7 +8,7 @@ use Prim.Native.Nat.{ℕ, zero, suc}
 use lib.Dec.{eqb, ltb}
 use lib.ListN.{length}
 use borrow.Author.Tests.{eqb-true, eqb-false}
-use Rattle.limits.specs.Limits.{mostPresses}
+use Rattle.limits.specs.Limits.{mostPresses, mostKept}
 use Rattle.request.specs.Input.{inputNumber}
 use Rattle.request.specs.declared.Request.{Request}
 use Rattle.request.proofs.InputTests.{both-right}
@@ -26,7 +26,7 @@ use Rattle.indexed.proofs.StepsIndexed as indexed
 use Rattle.indexed.proofs.Own.{within-own}
 use Rattle.history.specs.declared.History.{History}
 use Rattle.history.specs.declared.SteppedHistory.{SteppedHistory}
-use Rattle.history.specs.History.{mostKept, keptWithinBounds, withinBoundsHistory, keeping, numberHistory, stepHistory}
+use Rattle.history.specs.History.{keptWithinBounds, withinBoundsHistory, keeping, numberHistory, stepHistory}
 use Rattle.history.proofs.StepNumbers as numbers
 use Rattle.press.specs.declared.Proposal.{Proposal}
 use Rattle.press.specs.declared.Proposal.the-variants.{Refused, None, Play}

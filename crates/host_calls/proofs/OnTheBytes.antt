@@ -31,7 +31,7 @@ use Rattle.layout.specs.Read.{readHistory}
 use Rattle.layout.specs.Written.{historyBytes, stateAfter}
 use Rattle.layout.specs.Held.{HistoryHeld}
 use Rattle.layout.proofs.PartSizes.{state-size}
-use Rattle.layout.proofs.HistoryReadBack.{read-back}
+use Rattle.layout.proofs.HistoryReadBack.{state-read-back}
 use Rattle.layout.proofs.CallsReadBack.{start-held, legs-in-64ths-held}
 use Rattle.replies.specs.Replies.{endNumber}
 use Rattle.host.specs.Calls.{startNumber, Reply, replyOf, leftBy, replyOn, bytesLeft}
@@ -83,17 +83,17 @@ held-bytes h =
 left-bytes : (h : History) (c : HostCall) → HistoryHeld h → bytesLeft (historyBytes h) c ≡ historyBytes (leftBy h c)
 unfolding pressKept
 left-bytes h (start legs) k = begun (eqb (startNumber legs) 0) h (startOf (legsInMiles legs)) (readHistory (historyBytes h))
-left-bytes h (ask r) k = ap (λ (g : History). stateAfter (historyBytes h) (stepHistory g r .answer .number) (stepHistory g r .after)) (read-back h k) ∙ called-bytes h (request r)
-left-bytes h (stepBackBy desk) k = ap (λ (g : History). stateAfter (historyBytes h) (stepBack g desk .answer .number) (stepBack g desk .after)) (read-back h k) ∙ called-bytes h (back desk)
+left-bytes h (ask r) k = ap (λ (g : History). stateAfter (historyBytes h) (stepHistory g r .answer .number) (stepHistory g r .after)) (state-read-back h k) ∙ called-bytes h (request r)
+left-bytes h (stepBackBy desk) k = ap (λ (g : History). stateAfter (historyBytes h) (stepBack g desk .answer .number) (stepBack g desk .after)) (state-read-back h k) ∙ called-bytes h (back desk)
 left-bytes h press k =
-    ap (λ (g : History). let s = playedKept g (proposalKept g) in stateAfter (historyBytes h) (s .answer .number) (s .after)) (read-back h k) ∙ played-bytes h (proposalKept h)
-left-bytes h holdDown k = ap (λ (g : History). stateAfter (historyBytes h) (endNumber (heldKept g .ending)) (heldKept g .after)) (read-back h k) ∙ held-bytes h
+    ap (λ (g : History). let s = playedKept g (proposalKept g) in stateAfter (historyBytes h) (s .answer .number) (s .after)) (state-read-back h k) ∙ played-bytes h (proposalKept h)
+left-bytes h holdDown k = ap (λ (g : History). stateAfter (historyBytes h) (endNumber (heldKept g .ending)) (heldKept g .after)) (state-read-back h k) ∙ held-bytes h
 left-bytes h (spaced n) k = refl
 left-bytes h listed k = refl
 left-bytes h (builtFrom legs speed bytes) k = begun (eqb (fieldOfList legs speed bytes .number) 0) h (startWith (fieldOfList legs speed bytes .after)) (readHistory (historyBytes h))
 
 reply-same : (h : History) (c : HostCall) → HistoryHeld h → replyOn (historyBytes h) c ≡ replyOf h c
-reply-same h c k = ap (λ (g : History). replyOf g c) (read-back h k)
+reply-same h c k = ap (λ (g : History). replyOf g c) (state-read-back h k)
 
 -- ---- any list
 
@@ -111,7 +111,7 @@ pub on-the-bytes : (h : History) (cs : List HostCall) → HistoryHeld h → OnTh
 on-the-bytes h cs k =
     let e = bytes-same h cs k in
     let q = all-held h cs k in
-    record { replies = replies-same h cs k; bytes = e; size = ap length e ∙ state-size (leftByAll h cs) q; state = ap readHistory e ∙ read-back (leftByAll h cs) q }
+    record { replies = replies-same h cs k; bytes = e; size = ap length e ∙ state-size (leftByAll h cs) q; state = ap readHistory e ∙ state-read-back (leftByAll h cs) q }
 
 -- an accepted start writes the bytes of the start, whatever stood there; from there on, any list
 pub started : (b : List ℕ) (legs : FileLegs) → legsAllowed legs ≡ true → bytesLeft b (start legs) ≡ historyBytes (startOf (legsInMiles legs))
@@ -123,4 +123,4 @@ on-the-bytes-from-start legs cs =
 
 -- two histories with the same bytes are the same
 pub same-state : (h g : History) → HistoryHeld h → HistoryHeld g → historyBytes h ≡ historyBytes g → h ≡ g
-same-state h g p q e = sym (read-back h p) ∙ ap readHistory e ∙ read-back g q
+same-state h g p q e = sym (state-read-back h p) ∙ ap readHistory e ∙ state-read-back g q

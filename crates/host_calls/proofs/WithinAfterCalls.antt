@@ -9,7 +9,7 @@ use lib.Dec.{eqb, leb, ltb}
 use lib.ListN.{getD, take}
 use lib.Ieee.Fits.{and-i}
 use borrow.Author.Tests.{le-leb, eqb-true, eqb-false, ne-eqb, ltb-true}
-use Rattle.limits.specs.Limits.{fastest, desks, mostPresses}
+use Rattle.limits.specs.Limits.{fastest, desks, mostPresses, mostKept}
 use Rattle.request.specs.Input.{within, firstRefused, inputNumber}
 use Rattle.request.specs.declared.Request.{Request}
 use Rattle.request.proofs.InputTests.{both-left, both-right}
@@ -34,7 +34,7 @@ use Rattle.indexed.specs.Indexed.{withIndex}
 use Rattle.indexed.proofs.Own.{within-own}
 use Rattle.history.specs.declared.History.{History}
 use Rattle.history.specs.declared.SteppedHistory.{SteppedHistory}
-use Rattle.history.specs.History.{mostKept, counted, startWith, startOf, keptWithinBounds, withinBoundsHistory, numberBack, givenBack, stepBack}
+use Rattle.history.specs.History.{counted, startWith, startOf, keptWithinBounds, withinBoundsHistory, numberBack, givenBack, stepBack}
 use Rattle.history.proofs.StepNumbers as numbers
 use Rattle.press.specs.declared.Proposal.{Proposal}
 use Rattle.press.specs.declared.Proposal.the-variants.{Refused, None, Play}

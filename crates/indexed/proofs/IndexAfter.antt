@@ -29,7 +29,7 @@ use Rattle.rules.specs.Step.{effectOf, numberOf}
 use Rattle.kept_up.specs.KeptUp.{leadsTo, ledTo, keptUp}
 use Rattle.kept_up.proofs.Leads.{leads-alike}
 use Rattle.rules.proofs.Refusals.{passes}
-use Rattle.kept_up.proofs.HeadOfRequest.{on-final}
+use Rattle.rules.proofs.HeadOfRequest.{on-final}
 use Rattle.kept_up.proofs.FiveWays.{to}
 use Rattle.kept_up.proofs.KeptUpOwn.{kept-up-own}
 use Rattle.step.proofs.StepsByTests.{asked}
@@ -83,7 +83,7 @@ module _ {x : Indexed} (known : IndexedKnown x) where
     led-there =
         (λ i. leadsTo (r .kind) r (reads .zone-is i) (f .sequence) ahead (reads .across-is i) (reads .above-is i) (reads .below-is i) fix)
         ∙ leads-alike (r .kind) r (zoneBefore f r) (f .sequence) _ _ _ (λ k. reads .ahead-is ∙ if-true _ _ (ap (within 4 5) k))
-        (λ k. reads .fix-is (on-final (record { shaped = shaped; passed = passes f r e }) k))
+        (λ k. reads .fix-is (on-final (passes f r e) k))
 
     -- The index kept up from the one before is that of the field after.
     pub kept-up-after : {zone there : ℕ} {g : Field} → zone ≡ leadsTo (r .kind) r z (f .sequence) ahead across above below fix → there ≡ howMany f zone → g ≡ effectOf f r → (r .kind ≡ 12 → ⊥)

@@ -11,7 +11,7 @@ use Rattle.field.specs.declared.Field.{Field}
 use Rattle.field.specs.Lists.{every, Each}
 use Rattle.field.proofs.TestLaws.{each-zone}
 use lib.Ieee.{neg, add, sub, mul, div, ofInt, round, lt, le, eq}
-use Rattle.leg.specs.Progress.{advanced, pastEnd, waitedAfter, missedLeg}
+use Rattle.leg.specs.Progress.{advanced, pastEnd, waitedAfter, legAfterMiss}
 use Rattle.request.specs.Input.{deskAllowed, kindAllowed, sideAllowed, numberAllowed, amountAllowed, inputNumber}
 use Rattle.field.specs.Airspace.{isSide, sideOf, opposite, isFlyingZone, zoneOf, queueOf, inZone, orderOf, legOf}
 use Rattle.field.specs.Airspace.{progressInto, entering, onLeg, arrived, arrivedByMiss, withFix, legFlownOut, emptyField}
@@ -32,7 +32,7 @@ use Rattle.rules.specs.Play.{fieldAfter}
 use Rattle.renaming.specs.Renaming.{Renaming, exchanged}
 use Rattle.renaming.proofs.Exchanged.{exchange-apart, exchange-renames}
 use Rattle.indexed.specs.Indexed.{withIndex, numberIndexed, stepIndexed}
-use Rattle.isolated.specs.Isolated.{FixesOne, FixesAircraft, KeepsOwn}
+use Rattle.isolated.specs.Isolated.{KeepsOne, KeepsAircraft, KeepsOwn}
 use Rattle.isolated.specs.Seen.{otherLets, seenSessions}
 use Rattle.isolated.specs.Weaker.{OnlyAccepted, OnlyNamed, NotApart, ZeroToo, EachNeeded}
 
@@ -69,9 +69,9 @@ abbrev merged : ℕ → ℕ
 merged n = cond (eqb n 9) 8 n
 
 -- nobody is on the empty field
-none-on : (π : ℕ → ℕ) → FixesAircraft 1 π nobodyOn
+none-on : (π : ℕ → ℕ) → KeepsAircraft 1 π nobodyOn
 unfolding emptyField inZone queueOf zoneOf
-none-on π z t = each-zone (λ (z : ℕ). Each (FixesOne 1 π) (inZone nobodyOn z)) (tt, (tt, (tt, (tt, (tt, (tt, (tt, (tt, (tt, (tt, (tt, (tt, (tt, tt))))))))))))) z t
+none-on π z t = each-zone (λ (z : ℕ). Each (KeepsOne 1 π) (inZone nobodyOn z)) (tt, (tt, (tt, (tt, (tt, (tt, (tt, (tt, (tt, (tt, (tt, (tt, (tt, tt))))))))))))) z t
 
 -- a request of the other desk is not this desk's
 not-own : {A : Type 0} → _≡_ {A = ℕ} 2 1 → A
@@ -80,7 +80,7 @@ not-own e = absurd (omega arith)
 -- all together, so that what is computed is unfolded once
 computed : T (every caseHolds seenSessions) × EachNeeded
 unfolding
-    advanced pastEnd waitedAfter missedLeg deskAllowed kindAllowed sideAllowed numberAllowed amountAllowed inputNumber isSide opposite isFlyingZone zoneOf queueOf inZone orderOf progressInto entering
+    advanced pastEnd waitedAfter legAfterMiss deskAllowed kindAllowed sideAllowed numberAllowed amountAllowed inputNumber isSide opposite isFlyingZone zoneOf queueOf inZone orderOf progressInto entering
     onLeg arrived arrivedByMiss withFix legOf legFlownOut emptyField howMany howManyWithFix presentOn inOperation inArea perFix approachHolds countedFor potentialOf findIn placeOf
     aircraftAt fixOf isFirst leaderOf leaderZone boundA boundB lateralRule boundC boundD numbersDiffer sequenceExact finalFirst isNobody zoneKept sequenceKept
     boundE boundF legFits fitsZone legalLegs boundG withinBounds withoutHead withTail appended removed withZone withSequence tickedAircraft tickedZone ticked sideOf
@@ -132,8 +132,8 @@ computed = (
     index-in-order =
         λ claim.
         let g : Field = fieldAfter nobodyOn (lets 2 8 ∷ []) in
-        let theirs : Each (FixesOne 1 swap) (inZone g 2) = ((λ e. not-own e), tt) in
-        let on : FixesAircraft 1 swap g = each-zone (λ (z : ℕ). Each (FixesOne 1 swap) (inZone g z)) (tt, (theirs, (tt, (tt, (tt, (tt, (tt, (tt, (tt, (tt, (tt, (tt, (tt, tt))))))))))))) in
+        let theirs : Each (KeepsOne 1 swap) (inZone g 2) = ((λ e. not-own e), tt) in
+        let on : KeepsAircraft 1 swap g = each-zone (λ (z : ℕ). Each (KeepsOne 1 swap) (inZone g z)) (tt, (theirs, (tt, (tt, (tt, (tt, (tt, (tt, (tt, (tt, (tt, (tt, (tt, tt))))))))))))) in
         let c : KeepsOwn 1 swap g (seven ∷ []) = record { renaming = swap-renames; requests = ((λ e. refl), tt); aircraft = on } in
         true≢false (ap (λ (ps : List (Request × Answer)). eqb (numberFirst ps) 10) (claim (withIndex g) refl tt 1 (seven ∷ []) swap c));
   },

@@ -28,7 +28,7 @@ use Rattle.rules.specs.Step.{stepOf}
 use Rattle.rules.specs.Play.{played, ofDesk}
 use Rattle.renaming.specs.Renaming.{Renaming, renamedAircraft, renamedZone, renamedField, renamedRequest, renamedPair}
 use Rattle.renaming.proofs.StepsRenamed.{played-renamed}
-use Rattle.isolated.specs.Isolated.{FixesRequest, FixesRequests, FixesOne, FixesAircraft, Isolation, renamedOther, renamedOthersIn, renamedOthers, renamedOtherRequest, renamedOtherRequests}
+use Rattle.isolated.specs.Isolated.{KeepsRequest, KeepsRequests, KeepsOne, KeepsAircraft, Isolation, renamedOther, renamedOthersIn, renamedOthers, renamedOtherRequest, renamedOtherRequests}
 use Rattle.owners.proofs.EachOfList.{each-parts, each-places, maps-agree}
 use Rattle.isolated.proofs.Stays.{StaysIn, Stays, own-numbers-stay}
 use Rattle.isolated.proofs.Shown.{pair-stays}
@@ -42,7 +42,7 @@ module _ (d : ℕ) {π : ℕ → ℕ} (p : Renaming π) where
   -- ---- from the aircraft within the lengths to every place
 
   -- a place past a length has number 0, which stays
-  past-stays : (xs : List Aircraft) → T (every isNobody xs) → Each (FixesOne d π) xs
+  past-stays : (xs : List Aircraft) → T (every isNobody xs) → Each (KeepsOne d π) xs
   unfolding isNobody
   past-stays [] t = tt
   past-stays (a ∷ xs) t =
@@ -51,13 +51,13 @@ module _ (d : ℕ) {π : ℕ → ℕ} (p : Renaming π) where
       (eq (a .leg) (whole 0)) (isWaiting (a .progress)) (and-l (isNobody a) (every isNobody xs) t) in
       ((λ e. rw (eqb→eq (a .number) 0 none) (p .zero)), past-stays xs (and-r (isNobody a) (every isNobody xs) t))
 
-  module _ (f : Field) (w : T (withinBounds f)) (h : FixesAircraft d π f) where
+  module _ (f : Field) (w : T (withinBounds f)) (h : KeepsAircraft d π f) where
     zone-stays : (z : ℕ) → Between 1 13 z → StaysIn d π (zoneOf f z)
     unfolding zoneKept inZone queueOf
     zone-stays z b =
         let q = zoneOf f z in
         let kept = every-listed (λ y. zoneKept (zoneOf f y)) everywhere z (within-e f w .zones-kept) (zone-listed z b) in
-        each-parts (FixesOne d π) (q .length) (q .aircraft)
+        each-parts (KeepsOne d π) (q .length) (q .aircraft)
         (h z (and-i (leb 1 z) (leb z 13) (le→leb 1 z (b .least)) (le→leb z 13 (b .most))))
         (past-stays (drop (q .length) (q .aircraft)) (and-r (leb (q .length) 4) (every isNobody (drop (q .length) (q .aircraft))) kept))
 
@@ -66,29 +66,29 @@ module _ (d : ℕ) {π : ℕ → ℕ} (p : Renaming π) where
     own-stay long = each-places (StaysIn d π) (f .zones) emptyZone (λ i l. zone-stays (suc i) (record { least = omega arith; most = omega arith }))
 
   -- ---- where the own numbers stay, the other desk's numbers renamed are all numbers renamed
-  aircraft-is : (a : Aircraft) → FixesOne d π a → renamedOther d π a ≡ renamedAircraft π a
+  aircraft-is : (a : Aircraft) → KeepsOne d π a → renamedOther d π a ≡ renamedAircraft π a
   aircraft-is a k =
       either-way (λ (b : Aircraft). b ≡ renamedAircraft π a) (eqb (a .desk) d) a (renamedAircraft π a)
       (λ e. rw (k (eqb-true (a .desk) d e)) refl)
       (λ e. refl)
 
   zone-is : (q : Zone) → StaysIn d π q → renamedOthersIn d π q ≡ renamedZone π q
-  zone-is q h = rw (maps-agree (FixesOne d π) (renamedOther d π) (renamedAircraft π) aircraft-is (q .aircraft) h) refl
+  zone-is q h = rw (maps-agree (KeepsOne d π) (renamedOther d π) (renamedAircraft π) aircraft-is (q .aircraft) h) refl
 
   pub field-is : (f : Field) → Stays d π f → renamedOthers d π f ≡ renamedField π f
   field-is f h = rw (maps-agree (StaysIn d π) (renamedOthersIn d π) (renamedZone π) zone-is (f .zones) h) refl
 
-  pub request-is : (r : Request) → FixesRequest d π r → renamedOtherRequest d π r ≡ renamedRequest π r
+  pub request-is : (r : Request) → KeepsRequest d π r → renamedOtherRequest d π r ≡ renamedRequest π r
   request-is r k =
       either-way (λ (s : Request). s ≡ renamedRequest π r) (eqb (r .desk) d) r (renamedRequest π r)
       (λ e. rw (k (eqb-true (r .desk) d e)) refl)
       (λ e. refl)
 
-  requests-are : (rs : List Request) → FixesRequests d π rs → renamedOtherRequests d π rs ≡ map (renamedRequest π) rs
-  requests-are rs k = maps-agree (FixesRequest d π) (renamedOtherRequest d π) (renamedRequest π) request-is rs k
+  requests-are : (rs : List Request) → KeepsRequests d π rs → renamedOtherRequests d π rs ≡ map (renamedRequest π) rs
+  requests-are rs k = maps-agree (KeepsRequest d π) (renamedOtherRequest d π) (renamedRequest π) request-is rs k
 
   -- ---- the desk's own requests and answers stay
-  own-answers : (f : Field) (rs : List Request) → Stays d π f → FixesRequests d π rs → ofDesk d (map (renamedPair π) (played f rs)) ≡ ofDesk d (played f rs)
+  own-answers : (f : Field) (rs : List Request) → Stays d π f → KeepsRequests d π rs → ofDesk d (map (renamedPair π) (played f rs)) ≡ ofDesk d (played f rs)
   own-answers f [] h k = refl
   own-answers f (r ∷ rs) h k =
       same-listed (decided (eqb (r .desk) d)) (own-answers (stepOf f r .field) rs (own-numbers-stay d p f r (k .0) h) (k .1))
@@ -102,7 +102,7 @@ module _ (d : ℕ) {π : ℕ → ℕ} (p : Renaming π) where
       same-listed (inr e) l = if-false _ _ e ∙ l ∙ sym (if-false _ _ e)
 
   -- On any field at all, where the numbers of the desk's aircraft stay in every place.
-  pub isolated-where : (f : Field) (rs : List Request) → Stays d π f → FixesRequests d π rs
+  pub isolated-where : (f : Field) (rs : List Request) → Stays d π f → KeepsRequests d π rs
       → ofDesk d (played (renamedOthers d π f) (renamedOtherRequests d π rs)) ≡ ofDesk d (played f rs)
   isolated-where f rs h k =
       ap (λ (g : Field). ofDesk d (played g (renamedOtherRequests d π rs))) (field-is f h)

@@ -9,7 +9,7 @@ use Rattle.rules.specs.Step.{effectOf, stepOf}
 use Rattle.owners.proofs.Everyone as everyone
 use Rattle.owners.proofs.Everyone.{HoldsIn, Everyone}
 use Rattle.renaming.specs.Renaming.{Renaming}
-use Rattle.isolated.specs.Isolated.{FixesRequest, FixesOne}
+use Rattle.isolated.specs.Isolated.{KeepsRequest, KeepsOne}
 
 module _ (d : ℕ) (π : ℕ → ℕ) where
   -- a number that one of the desk d has stays
@@ -24,11 +24,11 @@ module _ (d : ℕ) (π : ℕ → ℕ) where
   Stays = Everyone Fixed
 
 module _ (d : ℕ) {π : ℕ → ℕ} (p : Renaming π) where
-  pub at-stays : (f : Field) (z place : ℕ) → Stays d π f → FixesOne d π (aircraftAt f z place)
+  pub at-stays : (f : Field) (z place : ℕ) → Stays d π f → KeepsOne d π (aircraftAt f z place)
   at-stays = everyone.at-stays (Fixed d π) (λ e. p .zero)
 
-  pub effect-stays : (f : Field) (r : Request) → FixesRequest d π r → Stays d π f → Stays d π (effectOf f r)
+  pub effect-stays : (f : Field) (r : Request) → KeepsRequest d π r → Stays d π f → Stays d π (effectOf f r)
   effect-stays = everyone.effect-stays (Fixed d π) (λ e. p .zero)
 
-  pub own-numbers-stay : (f : Field) (r : Request) → FixesRequest d π r → Stays d π f → Stays d π (stepOf f r .field)
+  pub own-numbers-stay : (f : Field) (r : Request) → KeepsRequest d π r → Stays d π f → Stays d π (stepOf f r .field)
   own-numbers-stay = everyone.step-stays (Fixed d π) (λ e. p .zero)

@@ -41,27 +41,27 @@ renamedOtherRequests d π rs = map (renamedOtherRequest d π) rs
 -- ---- the numbers that stay
 
 -- the number that a request of desk d names
-abbrev pub FixesRequest : ℕ → (ℕ → ℕ) → Request → Type 0
-FixesRequest d π r = r .desk ≡ d → π (r .number) ≡ r .number
+abbrev pub KeepsRequest : ℕ → (ℕ → ℕ) → Request → Type 0
+KeepsRequest d π r = r .desk ≡ d → π (r .number) ≡ r .number
 
 -- each number that desk d names in the list, also where it is refused (02, 2.10)
-abbrev pub FixesRequests : ℕ → (ℕ → ℕ) → List Request → Type 0
-FixesRequests d π rs = Each (FixesRequest d π) rs
+abbrev pub KeepsRequests : ℕ → (ℕ → ℕ) → List Request → Type 0
+KeepsRequests d π rs = Each (KeepsRequest d π) rs
 
 -- the number that an aircraft of desk d carries
-abbrev pub FixesOne : ℕ → (ℕ → ℕ) → Aircraft → Type 0
-FixesOne d π a = a .desk ≡ d → π (a .number) ≡ a .number
+abbrev pub KeepsOne : ℕ → (ℕ → ℕ) → Aircraft → Type 0
+KeepsOne d π a = a .desk ≡ d → π (a .number) ≡ a .number
 
 -- each number that an aircraft of desk d carries on the field; those that it lets in later are named by its requests (02, 2.10)
-abbrev pub FixesAircraft : ℕ → (ℕ → ℕ) → Field → Type 0
-FixesAircraft d π f = (z : ℕ) → T (within 1 13 z) → Each (FixesOne d π) (inZone f z)
+abbrev pub KeepsAircraft : ℕ → (ℕ → ℕ) → Field → Type 0
+KeepsAircraft d π f = (z : ℕ) → T (within 1 13 z) → Each (KeepsOne d π) (inZone f z)
 
 -- what is asked of the new numbers
 pub record KeepsOwn (d : ℕ) (π : ℕ → ℕ) (f : Field) (rs : List Request) : Type 0 where
   -- no two numbers become one, and 0 stays 0
   pub renaming : Renaming π
-  pub requests : FixesRequests d π rs
-  pub aircraft : FixesAircraft d π f
+  pub requests : KeepsRequests d π rs
+  pub aircraft : KeepsAircraft d π f
 
 -- ---- the claim
 

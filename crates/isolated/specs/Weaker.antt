@@ -16,7 +16,7 @@ use Rattle.rules.specs.declared.Answer.{Answer}
 use Rattle.rules.specs.Play.{fieldAfter, played, ofDesk}
 use Rattle.renaming.specs.Renaming.{Renaming}
 use Rattle.indexed.specs.Indexed.{playedIndexed}
-use Rattle.isolated.specs.Isolated.{renamedOthers, renamedOtherRequest, renamedOtherRequests, FixesRequests, FixesAircraft, KeepsOwn}
+use Rattle.isolated.specs.Isolated.{renamedOthers, renamedOtherRequest, renamedOtherRequests, KeepsRequests, KeepsAircraft, KeepsOwn}
 
 -- ---- something less is asked of the new numbers
 
@@ -30,24 +30,24 @@ ClaimWhere Asked =
 pub record OnlyAccepted (d : ℕ) (π : ℕ → ℕ) (f : Field) (rs : List Request) : Type 0 where
   pub renaming : Renaming π
   pub accepted : Each (λ (p : Request × Answer). p .0 .desk ≡ d → p .1 .number ≡ 0 → π (p .0 .number) ≡ p .0 .number) (played f rs)
-  pub aircraft : FixesAircraft d π f
+  pub aircraft : KeepsAircraft d π f
 
 -- the numbers of the desk's aircraft on the field need not stay
 pub record OnlyNamed (d : ℕ) (π : ℕ → ℕ) (f : Field) (rs : List Request) : Type 0 where
   pub renaming : Renaming π
-  pub requests : FixesRequests d π rs
+  pub requests : KeepsRequests d π rs
 
 -- two numbers may become one
 pub record NotApart (d : ℕ) (π : ℕ → ℕ) (f : Field) (rs : List Request) : Type 0 where
   pub zero : π 0 ≡ 0
-  pub requests : FixesRequests d π rs
-  pub aircraft : FixesAircraft d π f
+  pub requests : KeepsRequests d π rs
+  pub aircraft : KeepsAircraft d π f
 
 -- 0 may become another number
 pub record ZeroToo (d : ℕ) (π : ℕ → ℕ) (f : Field) (rs : List Request) : Type 0 where
   pub apart : (m n : ℕ) → π m ≡ π n → m ≡ n
-  pub requests : FixesRequests d π rs
-  pub aircraft : FixesAircraft d π f
+  pub requests : KeepsRequests d π rs
+  pub aircraft : KeepsAircraft d π f
 
 -- ---- something more is claimed
 

@@ -11,6 +11,7 @@ use lib.Ieee.Fits.{and-l, and-r}
 use lib.ListN.{length, drop, length-map, length-append, length-drop}
 use lib.Seq.{length-take-le, take-at}
 use borrow.Author.Tests.{eqb-true, eq-eqb}
+use Rattle.limits.specs.Limits.{mostKept}
 use Rattle.request.specs.declared.Request.{Request}
 use Rattle.field.specs.Lists.{every, Each}
 use Rattle.field.proofs.TestLaws.{pass, passed, decided, if-false, either-way}
@@ -20,21 +21,21 @@ use Rattle.rules.specs.declared.Answer.{Answer}
 use Rattle.renaming.specs.Renaming.{Renaming, renamedRequest, renamedAnswer}
 use Rattle.indexed.specs.Indexed.{withIndex}
 use Rattle.indexed.proofs.StepsIndexed.{field-within, index-own}
-use Rattle.isolated.specs.Isolated.{FixesAircraft}
+use Rattle.isolated.specs.Isolated.{KeepsAircraft}
 use Rattle.owners.proofs.EachOfList.{maps-agree}
 use Rattle.isolated.proofs.Shown.{zeros-stay, answer-stays}
 use Rattle.isolated.proofs.Isolation.{own-stay, field-is, request-is}
 use Rattle.history.specs.declared.History.{History}
 use Rattle.history.specs.declared.SteppedHistory.{SteppedHistory}
-use Rattle.history.specs.History.{mostKept, counted, keptWithinBounds, withinBoundsHistory, numberHistory, stepHistory, numberBack, stepBack}
+use Rattle.history.specs.History.{counted, keptWithinBounds, withinBoundsHistory, numberHistory, stepHistory, numberBack, stepBack}
 use Rattle.history.proofs.StepNumbers as numbers
 use Rattle.taken_back.specs.Calls.{Call, request, back, called, playedCalls}
-use Rattle.isolated_back.specs.IsolatedBack.{renamedIndexed, renamedHistory, renamedOtherCall, callDesk, callsByDesk, FixesCall, Shaped, IsolationBack}
+use Rattle.isolated_back.specs.IsolatedBack.{renamedIndexed, renamedHistory, renamedOtherCall, callDesk, callsByDesk, KeepsCall, HistoryShaped, IsolationBack}
 use Rattle.isolated_back.proofs.Renamed.{renamed, Own, Renamed, Answered, request-renamed, back-renamed}
 
 module _ (d : ℕ) {π : ℕ → ℕ} (p : Renaming π) where
   -- ---- one call
-  call-renamed : (g h : History) → Renamed d p g h → (c : Call) → FixesCall d π c → Answered d p (called g (renamedOtherCall d π c)) (called h c)
+  call-renamed : (g h : History) → Renamed d p g h → (c : Call) → KeepsCall d π c → Answered d p (called g (renamedOtherCall d π c)) (called h c)
   call-renamed g h q (request r) k =
       subst⁻¹ (λ (s : Request). Answered d p (stepHistory g s) (stepHistory h r)) (request-is d p r k) (request-renamed d p g h q r k)
   call-renamed g h q (back desk) k = back-renamed d p g h q desk
@@ -50,7 +51,7 @@ module _ (d : ℕ) {π : ℕ → ℕ} (p : Renaming π) where
   call-stays (back desk) e = refl
 
   -- .. and so does its answer
-  own-answer : (h : History) → Own d p (h .now) → (c : Call) → FixesCall d π c → callDesk c ≡ d → renamedAnswer π (called h c .answer) ≡ called h c .answer
+  own-answer : (h : History) → Own d p (h .now) → (c : Call) → KeepsCall d π c → callDesk c ≡ d → renamedAnswer π (called h c .answer) ≡ called h c .answer
   unfolding stepHistory stepBack
   own-answer h o (request r) k e =
       either-way (λ (s : SteppedHistory). renamedAnswer π (s .answer) ≡ s .answer) (eqb (numberHistory h r) 0) _ _
@@ -60,7 +61,7 @@ module _ (d : ℕ) {π : ℕ → ℕ} (p : Renaming π) where
       (λ z. zeros-stay d p 0) (λ z. zeros-stay d p (numberBack h desk))
 
   -- ---- any list
-  pub calls-same : (g h : History) → Renamed d p g h → (cs : List Call) → Each (FixesCall d π) cs
+  pub calls-same : (g h : History) → Renamed d p g h → (cs : List Call) → Each (KeepsCall d π) cs
       → callsByDesk d (playedCalls g (map (renamedOtherCall d π) cs)) ≡ callsByDesk d (playedCalls h cs)
   calls-same g h q [] k = refl
   calls-same g h q (c ∷ cs) k =
@@ -81,12 +82,12 @@ module _ (d : ℕ) {π : ℕ → ℕ} (p : Renaming π) where
       same-listed (inr e) a l = if-false _ _ e ∙ l ∙ sym (if-false _ _ e)
 
   -- ---- the start
-  own-at : (x : Indexed) → T (withinBoundsIndexed x) → length (x .field .zones) ≡ 13 → FixesAircraft d π (x .field) → Own d p x
+  own-at : (x : Indexed) → T (withinBoundsIndexed x) → length (x .field .zones) ≡ 13 → KeepsAircraft d π (x .field) → Own d p x
   unfolding withIndex
   own-at x w long k =
       record { own = λ i. record { field = x .field; index = index-own x w i }; stays = own-stay d p (x .field) (pass (field-within x w)) k long }
 
-  own-each : (l : List Indexed) → T (every withinBoundsIndexed l) → Each (λ (x : Indexed). length (x .field .zones) ≡ 13) l → Each (λ (x : Indexed). FixesAircraft d π (x .field)) l → Each (Own d p) l
+  own-each : (l : List Indexed) → T (every withinBoundsIndexed l) → Each (λ (x : Indexed). length (x .field .zones) ≡ 13) l → Each (λ (x : Indexed). KeepsAircraft d π (x .field)) l → Each (Own d p) l
   own-each [] w long k = tt
   own-each (x ∷ l) w long k =
       (own-at x (and-l (withinBoundsIndexed x) (every withinBoundsIndexed l) w) (long .0) (k .0), own-each l (and-r (withinBoundsIndexed x) (every withinBoundsIndexed l) w) (long .1) (k .1))
@@ -94,7 +95,7 @@ module _ (d : ℕ) {π : ℕ → ℕ} (p : Renaming π) where
   is-renamed : (x : Indexed) → Own d p x → renamedIndexed d π x ≡ renamed d p x
   is-renamed x o = ap withIndex (field-is d p (x .field) (o .stays))
 
-  module _ (h : History) (s : Shaped h) (w : T (withinBoundsHistory h)) (on : FixesAircraft d π (h .now .field)) (on-kept : Each (λ (x : Indexed). FixesAircraft d π (x .field)) (counted h)) where
+  module _ (h : History) (s : HistoryShaped h) (w : T (withinBoundsHistory h)) (on : KeepsAircraft d π (h .now .field)) (on-kept : Each (λ (x : Indexed). KeepsAircraft d π (x .field)) (counted h)) where
     kept-within : T (keptWithinBounds h)
     unfolding withinBoundsHistory
     kept-within = and-l (keptWithinBounds h) (withinBoundsIndexed (h .now)) w

@@ -10,10 +10,11 @@ use lib.Dec.{ltb}
 use lib.ListN.{length, take, drop, set, length-set}
 use lib.Seq.{take-all, take-suc-set}
 use borrow.Author.Tests.{ltb-true, ltb-false}
+use Rattle.limits.specs.Limits.{mostKept}
 use Rattle.field.proofs.TestLaws.{decided, if-true, if-false}
 use Rattle.finder.specs.declared.Indexed.{Indexed}
 use Rattle.history.specs.declared.History.{History}
-use Rattle.history.specs.History.{mostKept, counted, keeping}
+use Rattle.history.specs.History.{counted, keeping}
 use Rattle.history.proofs.MovedUp.{movedUp, moved-length}
 use Rattle.taken_back.proofs.KeptCounts.{keeping-count}
 

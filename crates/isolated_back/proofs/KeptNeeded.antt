@@ -12,7 +12,7 @@ use Rattle.field.specs.declared.Field.{Field}
 use Rattle.field.specs.Lists.{every, Each}
 use Rattle.field.proofs.NumberLists.{every-listed, zone-listed}
 use lib.Ieee.{neg, add, sub, mul, div, ofInt, round, lt, le, eq}
-use Rattle.leg.specs.Progress.{advanced, pastEnd, waitedAfter, missedLeg}
+use Rattle.leg.specs.Progress.{advanced, pastEnd, waitedAfter, legAfterMiss}
 use Rattle.request.specs.Input.{deskAllowed, kindAllowed, sideAllowed, numberAllowed, amountAllowed, inputNumber}
 use Rattle.field.specs.Airspace.{everywhere, isSide, sideOf, opposite, isFlyingZone, zoneOf, queueOf, inZone, orderOf}
 use Rattle.field.specs.Airspace.{legOf, progressInto, entering, onLeg, arrived, arrivedByMiss, withFix, legFlownOut, emptyField}
@@ -33,12 +33,12 @@ use Rattle.rules.specs.Cases.{ask, allLegs}
 use Rattle.renaming.specs.Renaming.{exchanged}
 use Rattle.renaming.proofs.Exchanged.{exchange-renames}
 use Rattle.indexed.specs.Indexed.{withIndex}
-use Rattle.isolated.specs.Isolated.{FixesOne, FixesAircraft}
+use Rattle.isolated.specs.Isolated.{KeepsOne, KeepsAircraft}
 use Rattle.isolated.specs.Seen.{otherLets}
 use Rattle.history.specs.declared.History.{History}
 use Rattle.history.specs.History.{counted, startOf, startWith, keptWithinBounds, withinBoundsHistory, keeping, numberHistory, stepHistory, numberBack, givenBack, stepBack}
 use Rattle.taken_back.specs.Calls.{Call, request, back, afterCalls}
-use Rattle.isolated_back.specs.IsolatedBack.{KeepsOwnBack, Shaped}
+use Rattle.isolated_back.specs.IsolatedBack.{KeepsOwnBack, HistoryShaped}
 use Rattle.isolated_back.specs.Weaker.{OnlyOnField, KeptNeeded}
 
 -- ---- which numbers stay, tested
@@ -48,23 +48,23 @@ staysOf π a = not (eqb (a .desk) 1) || eqb (π (a .number)) (a .number)
 abbrev staysOn : (ℕ → ℕ) → Field → Bool
 staysOn π f = every (λ z. every (staysOf π) (inZone f z)) everywhere
 
-one-stays : (π : ℕ → ℕ) (a : Aircraft) → T (staysOf π a) → FixesOne 1 π a
+one-stays : (π : ℕ → ℕ) (a : Aircraft) → T (staysOf π a) → KeepsOne 1 π a
 one-stays π a t e = go (eqb (a .desk) 1) (eq-eqb (a .desk) 1 e) t
   where
     go : (b : Bool) → b ≡ true → T (not b || eqb (π (a .number)) (a .number)) → π (a .number) ≡ a .number
     go true e t = eqb→eq (π (a .number)) (a .number) t
     go false e t = absurd (true≢false (sym e))
 
-those-stay : (π : ℕ → ℕ) (l : List Aircraft) → T (every (staysOf π) l) → Each (FixesOne 1 π) l
+those-stay : (π : ℕ → ℕ) (l : List Aircraft) → T (every (staysOf π) l) → Each (KeepsOne 1 π) l
 those-stay π [] t = tt
 those-stay π (a ∷ l) t = (one-stays π a (and-l (staysOf π a) (every (staysOf π) l) t), those-stay π l (and-r (staysOf π a) (every (staysOf π) l) t))
 
-stay-on : (π : ℕ → ℕ) (f : Field) → T (staysOn π f) → FixesAircraft 1 π f
+stay-on : (π : ℕ → ℕ) (f : Field) → T (staysOn π f) → KeepsAircraft 1 π f
 stay-on π f t z w =
     those-stay π (inZone f z) (every-listed (λ z. every (staysOf π) (inZone f z)) everywhere z t
     (zone-listed z (record { least = leb→le 1 z (and-l (leb 1 z) (leb z 13) w); most = leb→le z 13 (and-r (leb 1 z) (leb z 13) w) })))
 
-stay-on-each : (π : ℕ → ℕ) (l : List Indexed) → T (every (λ (x : Indexed). staysOn π (x .field)) l) → Each (λ (x : Indexed). FixesAircraft 1 π (x .field)) l
+stay-on-each : (π : ℕ → ℕ) (l : List Indexed) → T (every (λ (x : Indexed). staysOn π (x .field)) l) → Each (λ (x : Indexed). KeepsAircraft 1 π (x .field)) l
 stay-on-each π [] t = tt
 stay-on-each π (x ∷ l) t = (
   stay-on π (x .field) (and-l (staysOn π (x .field)) (every (λ (x : Indexed). staysOn π (x .field)) l) t),
@@ -122,7 +122,7 @@ not-own e = absurd (omega arith)
 -- all together, so that what is computed is unfolded once
 computed : KeptNeeded
 unfolding
-    advanced pastEnd waitedAfter missedLeg deskAllowed kindAllowed sideAllowed numberAllowed amountAllowed inputNumber isSide opposite isFlyingZone zoneOf queueOf inZone orderOf progressInto entering
+    advanced pastEnd waitedAfter legAfterMiss deskAllowed kindAllowed sideAllowed numberAllowed amountAllowed inputNumber isSide opposite isFlyingZone zoneOf queueOf inZone orderOf progressInto entering
     onLeg arrived arrivedByMiss withFix legOf legFlownOut emptyField howMany howManyWithFix presentOn inOperation inArea perFix approachHolds countedFor potentialOf findIn placeOf
     aircraftAt fixOf isFirst leaderOf leaderZone boundA boundB lateralRule boundC boundD numbersDiffer sequenceExact finalFirst isNobody zoneKept sequenceKept
     boundE boundF legFits fitsZone legalLegs boundG withinBounds withoutHead withTail appended removed withZone withSequence tickedAircraft tickedZone ticked sideOf
@@ -138,7 +138,7 @@ computed = record {
       λ claim.
       let π = exchanged 5 6 in
       let h : History = after theirs in
-      let shaped : Shaped h = record { places = refl; zones = refl; kept-zones = (refl, (refl, tt)) } in
+      let shaped : HistoryShaped h = record { places = refl; zones = refl; kept-zones = (refl, (refl, tt)) } in
       let k : KeepsOwnBack 1 π h backAndIn = record {
         renaming = exchange-renames 5 6 (λ e. omega arith) (λ e. omega arith);
         calls = (tt, ((λ e. not-own e), ((λ e. refl), tt)));
@@ -151,7 +151,7 @@ computed = record {
       λ claim.
       let π = exchanged 5 9 in
       let h : History = after both in
-      let shaped : Shaped h = record { places = refl; zones = refl; kept-zones = (refl, (refl, (refl, tt))) } in
+      let shaped : HistoryShaped h = record { places = refl; zones = refl; kept-zones = (refl, (refl, (refl, tt))) } in
       let k : KeepsOwnBack 1 π h (back 1 ∷ []) = record {
         renaming = exchange-renames 5 9 (λ e. omega arith) (λ e. omega arith);
         calls = (tt, tt);
@@ -164,7 +164,7 @@ computed = record {
       λ claim.
       let π = exchanged 5 7 in
       let h : History = after inAndOut in
-      let shaped : Shaped h = record { places = refl; zones = refl; kept-zones = (refl, (refl, (refl, (refl, (refl, (refl, tt)))))) } in
+      let shaped : HistoryShaped h = record { places = refl; zones = refl; kept-zones = (refl, (refl, (refl, (refl, (refl, (refl, tt)))))) } in
       let k : OnlyOnField 1 π h (back 1 ∷ []) = record {
         renaming = exchange-renames 5 7 (λ e. omega arith) (λ e. omega arith);
         calls = (tt, tt);

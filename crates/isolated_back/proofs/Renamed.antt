@@ -9,6 +9,7 @@ use lib.Dec.{eqb, leb, ltb}
 use lib.ListN.{length, getD, take, drop, List·getD-map}
 use lib.Seq.{getD-take, take-take}
 use borrow.Author.Tests.{eqb-true, eqb-false}
+use Rattle.limits.specs.Limits.{mostKept}
 use Rattle.request.specs.Input.{within, firstRefused}
 use Rattle.request.specs.declared.Request.{Request}
 use Rattle.field.specs.declared.Field.{Field}
@@ -25,13 +26,13 @@ use Rattle.renaming.proofs.NeedsRenamed.{input-renamed}
 use Rattle.renaming.proofs.StepsRenamed.{number-renamed, step-renamed}
 use Rattle.indexed.specs.Indexed.{withIndex}
 use Rattle.indexed.proofs.Own.{within-own}
-use Rattle.isolated.specs.Isolated.{FixesRequest}
+use Rattle.isolated.specs.Isolated.{KeepsRequest}
 use Rattle.owners.proofs.EachOfList.{each-drop, each-take, each-append, each-at}
 use Rattle.isolated.proofs.Stays.{Stays, own-numbers-stay}
 use Rattle.isolated.proofs.Shown.{zeros-stay}
 use Rattle.history.specs.declared.History.{History}
 use Rattle.history.specs.declared.SteppedHistory.{SteppedHistory}
-use Rattle.history.specs.History.{mostKept, counted, keptWithinBounds, withinBoundsHistory, keeping, numberHistory, stepHistory, numberBack, givenBack, stepBack}
+use Rattle.history.specs.History.{counted, keptWithinBounds, withinBoundsHistory, keeping, numberHistory, stepHistory, numberBack, givenBack, stepBack}
 use Rattle.history.proofs.StepNumbers as numbers
 use Rattle.taken_back.proofs.KeptCounts.{some-kept, keeping-count}
 use Rattle.isolated_back.proofs.KeptAfter.{leftOf, kept-now, kept-few, kept-places, kept-counted, map-behind}
@@ -161,7 +162,7 @@ module _ (d : ℕ) {π : ℕ → ℕ} (p : Renaming π) where
           }
 
   -- the field after a request that is accepted
-  stepped-renamed : (g h : History) → Renamed g h → (r : Request) → FixesRequest d π r
+  stepped-renamed : (g h : History) → Renamed g h → (r : Request) → KeepsRequest d π r
       → Renamed (keeping g (withIndex (renamedField π (stepOf (h .now .field) r .field)))) (keeping h (withIndex (stepOf (h .now .field) r .field)))
   unfolding withIndex
   stepped-renamed g h q r k =
@@ -176,7 +177,7 @@ module _ (d : ℕ) {π : ℕ → ℕ} (p : Renaming π) where
     refused : (n : ℕ) → Answered (record { answer = numberAndZeros n; after = g }) (record { answer = numberAndZeros n; after = h })
     refused n = record { answer = sym (zeros-stay d p n); after = q }
 
-    pub request-renamed : (r : Request) → FixesRequest d π r → Answered (stepHistory g (renamedRequest π r)) (stepHistory h r)
+    pub request-renamed : (r : Request) → KeepsRequest d π r → Answered (stepHistory g (renamedRequest π r)) (stepHistory h r)
     request-renamed r k =
         let f = h .now .field in
         let R = renamedRequest π r in

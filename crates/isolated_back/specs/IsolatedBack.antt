@@ -6,14 +6,15 @@ use mathlib.Core.List.{List, [], _∷_, _++_, map}
 use Prim.Native.Nat.{ℕ}
 use lib.Dec.{T, eqb}
 use lib.ListN.{length, drop}
+use Rattle.limits.specs.Limits.{mostKept}
 use Rattle.field.specs.Lists.{Each}
 use Rattle.finder.specs.declared.Indexed.{Indexed}
 use Rattle.rules.specs.declared.Answer.{Answer}
 use Rattle.renaming.specs.Renaming.{Renaming}
 use Rattle.indexed.specs.Indexed.{withIndex}
-use Rattle.isolated.specs.Isolated.{renamedOthers, renamedOtherRequest, FixesRequest, FixesAircraft}
+use Rattle.isolated.specs.Isolated.{renamedOthers, renamedOtherRequest, KeepsRequest, KeepsAircraft}
 use Rattle.history.specs.declared.History.{History}
-use Rattle.history.specs.History.{mostKept, counted, withinBoundsHistory}
+use Rattle.history.specs.History.{counted, withinBoundsHistory}
 use Rattle.taken_back.specs.Calls.{Call, request, back, playedCalls}
 
 -- ---- the other desk's numbers renamed; this desk is d
@@ -47,25 +48,25 @@ callsByDesk desk (p ∷ ps) = cond (eqb (callDesk (p .0)) desk) (p ∷ callsByDe
 -- ---- the numbers that stay
 
 -- the number that a request of desk d names
-abbrev pub FixesCall : ℕ → (ℕ → ℕ) → Call → Type 0
-FixesCall d π (request r) = FixesRequest d π r
-FixesCall d π (back desk) = Unit
+abbrev pub KeepsCall : ℕ → (ℕ → ℕ) → Call → Type 0
+KeepsCall d π (request r) = KeepsRequest d π r
+KeepsCall d π (back desk) = Unit
 
 -- what is asked of the new numbers
 pub record KeepsOwnBack (d : ℕ) (π : ℕ → ℕ) (h : History) (cs : List Call) : Type 0 where
   -- no two numbers become one, and 0 stays 0
   pub renaming : Renaming π
   -- each number that desk d names stays, in refused requests too
-  pub calls : Each (FixesCall d π) cs
+  pub calls : Each (KeepsCall d π) cs
   -- each number that its aircraft carry on the field stays, ..
-  pub aircraft : FixesAircraft d π (h .now .field)
+  pub aircraft : KeepsAircraft d π (h .now .field)
   -- .. and so does each that they carry on a kept field that counts (02, 2.13)
-  pub kept : Each (λ (x : Indexed). FixesAircraft d π (x .field)) (counted h)
+  pub kept : Each (λ (x : Indexed). KeepsAircraft d π (x .field)) (counted h)
 
 -- ---- the claim
 
 -- eight places, and thirteen zones on the field and on each kept one that counts, as every history of the program has them
-pub record Shaped (h : History) : Type 0 where
+pub record HistoryShaped (h : History) : Type 0 where
   pub places : length (h .kept) ≡ mostKept
   pub zones : length (h .now .field .zones) ≡ 13
   pub kept-zones : Each (λ (x : Indexed). length (x .field .zones) ≡ 13) (counted h)
@@ -75,5 +76,5 @@ pub record Shaped (h : History) : Type 0 where
 -- the kept fields and in the list (02, 2.10 and 2.13).
 abbrev pub IsolationBack : Type 0
 IsolationBack =
-    (h : History) → Shaped h → T (withinBoundsHistory h) → (d : ℕ) (cs : List Call) (π : ℕ → ℕ) → KeepsOwnBack d π h cs
+    (h : History) → HistoryShaped h → T (withinBoundsHistory h) → (d : ℕ) (cs : List Call) (π : ℕ → ℕ) → KeepsOwnBack d π h cs
     → callsByDesk d (playedCalls (renamedHistory d π h) (map (renamedOtherCall d π) cs)) ≡ callsByDesk d (playedCalls h cs)

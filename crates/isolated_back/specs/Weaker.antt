@@ -8,16 +8,16 @@ use Rattle.field.specs.Lists.{Each}
 use Rattle.finder.specs.declared.Entry.{Entry}
 use Rattle.finder.specs.declared.Indexed.{Indexed}
 use Rattle.renaming.specs.Renaming.{Renaming}
-use Rattle.isolated.specs.Isolated.{renamedOthers, FixesAircraft}
+use Rattle.isolated.specs.Isolated.{renamedOthers, KeepsAircraft}
 use Rattle.history.specs.declared.History.{History}
 use Rattle.history.specs.History.{counted, withinBoundsHistory}
 use Rattle.taken_back.specs.Calls.{Call, playedCalls}
-use Rattle.isolated_back.specs.IsolatedBack.{renamedIndexed, renamedHistory, renamedOtherCall, callsByDesk, FixesCall, KeepsOwnBack, Shaped}
+use Rattle.isolated_back.specs.IsolatedBack.{renamedIndexed, renamedHistory, renamedOtherCall, callsByDesk, KeepsCall, KeepsOwnBack, HistoryShaped}
 
 -- the claim, with this asked of the new numbers and this made of the field and its kept ones
 abbrev pub ClaimBack : (ℕ → (ℕ → ℕ) → History → List Call → Type 0) → (ℕ → (ℕ → ℕ) → History → History) → Type 0
 ClaimBack Asked made =
-    (h : History) → Shaped h → T (withinBoundsHistory h) → (d : ℕ) (cs : List Call) (π : ℕ → ℕ) → Asked d π h cs
+    (h : History) → HistoryShaped h → T (withinBoundsHistory h) → (d : ℕ) (cs : List Call) (π : ℕ → ℕ) → Asked d π h cs
     → callsByDesk d (playedCalls (made d π h) (map (renamedOtherCall d π) cs)) ≡ callsByDesk d (playedCalls h cs)
 
 -- the field renamed, and this made of each kept one that counts
@@ -36,8 +36,8 @@ notInOrder d π x =
 -- nothing is asked of the numbers that this desk's aircraft have on kept fields
 pub record OnlyOnField (d : ℕ) (π : ℕ → ℕ) (h : History) (cs : List Call) : Type 0 where
   pub renaming : Renaming π
-  pub calls : Each (FixesCall d π) cs
-  pub aircraft : FixesAircraft d π (h .now .field)
+  pub calls : Each (KeepsCall d π) cs
+  pub aircraft : KeepsAircraft d π (h .now .field)
 
 -- ---- none of these holds
 pub record KeptNeeded : Type 0 where

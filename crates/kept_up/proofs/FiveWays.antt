@@ -1,5 +1,5 @@
 -- What an accepted request can do to the queues, in five ways, and how a move from zone to zone is shown. Assumes nothing.
-use mathlib.Core.Path.{_≡_, ap, _∙_, subst⁻¹}
+use mathlib.Core.Path.{_≡_, refl, ap, _∙_, subst⁻¹}
 use mathlib.Core.Logic.{_≢_}
 use mathlib.Core.Bool.{true, false}
 use Prim.Native.Nat.{ℕ, _+_, _≤_}
@@ -13,11 +13,24 @@ use Rattle.questions.specs.Counts.{howMany}
 use Rattle.questions.specs.Find.{aircraftAt}
 use Rattle.questions.proofs.FindLaws.{at}
 use Rattle.rules.specs.Kinds.{placeBefore, zoneBefore, zoneAhead, moved, madeRoom}
+use Rattle.field.proofs.TestLaws.{each-from}
+use Rattle.laws.proofs.EditLaws.{Shaped}
 use Rattle.rules.specs.Step.{effectOf}
+use Rattle.rules.proofs.Refusals.{Passes}
 use Rattle.kept_up.specs.KeptUp.{leadsTo}
 use Rattle.kept_up.proofs.Moved.{Left, Come}
-use Rattle.kept_up.proofs.HeadOfRequest.{Accepted, bounded, heads, some}
+use Rattle.rules.proofs.HeadOfRequest.{bounded, heads, some}
 use Rattle.kept_up.proofs.Queues.{Led, MayGo, MayMakeRoom, led-same, moved-led, room-in}
+
+-- the side of a side
+pub side-own : (s : ℕ) → 1 ≤ s → s ≤ 2 → sideOf s ≡ s
+unfolding sideOf
+side-own s low high = each-from 1 2 (λ s. sideOf s ≡ s) (refl, (refl, tt)) s low (omega (arith, high))
+
+-- a request that is accepted, of a field whose arrays have their places
+pub record AcceptedRequest (f : Field) (r : Request) : Type 0 where
+  pub shaped : Shaped f
+  pub passed : Passes f r
 
 -- a zone that is one of the thirteen
 pub in-area : (z : ℕ) → 1 ≤ z → z ≤ 13 → Between 1 13 z
@@ -91,11 +104,11 @@ module _ (f : Field) (r : Request) where
     pub effect : g ≡ moved f from w
 
 -- the head of its zone to the tail of zone w
-pub steps : {f : Field} {r : Request} {k w : ℕ} → Accepted f r → r .kind ≡ k → within 3 11 k ≡ true → within 8 9 k ≡ false → Steps f r k w → Moves f r
+pub steps : {f : Field} {r : Request} {k w : ℕ} → AcceptedRequest f r → r .kind ≡ k → within 3 11 k ≡ true → within 8 9 k ≡ false → Steps f r k w → Moves f r
 steps {f} {r} {k} {w} a q m stays s =
     let in-operation : Between 1 12 w = record { least = omega arith; most = s .last } in
-    let room = room-in f (bounded a) (s .start) in-operation (s .apart) (some a q m) in
+    let room = room-in f (bounded (a .passed)) (s .start) in-operation (s .apart) (some (a .passed) q m) in
     let start : Between 1 13 (zoneBefore f r) = record { least = s .start .least; most = omega arith } in
     let may : MayGo f (r .number) (zoneBefore f r) w =
-    record { from-zone = start; to-zone = in-area w (omega arith) (omega arith); other-zone = s .apart; room = room; heads = heads a q m } in
+    record { from-zone = start; to-zone = in-area w (omega arith) (omega arith); other-zone = s .apart; room = room; heads = heads (a .passed) q m } in
     moves f r q stays (s .leads) (s .not-above) (led-same (λ y. ap (λ (x : Field). inZone x y) (s .effect)) (moved-led (a .shaped) may))

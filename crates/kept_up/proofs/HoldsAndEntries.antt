@@ -24,11 +24,11 @@ use Rattle.rules.specs.Kinds.{zoneBefore, startsFrom, moved, madeRoom, enteredA
 use Rattle.rules.specs.Step.{effectOf}
 use Rattle.rules.proofs.Checks.{effect-at}
 use Rattle.kept_up.specs.KeptUp.{holdTo, leadsTo}
-use Rattle.kept_up.proofs.HeadOfRequest.{Accepted, side-own, bounded, all-pass, heading, found, heads, some}
+use Rattle.rules.proofs.HeadOfRequest.{bounded, all-pass, heading, found, heads, some}
 use Rattle.kept_up.proofs.Queues.{MayGo, MayMakeRoom, put-come, come-same, led-same, moved-led, one-each, room-made}
-use Rattle.kept_up.proofs.FiveWays.{to, Moves, Rises, Comes, ComesAbove, in-area, steps}
+use Rattle.kept_up.proofs.FiveWays.{AcceptedRequest, side-own, to, Moves, Rises, Comes, ComesAbove, in-area, steps}
 
-module _ {f : Field} {r : Request} (a : Accepted f r) where
+module _ {f : Field} {r : Request} (a : AcceptedRequest f r) where
   abbrev from : ℕ
   from = zoneBefore f r
 
@@ -58,7 +58,7 @@ module _ {f : Field} {r : Request} (a : Accepted f r) where
   none-below : (s : ℕ) → 1 ≤ s → s ≤ 2 → 1 ≤ howMany f (6 + s) → 1 ≤ howMany f s → howMany f (2 + s) ≡ 0
   unfolding boundB inArea
   none-below s low high =
-      let b = within-each f (bounded a) .bound-b in
+      let b = within-each f (bounded (a .passed)) .bound-b in
       let rights = leb→le (inArea f right) 2 (and-l (leb (inArea f right) 2) (leb (inArea f left) 2) b) in
       let lefts = leb→le (inArea f left) 2 (and-r (leb (inArea f right) 2) (leb (inArea f left) 2) b) in
       each-from 1 2 (λ s. 1 ≤ howMany f (6 + s) → 1 ≤ howMany f s → howMany f (2 + s) ≡ 0)
@@ -70,14 +70,14 @@ module _ {f : Field} {r : Request} (a : Accepted f r) where
     s = sideOf from
 
     may-make-room : MayMakeRoom f s
-    may-make-room = record { low = m .low; high = m .high; clear = none-below s (m .low) (m .high) (subst (λ (z : ℕ). 1 ≤ howMany f z) (m .zone) (some a q refl)) }
+    may-make-room = record { low = m .low; high = m .high; clear = none-below s (m .low) (m .high) (subst (λ (z : ℕ). 1 ≤ howMany f z) (m .zone) (some (a .passed) q refl)) }
 
     rises : g ≡ moved (madeRoom f s) from s → Rises f r s
     unfolding howMany
     rises same =
-        let emptied = room-made (a .shaped) (bounded a) may-make-room in
+        let emptied = room-made (a .shaped) (bounded (a .passed)) may-make-room in
         let none = ap length (emptied .none) in
-        let h = heads a q refl in
+        let h = heads (a .passed) q refl in
         let still = emptied .elsewhere from (λ t. omega (arith, t)) (λ t. omega (arith, t)) in
         let low = m .low in
         let may : MayGo (madeRoom f s) n from s =
@@ -93,14 +93,14 @@ module _ {f : Field} {r : Request} (a : Accepted f r) where
           above = may-make-room;
           start = omega arith;
           apart = λ t. omega (arith, t);
-          head = found a q refl;
+          head = found (a .passed) q refl;
           led = led-same (λ y. ap (λ (x : Field). inZone x y) same) (moved-led (emptied .shaped) may);
         }
 
   pub holds-11 : r .kind ≡ 11 → Moves f r ⊎ Rises f r (to f r (r .kind))
   unfolding startsFrom leadsTo holdTo held madeRoom
   holds-11 q =
-      let m = missed-side (heading a q refl .starts) in
+      let m = missed-side (heading (a .passed) q refl .starts) in
       let side = sideOf from in
       elim (decided (isEmpty f side)) [
         | inl t ↦
@@ -132,9 +132,9 @@ module _ {f : Field} {r : Request} (a : Accepted f r) where
       let low = known .side-low in
       let high = known .side-high in
       let side = r .side in
-      let (absent, (p16, (p17, (p18, (p19, (p20, end)))))) = all-pass a q in
+      let (absent, (p16, (p17, (p18, (p19, (p20, end)))))) = all-pass (a .passed) q in
       let may : MayMakeRoom f side = record { low = low; high = high; clear = none side p20 } in
-      let h = room-made (a .shaped) (bounded a) may in
+      let h = room-made (a .shaped) (bounded (a .passed)) may in
       let few = ap length (h .none) in
       subst⁻¹ (ComesAbove f r) (ap (to f r) q ∙ side-own side low high)
       (record {
@@ -160,11 +160,11 @@ module _ {f : Field} {r : Request} (a : Accepted f r) where
       let low = known .side-low in
       let high = known .side-high in
       let side = r .side in
-      let few = one-each f (bounded a) (4 + side) (omega arith) (omega (arith, high)) in
+      let few = one-each f (bounded (a .passed)) (4 + side) (omega arith) (omega (arith, high)) in
       subst⁻¹ (Comes f r) (ap (to f r) q ∙ ap (λ (s : ℕ). 4 + s) (side-own side low high))
       (record {
         staying = ap (within 8 9) q;
-        absent = eqb-true from 0 (all-pass a q .0);
+        absent = eqb-true from 0 (all-pass (a .passed) q .0);
         not-above = omega (arith, low);
         come =
             come-same (λ y. ap (λ (x : Field). inZone x y) (effect-at f r q))

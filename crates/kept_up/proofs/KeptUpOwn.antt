@@ -38,8 +38,8 @@ use Rattle.kept_up.proofs.Entries.{movedUp, descendedPlace, moved-in-or
 use Rattle.kept_up.proofs.Entries.{without-length, without-in-order, without-zoned, other-without, own-without, down-in-order, down-zoned, down-free, down-found, put-found}
 use Rattle.kept_up.proofs.Moved.{Left, Come, others-left, was-head, own-left, others-come, own-come, come-total}
 use Rattle.kept_up.proofs.Queues.{Led, MayMakeRoom, room-made}
-use Rattle.kept_up.proofs.HeadOfRequest.{Accepted, bounded}
-use Rattle.kept_up.proofs.FiveWays.{to, Leaves, Moves, Rises, Comes, ComesAbove}
+use Rattle.rules.proofs.HeadOfRequest.{bounded}
+use Rattle.kept_up.proofs.FiveWays.{AcceptedRequest, to, Leaves, Moves, Rises, Comes, ComesAbove}
 use Rattle.kept_up.proofs.Told.{told}
 
 -- ---- an index, and the field after
@@ -68,7 +68,7 @@ own-index g after xs ready = index-determined g after (record { entries = xs }) 
         ]
 
 -- ---- a request
-module _ {f : Field} {r : Request} (a : Accepted f r) where
+module _ {f : Field} {r : Request} (a : AcceptedRequest f r) where
   abbrev g : Field
   g = effectOf f r
 
@@ -89,7 +89,7 @@ module _ {f : Field} {r : Request} (a : Accepted f r) where
 
   looked : (n : ℕ) → n ≢ 0 → foundAmong n es ≡ placeOf f n
   unfolding foundIn
-  looked n u = sym (if-false _ _ (ne-eqb n 0 u)) ∙ found-as-looked f (bounded a) n
+  looked n u = sym (if-false _ _ (ne-eqb n 0 u)) ∙ found-as-looked f (bounded (a .passed)) n
 
   -- the index of the field before, ..
   ready-same : Ready f es
@@ -102,7 +102,7 @@ module _ {f : Field} {r : Request} (a : Accepted f r) where
         long = length-map es (descendedEntry side) ∙ index-length f;
         order = down-in-order side (m .low) 0 es (index-in-order f);
         zoned = down-zoned side (m .low) es (index-zoned f);
-        says = λ n u. down-found side (m .low) n es ∙ ap (descendedPlace side) (looked n u) ∙ sym (room-made (a .shaped) (bounded a) m .looked n);
+        says = λ n u. down-found side (m .low) n es ∙ ap (descendedPlace side) (looked n u) ∙ sym (room-made (a .shaped) (bounded (a .passed)) m .looked n);
       }
 
   -- who is found on the field after has a number
@@ -198,7 +198,7 @@ module _ {f : Field} {r : Request} (a : Accepted f r) where
 
     used : n ≢ 0
     used e =
-        let none : 0 ≡ z = ap (λ (p : Place). p .zone) (sym (none-zero f (bounded a)) ∙ ap (placeOf f) (sym e) ∙ was-head l (numbers-different f (bounded a))) in
+        let none : 0 ≡ z = ap (λ (p : Place). p .zone) (sym (none-zero f (bounded (a .passed))) ∙ ap (placeOf f) (sym e) ∙ was-head l (numbers-different f (bounded (a .passed)))) in
         let low = start in
         omega (arith, none, low)
 
@@ -221,7 +221,7 @@ module _ {f : Field} {r : Request} (a : Accepted f r) where
             ap (λ (k : ℕ). movedUp z (foundAmong k (without n es))) own
             ∙ ap (movedUp z) (own-without n used 0 es (index-in-order f))
             ∙ stays
-            ∙ sym (own-left l (numbers-different f (bounded a)))
+            ∙ sym (own-left l (numbers-different f (bounded (a .passed))))
             ∙ ap (placeOf g) (sym own)
         says m u (inr b) =
             let other = eqb-false m n b in
@@ -266,7 +266,7 @@ module _ {f : Field} {r : Request} (a : Accepted f r) where
       let l = p .led in
       not-above (p .not-above) (p .staying)
       (ap (λ (xs : List Entry). record { entries = xs }) (if-false _ _ (came-from (l .left .zone .least)))
-      ∙ moved-own ready-same l (was-head (l .left) (numbers-different f (bounded a))) (add-one (howMany f w) ∙ ap suc (as-many l)))
+      ∙ moved-own ready-same l (was-head (l .left) (numbers-different f (bounded (a .passed)))) (add-one (howMany f w) ∙ ap suc (as-many l)))
     where
       as-many : (l : Led f g n from w) → howMany f w ≡ howMany (l .between) w
       as-many l = sym (ap length (l .left .elsewhere w (l .apart)))
@@ -276,7 +276,7 @@ module _ {f : Field} {r : Request} (a : Accepted f r) where
   rising p =
       let l = p .led in
       let m = p .above in
-      let room = room-made (a .shaped) (bounded a) m in
+      let room = room-made (a .shaped) (bounded (a .passed)) m in
       let zone = p .start in
       above m (p .staying)
       (ap (λ (xs : List Entry). record { entries = xs }) (if-false _ _ (came-from (l .left .zone .least)))
@@ -290,7 +290,7 @@ module _ {f : Field} {r : Request} (a : Accepted f r) where
   spare c same =
       let more = come-total c in
       let most = five-present g after in
-      let places = index-free f (bounded a) in
+      let places = index-free f (bounded (a .passed)) in
       omega (arith, more, most, places, same)
 
   coming : Comes f r w → Goal
@@ -303,7 +303,7 @@ module _ {f : Field} {r : Request} (a : Accepted f r) where
   unfolding howMany
   coming-above p =
       let m = p .above in
-      let room = room-made (a .shaped) (bounded a) m in
+      let room = room-made (a .shaped) (bounded (a .passed)) m in
       let many = down-free w (m .low) es in
       let left = spare (p .come) (room .present) in
       let gone = p .absent in
@@ -319,7 +319,7 @@ module _ {f : Field} {r : Request} (a : Accepted f r) where
 pub kept-up-own : (f : Field) → Shaped f → (r : Request) → numberOf f r ≡ 0 → r .kind ≢ 12
     → let w = to f r (r .kind) in keptUp (zoneBefore f r) (ledTo (r .kind) (r .number) w (howMany f w + 1)) (indexOf f) ≡ indexOf (effectOf f r)
 kept-up-own f sh r e no-tick =
-    let a : Accepted f r = record { shaped = sh; passed = passes f r e } in
+    let a : AcceptedRequest f r = record { shaped = sh; passed = passes f r e } in
     elim (told f sh r e no-tick) [
       | inl p ↦ leaving a p
       | inr (inl p) ↦ moving a p

@@ -2,7 +2,6 @@ pub mod EntriesWritten
 pub mod Entries
 pub mod Moved
 pub mod Queues
-pub mod HeadOfRequest
 pub mod Leads
 pub mod FiveWays
 pub mod HoldsAndEntries

@@ -27,15 +27,9 @@ use Rattle.bounds.specs.Bounds.{boundA, lateralRule, boundC, withinBounds}
 use Rattle.laws.proofs.EditLaws.{Shaped, shaped-with-zone, shaped-without-head, shaped-with-tail, queue-taken, queue-put, queue-kept}
 use Rattle.laws.proofs.BoundLaws.{within-each, numbers-different}
 use Rattle.rules.specs.Kinds.{headGone, tailPut, moved, madeRoom}
+use Rattle.rules.proofs.HeadOfRequest.{HeadOfQueue}
 use Rattle.kept_up.proofs.Entries.{descendedPlace}
 use Rattle.kept_up.proofs.Moved.{Left, Come, others-left, was-head, own-left, left-total, others-come, own-new, come-total}
-
--- the head of a zone, with a number
-pub record Heads (f : Field) (n z : ℕ) : Type 0 where
-  pub head : Aircraft
-  pub behind : List Aircraft
-  pub here : inZone f z ≡ head ∷ behind
-  pub named : head .number ≡ n
 
 module _ {f : Field} (sh : Shaped f) {z : ℕ} (b : Between 1 13 z) where
   -- with the head of a zone taken off it
@@ -43,7 +37,7 @@ module _ {f : Field} (sh : Shaped f) {z : ℕ} (b : Between 1 13 z) where
   unfolding headGone
   gone-shaped = shaped-with-zone f z (withoutHead (zoneOf f z)) b (sh .zones) sh (shaped-without-head (zoneOf f z) (sh .zone z))
 
-  pub gone-left : {n : ℕ} → Heads f n z → Left f (headGone f z) z n
+  pub gone-left : {n : ℕ} → HeadOfQueue f n z → Left f (headGone f z) z n
   unfolding headGone
   gone-left heads =
       record {
@@ -91,7 +85,7 @@ pub record Led (f g : Field) (n z w : ℕ) : Type 0 where
   pub come : Come between g w n
 
 -- the head of a zone as it arrives has its number
-pub head-alike : {f : Field} {n z : ℕ} → Heads f n z → aircraftAt f z 1 .number ≡ n
+pub head-alike : {f : Field} {n z : ℕ} → HeadOfQueue f n z → aircraftAt f z 1 .number ≡ n
 unfolding aircraftAt
 head-alike heads = ap (λ (l : List Aircraft). getD (nobody ∷ l) 1 nobody .number) (heads .here) ∙ heads .named
 
@@ -101,7 +95,7 @@ pub record MayGo (f : Field) (n z w : ℕ) : Type 0 where
   pub to-zone : Between 1 13 w
   pub other-zone : w ≢ z
   pub room : howMany f w < 4
-  pub heads : Heads f n z
+  pub heads : HeadOfQueue f n z
 
 module _ {f : Field} (sh : Shaped f) {n z w : ℕ} (m : MayGo f n z w) where
   -- by an aircraft that is put there
@@ -228,7 +222,7 @@ module _ {f : Field} (sh : Shaped f) (before : T (withinBounds f)) {side : ℕ} 
     abbrev n : ℕ
     n = x .number
 
-    heads : Heads f n side
+    heads : HeadOfQueue f n side
     heads = record { head = x; behind = []; here = there; named = refl }
 
     some : 1 ≤ howMany f side

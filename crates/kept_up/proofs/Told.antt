@@ -35,12 +35,12 @@ use Rattle.rules.proofs.Refusals.{passes}
 use Rattle.kept_up.specs.KeptUp.{approachTo, leadsTo}
 use Rattle.kept_up.proofs.Moved.{Left}
 use Rattle.kept_up.proofs.Leads.{of-side}
-use Rattle.kept_up.proofs.HeadOfRequest.{Accepted, side-own, only, bounded, all-pass, heading, heads, on-final}
-use Rattle.kept_up.proofs.Queues.{Heads, Led, MayGo, gone-left, left-same, led-same, put-led, moved-led, head-alike, room-in}
-use Rattle.kept_up.proofs.FiveWays.{to, Leaves, Moves, Rises, Comes, ComesAbove, in-area, moves, steps}
+use Rattle.rules.proofs.HeadOfRequest.{HeadOfQueue, only-zone, bounded, all-pass, heading, heads, on-final}
+use Rattle.kept_up.proofs.Queues.{Led, MayGo, gone-left, left-same, led-same, put-led, moved-led, head-alike, room-in}
+use Rattle.kept_up.proofs.FiveWays.{AcceptedRequest, side-own, to, Leaves, Moves, Rises, Comes, ComesAbove, in-area, moves, steps}
 use Rattle.kept_up.proofs.HoldsAndEntries.{holds-11, comes-1, comes-2}
 
-module _ {f : Field} {r : Request} (a : Accepted f r) where
+module _ {f : Field} {r : Request} (a : AcceptedRequest f r) where
   abbrev from : ℕ
   from = zoneBefore f r
 
@@ -53,7 +53,7 @@ module _ {f : Field} {r : Request} (a : Accepted f r) where
   moves-3 : r .kind ≡ 3 → Moves f r
   unfolding startsFrom leadsTo
   moves-3 q =
-      let t = heading a q refl .starts in
+      let t = heading (a .passed) q refl .starts in
       let low = within-low 1 2 from t in
       let high = within-high 1 2 from t in
       steps a q refl refl
@@ -91,7 +91,7 @@ module _ {f : Field} {r : Request} (a : Accepted f r) where
   moves-4 : r .kind ≡ 4 → Moves f r
   unfolding startsFrom leadsTo approachTo
   moves-4 q =
-      let t = heading a q refl .starts in
+      let t = heading (a .passed) q refl .starts in
       let low = within-low 3 6 from t in
       let high = within-high 3 6 from t in
       let to-base : Ahead (base (sideOf from)) = ahead-on 8 (omega arith) (omega arith) (λ h. omega (arith, h)) (λ h. omega (arith, h)) in
@@ -114,7 +114,7 @@ module _ {f : Field} {r : Request} (a : Accepted f r) where
   moves-5 : r .kind ≡ 5 → Moves f r
   unfolding startsFrom leadsTo
   moves-5 q =
-      let t = heading a q refl .starts in
+      let t = heading (a .passed) q refl .starts in
       let low = within-low 9 10 from t in
       let high = within-high 9 10 from t in
       steps a q refl refl
@@ -123,7 +123,7 @@ module _ {f : Field} {r : Request} (a : Accepted f r) where
   moves-6 : r .kind ≡ 6 → Moves f r
   unfolding startsFrom leadsTo
   moves-6 q =
-      let t = only 11 from (heading a q refl .starts) in
+      let t = only-zone 11 from (heading (a .passed) q refl .starts) in
       steps a q refl refl
       (record {
         leads = refl;
@@ -137,35 +137,35 @@ module _ {f : Field} {r : Request} (a : Accepted f r) where
   moves-7 : r .kind ≡ 7 → Moves f r
   unfolding startsFrom leadsTo landed outOfSequence withSequence inZone zoneOf
   moves-7 q =
-      let t = only 12 from (heading a q refl .starts) in
-      let none = eqb-true (howMany f 13) 0 (all-pass a q .1 .1 .1 .1 .1 .0) in
+      let t = only-zone 12 from (heading (a .passed) q refl .starts) in
+      let none = eqb-true (howMany f 13) 0 (all-pass (a .passed) q .1 .1 .1 .1 .1 .0) in
       let may : MayGo f n from 13 =
       record {
         from-zone = in-area from (omega arith) (omega arith);
         to-zone = in-area 13 (omega arith) (omega arith);
         other-zone = λ e. omega (arith, e);
         room = omega (arith, none);
-        heads = heads a q refl;
+        heads = heads (a .passed) q refl;
       } in
       moves f r q refl refl (omega arith) (led-same (λ y. ap (λ (x : Field). inZone x y) (effect-at f r q) ∙ ap (λ (z : ℕ). inZone (moved f z 13) y) (sym t)) (moved-led (a .shaped) may))
 
   -- the head of zone z leaves the field
-  leaves : {k z : ℕ} → r .kind ≡ k → within 8 9 k ≡ true → from ≡ z → Between 1 13 z → Heads f n from → ((y : ℕ) → inZone g y ≡ inZone (headGone f z) y) → Leaves f r
+  leaves : {k z : ℕ} → r .kind ≡ k → within 8 9 k ≡ true → from ≡ z → Between 1 13 z → HeadOfQueue f n from → ((y : ℕ) → inZone g y ≡ inZone (headGone f z) y) → Leaves f r
   leaves q s t b head same =
       record {
         leaving = ap (within 8 9) q ∙ s;
-        left = subst⁻¹ (λ (v : ℕ). Left f g v n) t (left-same same (gone-left (a .shaped) b (subst (Heads f n) t head)));
+        left = subst⁻¹ (λ (v : ℕ). Left f g v n) t (left-same same (gone-left (a .shaped) b (subst (HeadOfQueue f n) t head)));
       }
 
   leaves-8 : r .kind ≡ 8 → Leaves f r
   unfolding startsFrom
   leaves-8 q =
-      leaves q refl (only 13 from (heading a q refl .starts)) (in-area 13 (omega arith) (omega arith)) (heads a q refl) (λ y. ap (λ (x : Field). inZone x y) (effect-at f r q))
+      leaves q refl (only-zone 13 from (heading (a .passed) q refl .starts)) (in-area 13 (omega arith) (omega arith)) (heads (a .passed) q refl) (λ y. ap (λ (x : Field). inZone x y) (effect-at f r q))
 
   leaves-9 : r .kind ≡ 9 → Leaves f r
   unfolding startsFrom exited outOfSequence withSequence inZone zoneOf
   leaves-9 q =
-      leaves q refl (only 11 from (heading a q refl .starts)) (in-area 11 (omega arith) (omega arith)) (heads a q refl) (λ y. ap (λ (x : Field). inZone x y) (effect-at f r q))
+      leaves q refl (only-zone 11 from (heading (a .passed) q refl .starts)) (in-area 11 (omega arith) (omega arith)) (heads (a .passed) q refl) (λ y. ap (λ (x : Field). inZone x y) (effect-at f r q))
 
   -- the fix of the head of final is a side
   fix-side : (l : List Aircraft) → T (every (fitsZone (f .legs) 12) l) → 1 ≤ length l → T (isSide (getD (nobody ∷ l) 1 nobody .fix))
@@ -175,11 +175,11 @@ module _ {f : Field} {r : Request} (a : Accepted f r) where
   moves-10 : r .kind ≡ 10 → Moves f r
   unfolding startsFrom leadsTo missedApproach withFix aircraftAt howMany withSequence inZone zoneOf isSide
   moves-10 q =
-      let t = only 12 from (heading a q refl .starts) in
-      let head : Heads f n 12 = subst (Heads f n) t (heads a q refl) in
-      let has = on-final a q in
+      let t = only-zone 12 from (heading (a .passed) q refl .starts) in
+      let head : HeadOfQueue f n 12 = subst (HeadOfQueue f n) t (heads (a .passed) q refl) in
+      let has = on-final (a .passed) q in
       let x = aircraftAt f 12 1 in
-      let side = fix-side (inZone f 12) (all-fit f (within-each f (bounded a) .bound-g) 12 (omega arith) (omega arith)) has in
+      let side = fix-side (inZone f 12) (all-fit f (within-each f (bounded (a .passed)) .bound-g) 12 (omega arith) (omega arith)) has in
       let own : sideOf (x .fix) ≡ x .fix = either-side (x .fix) side in
       let w = 6 + x .fix in
       let range : Between 1 2 (x .fix) =
@@ -190,7 +190,7 @@ module _ {f : Field} {r : Request} (a : Accepted f r) where
         from-zone = in-area 12 (omega arith) (omega arith);
         to-zone = in-area w (omega arith) (omega arith);
         other-zone = apart;
-        room = room-in f (bounded a) (record { least = omega arith; most = omega arith }) (record { least = omega arith; most = omega arith }) apart has;
+        room = room-in f (bounded (a .passed)) (record { least = omega arith; most = omega arith }) (record { least = omega arith; most = omega arith }) apart has;
         heads = head;
       } in
       moves f r q refl (ap (λ (s : ℕ). 6 + s) own) (omega arith)
@@ -212,7 +212,7 @@ Told f r = Leaves f r ⊎ (Moves f r ⊎ (Rises f r (to f r (r .kind)) ⊎ (Come
 -- Every accepted request that is no tick does one of these.
 pub told : (f : Field) → Shaped f → (r : Request) → numberOf f r ≡ 0 → r .kind ≢ 12 → Told f r
 told f sh r e moving =
-    let a : Accepted f r = record { shaped = sh; passed = passes f r e } in
+    let a : AcceptedRequest f r = record { shaped = sh; passed = passes f r e } in
     let known = kind-known r (a .passed .input) in
     each-operation (λ k. r .kind ≡ k → Told f r) (
       (λ q. inr (inr (inr (inr (comes-1 a q))))),

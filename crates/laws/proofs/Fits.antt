@@ -10,11 +10,11 @@ use lib.Dec.{T, eqb, leb, leb→le, le→leb, lit<}
 use lib.Ieee.{Float, eq, ofInt}
 use lib.Ieee.Fits.{and-i, and-l, and-r}
 use Rattle.limits.specs.Limits.{fastest, longestOwnLegMiles, desks}
-use Rattle.leg.specs.Progress.{whole, waitedWithin, legalLeg, legalMissedLeg, missedLeg, withinLeg}
+use Rattle.leg.specs.Progress.{whole, waitedWithin, legalLeg, legalLegAfterMiss, legAfterMiss, withinLeg}
 use Rattle.leg.specs.Ticks.{Between}
 use Rattle.leg.specs.declared.Progress.{Progress}
 use Rattle.leg.specs.declared.Progress.the-variants.{Flying}
-use Rattle.leg.proofs.ProgressLaws.{zero-within-up-to, zero-waited, missed-leg-legal}
+use Rattle.leg.proofs.ProgressLaws.{zero-within-up-to, zero-waited, leg-after-miss-legal}
 use Rattle.leg.proofs.Missed.{equal-legal, equal-self, longer-legal}
 use Rattle.field.specs.declared.Aircraft.{Aircraft}
 use Rattle.field.specs.declared.Legs.{Legs}
@@ -129,13 +129,13 @@ not-missed : (z : ℕ) → isFlyingZone z ≡ false → (eqb z (missed right) ||
 not-missed z e = elim (decided (eqb z (missed right) || eqb z (missed left))) [ inl h ↦ absurd (true≢false (sym (passed {b = isFlyingZone z} (missed-flown z h)) ∙ e)) | inr h ↦ h ]
 
 -- The own leg of an aircraft in a flying zone is from 1/64 of a mile to 128 miles.
-pub own-legal : (legs : Legs) → T (legalLegs legs) → (z : ℕ) → T (isFlyingZone z) → (leg : Float) → T (legFits legs z leg) → T (legalMissedLeg leg)
+pub own-legal : (legs : Legs) → T (legalLegs legs) → (z : ℕ) → T (isFlyingZone z) → (leg : Float) → T (legFits legs z leg) → T (legalLegAfterMiss leg)
 unfolding legFits
 own-legal legs l z u leg t = go (decided (eqb z (missed right) || eqb z (missed left)))
   where
-    go : ((eqb z (missed right) || eqb z (missed left)) ≡ true) ⊎ ((eqb z (missed right) || eqb z (missed left)) ≡ false) → T (legalMissedLeg leg)
-    go (inl e) = subst T (if-true (legalMissedLeg leg) (eq leg (legOf legs z)) e) t
-    go (inr e) = longer-legal leg (equal-legal leg (legOf legs z) (leg-legal legs l z u) (subst T (if-false (legalMissedLeg leg) (eq leg (legOf legs z)) e) t))
+    go : ((eqb z (missed right) || eqb z (missed left)) ≡ true) ⊎ ((eqb z (missed right) || eqb z (missed left)) ≡ false) → T (legalLegAfterMiss leg)
+    go (inl e) = subst T (if-true (legalLegAfterMiss leg) (eq leg (legOf legs z)) e) t
+    go (inr e) = longer-legal leg (equal-legal leg (legOf legs z) (leg-legal legs l z u) (subst T (if-false (legalLegAfterMiss leg) (eq leg (legOf legs z)) e) t))
 
 -- ---- an aircraft that comes into a zone
 
@@ -163,9 +163,9 @@ into-fits legs l from to leg a after i w t =
 zone-leg-fits : (legs : Legs) → T (legalLegs legs) → (z : ℕ) → T (legFits legs z (legOf legs z))
 unfolding legFits eq ofInt
 zone-leg-fits legs l z =
-    either-way (λ (b : Bool). T b) (eqb z (missed right) || eqb z (missed left)) (legalMissedLeg (legOf legs z)) (eq (legOf legs z) (legOf legs z)) ahead (λ e. same (decided (isFlyingZone z)))
+    either-way (λ (b : Bool). T b) (eqb z (missed right) || eqb z (missed left)) (legalLegAfterMiss (legOf legs z)) (eq (legOf legs z) (legOf legs z)) ahead (λ e. same (decided (isFlyingZone z)))
   where
-    ahead : (eqb z (missed right) || eqb z (missed left)) ≡ true → T (legalMissedLeg (legOf legs z))
+    ahead : (eqb z (missed right) || eqb z (missed left)) ≡ true → T (legalLegAfterMiss (legOf legs z))
     ahead e = longer-legal (legOf legs z) (leg-legal legs l z (missed-flown z e))
 
     same : (isFlyingZone z ≡ true) ⊎ (isFlyingZone z ≡ false) → T (eq (legOf legs z) (legOf legs z))
@@ -187,9 +187,9 @@ arrived-by-miss-fits legs l z a e t =
     let i = legalLeg (legs .intermediate) in
     let f = legalLeg (legs .«final_approach») in
     let last = equal-legal (a .leg) (legs .«final_approach») (and-r (m && b && i) f l) (p .own) in
-    let ahead = missedLeg (legs .missed) (a .progress) (a .leg) in
-    let legal : T (legalMissedLeg ahead) = missed-leg-legal (legs .missed) (a .leg) (a .progress) (and-l m b (and-l (m && b) i (and-l (m && b && i) f l))) last (p .along refl) in
-    into-fits legs l finalApproach z ahead a (arrivedByMiss legs z a) (into-arrived-by-miss legs z a) (subst T (sym (if-true (legalMissedLeg ahead) (eq ahead (legOf legs z)) e)) legal) t
+    let ahead = legAfterMiss (legs .missed) (a .progress) (a .leg) in
+    let legal : T (legalLegAfterMiss ahead) = leg-after-miss-legal (legs .missed) (a .leg) (a .progress) (and-l m b (and-l (m && b) i (and-l (m && b && i) f l))) last (p .along refl) in
+    into-fits legs l finalApproach z ahead a (arrivedByMiss legs z a) (into-arrived-by-miss legs z a) (subst T (sym (if-true (legalLegAfterMiss ahead) (eq ahead (legOf legs z)) e)) legal) t
 
 -- ---- an aircraft with another fix
 
@@ -208,6 +208,6 @@ pub entering-fits : (legs : Legs) (z number fix speed desk : ℕ) → T (isSide 
 unfolding entering legFits eq ofInt
 entering-fits legs z number fix speed desk s r d e =
     let own : T (legFits legs z (whole 0)) =
-    subst T (sym (if-false (legalMissedLeg (whole 0)) (eq (whole 0) (legOf legs z)) (not-missed z e))) (subst (λ (x : Float). T (eq (whole 0) x)) (sym (leg-not-flown legs z e)) tt) in
+    subst T (sym (if-false (legalLegAfterMiss (whole 0)) (eq (whole 0) (legOf legs z)) (not-missed z e))) (subst (λ (x : Float). T (eq (whole 0) x)) (sym (leg-not-flown legs z e)) tt) in
     fits-of legs z (entering number fix speed desk)
     (record { side = s; speeds = r; desk = d; waited = zero-waited; own = own; flies = λ u. absurd (true≢false (sym u ∙ e)); along = λ u. absurd (true≢false (sym u ∙ e)); waits = λ u. tt })

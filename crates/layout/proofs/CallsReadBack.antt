@@ -7,6 +7,7 @@ use lib.Dec.{eqb, ltb}
 use lib.Ieee.{binary64}
 use lib.Ieee.Fits.{div-fits}
 use lib.ListN.{length, drop, replicate, length-set}
+use Rattle.limits.specs.Limits.{mostKept}
 use Rattle.request.specs.declared.Request.{Request}
 use Rattle.leg.specs.Progress.{whole}
 use Rattle.field.specs.declared.Legs.{Legs}
@@ -23,7 +24,7 @@ use Rattle.indexed.specs.Indexed.{withIndex}
 use Rattle.owners.proofs.EachOfList.{each-drop, each-append, each-set, each-at}
 use Rattle.history.specs.declared.History.{History}
 use Rattle.history.specs.declared.SteppedHistory.{SteppedHistory}
-use Rattle.history.specs.History.{mostKept, startWith, startOf, keeping, numberHistory, stepHistory, numberBack, givenBack, stepBack}
+use Rattle.history.specs.History.{startWith, startOf, keeping, numberHistory, stepHistory, numberBack, givenBack, stepBack}
 use Rattle.history.proofs.MovedUp.{moved-length}
 use Rattle.layout.specs.Held.{MilesHeld, LegsWith, FieldWith, IndexedWith, HistoryHeld}
 use Rattle.layout.proofs.StaysHeld.{step-held, empty-field-held}

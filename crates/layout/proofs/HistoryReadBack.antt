@@ -145,5 +145,5 @@ module _ (b : List ℕ) where
       λ t. record { now = now t; kept = eight t; count = count t }
 
 -- the bytes that are written are read back as the history
-pub read-back : (h : History) → HistoryHeld h → readHistory (historyBytes h) ≡ h
-read-back h p = state-back (historyBytes h) h p (holds-after [] (historyBytes h))
+pub state-read-back : (h : History) → HistoryHeld h → readHistory (historyBytes h) ≡ h
+state-read-back h p = state-back (historyBytes h) h p (holds-after [] (historyBytes h))

@@ -13,7 +13,7 @@ use Rattle.leg.specs.declared.Progress.{Progress}
 use Rattle.leg.specs.declared.Progress.the-variants.{Waiting, Flying}
 use Rattle.leg.specs.Progress.{whole, sixtyFourths, withinLeg, legalLeg, legUpTo}
 use Rattle.leg.specs.Ticks.{Between}
-use Rattle.limits.specs.Limits.{mostWaited, longestLegMiles, longestOwnLegMiles}
+use Rattle.limits.specs.Limits.{mostWaited, longestLegMiles, longestOwnLegMiles, mostKept}
 use Rattle.field.specs.declared.Aircraft.{Aircraft}
 use Rattle.field.specs.declared.Zone.{Zone}
 use Rattle.field.specs.declared.Legs.{Legs}
@@ -28,7 +28,7 @@ use Rattle.finder.specs.declared.Indexed.{Indexed}
 use Rattle.finder.specs.Finder.{indexOf, sameIndex, withinBoundsIndexed}
 use Rattle.owners.proofs.EachOfList.{each-parts, each-places}
 use Rattle.history.specs.declared.History.{History}
-use Rattle.history.specs.History.{mostKept, counted, keptWithinBounds, withinBoundsHistory}
+use Rattle.history.specs.History.{counted, keptWithinBounds, withinBoundsHistory}
 use Rattle.laws.proofs.Fits.{Fits, fits-parts, all-fit}
 use Rattle.laws.proofs.BoundLaws.{within-each, within-e}
 use Rattle.layout.specs.Held.{NoNan, ProgressWith, AircraftWith, ZoneWith, LegsWith, FieldWith, IndexedWith, HistoryWith, HistoryNoNan}

@@ -17,7 +17,7 @@ use Rattle.request.specs.Input.{within}
 use Rattle.request.specs.declared.Request.{Request}
 use Rattle.leg.specs.declared.Progress.{Progress}
 use Rattle.leg.specs.declared.Progress.the-variants.{Waiting, Flying}
-use Rattle.leg.specs.Progress.{whole, milesFlown, flownSum, pastEnd, advanced, waitedAfter, progressAfter, waitedWith, missedLeg}
+use Rattle.leg.specs.Progress.{whole, milesFlown, flownSum, pastEnd, advanced, waitedAfter, progressAfter, waitedWith, legAfterMiss}
 use Rattle.field.specs.declared.Aircraft.{Aircraft}
 use Rattle.field.specs.declared.Zone.{Zone}
 use Rattle.field.specs.declared.Sequence.{Sequence}
@@ -149,7 +149,7 @@ unfolding arrived onLeg
 arrived-held legs z a l h = record { progress = into-held z; waited = h .waited; leg = leg-held legs z l }
 
 turned-held : (legs : Legs) (z : ℕ) (a : Aircraft) (fix : ℕ) → Q a → Q (withFix (arrivedByMiss legs z a) fix)
-unfolding arrivedByMiss onLeg withFix missedLeg
+unfolding arrivedByMiss onLeg withFix legAfterMiss
 turned-held legs z a fix h = record { progress = into-held z; waited = h .waited; leg = add-fits binary64 _ _ }
 
 moved-held : (f : Field) (z w : ℕ) → On f → On (moved f z w)

@@ -5,6 +5,7 @@ use mathlib.Core.Bool.{not}
 use lib.Dec.{T}
 use lib.Ieee.{Float, fits, isNan, binary64}
 use lib.ListN.{length}
+use Rattle.limits.specs.Limits.{mostKept}
 use Rattle.leg.specs.declared.Progress.{Progress}
 use Rattle.leg.specs.declared.Progress.the-variants.{Waiting, Flying}
 use Rattle.field.specs.declared.Aircraft.{Aircraft}
@@ -13,7 +14,6 @@ use Rattle.field.specs.declared.Legs.{Legs}
 use Rattle.field.specs.declared.Field.{Field}
 use Rattle.finder.specs.declared.Indexed.{Indexed}
 use Rattle.field.specs.Lists.{Each}
-use Rattle.history.specs.History.{mostKept}
 use Rattle.history.specs.declared.History.{History}
 
 -- ---- each array has its places, and each float has Q

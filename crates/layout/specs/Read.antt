@@ -5,6 +5,7 @@ use mathlib.Core.List.{List, [], _∷_}
 use Prim.Native.Nat.{ℕ, zero, suc, _+_}
 use lib.Dec.{eqb}
 use lib.ListN.{getD}
+use Rattle.limits.specs.Limits.{mostKept}
 use Rattle.practice.specs.File.{number16}
 use Rattle.words.specs.Words.{number64, milesOf}
 use Rattle.leg.specs.declared.Progress.{Progress}
@@ -16,7 +17,6 @@ use Rattle.field.specs.declared.Legs.{Legs}
 use Rattle.field.specs.declared.Field.{Field}
 use Rattle.finder.specs.declared.Entry.{Entry}
 use Rattle.finder.specs.declared.Indexed.{Indexed}
-use Rattle.history.specs.History.{mostKept}
 use Rattle.history.specs.declared.History.{History}
 
 -- ---- sizes, in bytes
@@ -37,9 +37,9 @@ entrySize = 4
 abbrev pub fieldSize : ℕ
 fieldSize = 1733
 
--- the state: the field, the eight kept ones, and how many of them count
+-- the state: the field, the eight kept ones, and how many of them count, in eight bytes: 15,605
 abbrev pub stateSize : ℕ
-stateSize = 15605
+stateSize = (1 + mostKept) * fieldSize + 8
 
 -- ---- parts of one size
 
@@ -113,5 +113,5 @@ unfoldable pub readHistory : List ℕ → History
 readHistory bytes = record {
   now = readIndexed bytes 0;
   kept = several (readIndexed bytes) fieldSize mostKept fieldSize;
-  count = number64 bytes 15597;
+  count = number64 bytes ((1 + mostKept) * fieldSize);
 }

@@ -14,7 +14,7 @@ use lib.Ieee.Order.{round-mono, le-of-values}
 use lib.Ieee.Scale.{round-same}
 use lib.Ieee.Positive.{num, den, den-pos, own-value, positive}
 use Rattle.limits.specs.Limits.{longestLegMiles, longestOwnLegMiles}
-use Rattle.leg.specs.Progress.{whole, sixtyFourths, legalLeg, legalMissedLeg}
+use Rattle.leg.specs.Progress.{whole, sixtyFourths, legalLeg, legalLegAfterMiss}
 use Rattle.leg.specs.Ticks.{Exactly}
 use Rattle.leg.proofs.Floats.{value→worth, add-worth, sub-values, sub-worth, worth-of-le, le-up, eq-self}
 use Rattle.leg.proofs.Grid.{whole-value, sixtyFourths-is, parts, parts-value, add-grid}
@@ -72,7 +72,7 @@ left-under miles leg l h k =
     ])
 
 -- ---- the sum with the missed leg
-pub leg-ahead : (missed left : Float) → T (legalLeg missed) → UpTo longestLegMiles left → T (legalMissedLeg (add binary64 missed left))
+pub leg-ahead : (missed left : Float) → T (legalLeg missed) → UpTo longestLegMiles left → T (legalLegAfterMiss (add binary64 missed left))
 unfolding ofInt
 leg-ahead missed left l u =
     let p = leg-positive longestLegMiles (lit< tt) missed l in
@@ -91,7 +91,7 @@ leg-ahead missed left l u =
     let left-c : n * c ≤ longestLegMiles * d * c = mul-le-mul-right c (u .few) in
     let least : 1 * D ≤ S * 64 = omega (arith, mul-assoc 1 c d, mul-assoc a 64 d, mul-comm 64 d, mul-assoc a d 64) in
     let most : S * 1 ≤ longestOwnLegMiles * D = omega (arith, mul-assoc longestLegMiles c d, mul-assoc longestLegMiles d c, mul-comm d c, ap (λ (z : ℕ). z * d) (mul-one a)) in
-    subst (λ (x : Float). T (legalMissedLeg x)) (sym is)
+    subst (λ (x : Float). T (legalLegAfterMiss x)) (sym is)
     (and-i (le (sixtyFourths 1) (round binary64 false S D)) (le (round binary64 false S D) (whole longestOwnLegMiles))
     (subst (λ (x : Float). T (le x (round binary64 false S D))) (sym (sixtyFourths-is 1 (lit< tt))) (round-mono binary64 1 64 S D (lit< tt) D0 least))
     (round-mono binary64 S D longestOwnLegMiles 1 D0 (lit< tt) most))
@@ -123,7 +123,7 @@ equal-legal own leg l e =
 pub equal-self : (leg : Float) → T (legalLeg leg) → T (eq leg leg)
 equal-self leg l = eq-self leg (leg-positive longestLegMiles (lit< tt) leg l)
 
-pub longer-legal : (leg : Float) → T (legalLeg leg) → T (legalMissedLeg leg)
+pub longer-legal : (leg : Float) → T (legalLeg leg) → T (legalLegAfterMiss leg)
 longer-legal leg l =
     and-i (le (sixtyFourths 1) leg) (le leg (whole longestOwnLegMiles)) (at-least longestLegMiles (lit< tt) leg l)
     (le-up leg (whole longestLegMiles) (whole longestOwnLegMiles) (leg-positive longestLegMiles (lit< tt) leg l) (at-most longestLegMiles (lit< tt) leg l)

@@ -15,7 +15,7 @@ use lib.Ieee.Positive.{num, den}
 use Rattle.limits.specs.Limits.{longestTick, fastest, longestLeg, longestLegMiles, longestOwnLegMiles, mostWaited}
 use Rattle.leg.specs.declared.Progress.{Progress}
 use Rattle.leg.specs.declared.Progress.the-variants.{Waiting, Flying}
-use Rattle.leg.specs.Progress.{whole, sixtyFourths, progressAfter, waitedWith, waitedWithin, flownOut, missedLeg, withinLeg, legUpTo, legalLeg, legalMissedLeg}
+use Rattle.leg.specs.Progress.{whole, sixtyFourths, progressAfter, waitedWith, waitedWithin, flownOut, legAfterMiss, withinLeg, legUpTo, legalLeg, legalLegAfterMiss}
 use Rattle.leg.specs.Ticks.{Between, TickAmounts, addedUp, afterTicks, Exactly, LegIn4096ths, FlownExactly, finiteMiles, flying}
 use Rattle.leg.proofs.Floats.{eq-self, worth→finite}
 use Rattle.leg.proofs.Grid.{whole-value, sixtyFourths-value, sixtyFourths-exact, grid-tick}
@@ -199,21 +199,21 @@ arrival-in-4096 = arrival-in-ticks-up-to longestLegMiles (lit< tt)
 -- ---- 3. The leg ahead on a miss (02, 2.7)
 
 -- From any miles within a legal leg of final, with a legal missed leg, it is from 1/64 of a mile to 128 miles, on the grid or off it: rounding keeps the order.
-pub missed-leg-legal : (missed last : Float) (p : Progress) → T (legalLeg missed) → T (legalLeg last) → T (withinLeg p last) → T (legalMissedLeg (missedLeg missed p last))
-unfolding missedLeg
-missed-leg-legal missed last Waiting l r w = leg-ahead missed last l (whole-leg last r)
-missed-leg-legal missed last (Flying miles) l r w = leg-ahead missed (sub binary64 last miles) l
+pub leg-after-miss-legal : (missed last : Float) (p : Progress) → T (legalLeg missed) → T (legalLeg last) → T (withinLeg p last) → T (legalLegAfterMiss (legAfterMiss missed p last))
+unfolding legAfterMiss
+leg-after-miss-legal missed last Waiting l r w = leg-ahead missed last l (whole-leg last r)
+leg-after-miss-legal missed last (Flying miles) l r w = leg-ahead missed (sub binary64 last miles) l
     (left-under miles last r (and-l (le (whole 0) miles) (le miles last) w) (and-r (le (whole 0) miles) (le miles last) w))
 
 -- With a missed leg of j / 4096 miles and m / 4096 miles flown of k / 4096 it is exactly (j + (k - m)) / 4096 miles.
-pub missed-leg-exact : (missed last : Float) (p : Progress) (j k m : ℕ) → Exactly missed j → Exactly last k
-    → FlownExactly p m → m ≤ k → j + k < 2 ^ 53 → Exactly (missedLeg missed p last) (j + (k - m))
-unfolding missedLeg
-missed-leg-exact missed last Waiting j k m h g f under few = absurd f
-missed-leg-exact missed last (Flying miles) j k m h g f under few = ahead-grid missed (sub binary64 last miles) j (k - m) h (left-grid miles last k m g f under (omega arith)) (omega arith)
+pub leg-after-miss-exact : (missed last : Float) (p : Progress) (j k m : ℕ) → Exactly missed j → Exactly last k
+    → FlownExactly p m → m ≤ k → j + k < 2 ^ 53 → Exactly (legAfterMiss missed p last) (j + (k - m))
+unfolding legAfterMiss
+leg-after-miss-exact missed last Waiting j k m h g f under few = absurd f
+leg-after-miss-exact missed last (Flying miles) j k m h g f under few = ahead-grid missed (sub binary64 last miles) j (k - m) h (left-grid miles last k m g f under (omega arith)) (omega arith)
 
 -- On a leg of up to 128 miles 8192 ticks of 64, or more of them, always leave it flown out.
-pub arrival-in-8192 : (miles leg : Float) {speed : ℕ} (n : ℕ) → T (legalMissedLeg leg) → Between 1 fastest speed → T (withinLeg (Flying miles) leg) → 8192 ≤ n
+pub arrival-in-8192 : (miles leg : Float) {speed : ℕ} (n : ℕ) → T (legalLegAfterMiss leg) → Between 1 fastest speed → T (withinLeg (Flying miles) leg) → 8192 ≤ n
     → T (flownOut (afterTicks (Flying miles) speed (replicate n longestTick) leg) leg)
 arrival-in-8192 = arrival-in-ticks-up-to longestOwnLegMiles (lit< tt)
 

@@ -74,8 +74,8 @@ remaining Waiting leg = leg
 remaining (Flying miles) leg = sub binary64 leg miles
 
 -- the leg ahead on a miss, with this progress on this leg of final: the missed leg and the rest of this one, their sum rounded once (02, 2.7)
-unfoldable pub missedLeg : Float → Progress → Float → Float
-missedLeg missed p last = add binary64 missed (remaining p last)
+unfoldable pub legAfterMiss : Float → Progress → Float → Float
+legAfterMiss missed p last = add binary64 missed (remaining p last)
 
 -- the miles of one who flies compare as bound g asks: not below 0, and not above the leg
 abbrev pub withinLeg : Progress → Float → Bool
@@ -91,5 +91,5 @@ abbrev pub legalLeg : Float → Bool
 legalLeg leg = legUpTo longestLegMiles leg
 
 -- a length that bound g allows an aircraft's own leg in a missed zone (02, 2.7)
-abbrev pub legalMissedLeg : Float → Bool
-legalMissedLeg leg = legUpTo longestOwnLegMiles leg
+abbrev pub legalLegAfterMiss : Float → Bool
+legalLegAfterMiss leg = legUpTo longestOwnLegMiles leg

@@ -2,12 +2,12 @@
 // `speed` 64ths of a mile a minute adds (speed / 64) * (amount / 64) miles, but flies no further than the leg is long.
 // Every function is total: on every `u16`, and on every `f64`, NaN and the infinities included.
 use limits::LONGEST_LEG_MILES;
-use limits::LONGEST_OWN_LEG;
+use limits::LONGEST_OWN_LEG_MILES;
 use limits::MOST_WAITED;
 ghost use mathlib.Core.Path.{_≡_};
 ghost use mathlib.Core.Bool.{_&&_};
 ghost use lib.Ieee.{le};
-ghost use Rattle.leg.specs.Progress.{upTo, beyond, advancing, waitedAfter, waitedWithin, flownOut, remaining, missedLeg, withinLeg, legalLeg, legalMissedLeg, sixtyFourths};
+ghost use Rattle.leg.specs.Progress.{upTo, beyond, advancing, waitedAfter, waitedWithin, flownOut, remaining, legAfterMiss, withinLeg, legalLeg, legalLegAfterMiss, sixtyFourths};
 
 // The progress of an aircraft (01, "The boxes"): it waits, or it flies and has flown these miles of its leg.
 pub enum Progress {
@@ -86,8 +86,8 @@ pub fn remaining(p: Progress, leg: f64) -> f64
 }
 
 // The leg ahead on a miss: the missed leg and what is left of the last one, the sum rounded once.
-pub fn missed_leg(missed: f64, p: Progress, last: f64) -> f64
-    ensures { λ r. ⌜ r ≡ missedLeg missed p last ⌝ }
+pub fn leg_after_miss(missed: f64, p: Progress, last: f64) -> f64
+    ensures { λ r. ⌜ r ≡ legAfterMiss missed p last ⌝ }
 {
     missed + remaining(p, last)
 }
@@ -117,10 +117,10 @@ pub fn legal(leg: f64) -> bool
 }
 
 // Whether the leg ahead after a miss is from 1/64 of a mile to the longest.
-pub fn legal_missed(leg: f64) -> bool
-    ensures { λ r. ⌜ r ≡ legalMissedLeg leg ⌝ }
+pub fn legal_after_miss(leg: f64) -> bool
+    ensures { λ r. ⌜ r ≡ legalLegAfterMiss leg ⌝ }
 {
-    leg_up_to(LONGEST_OWN_LEG, leg)
+    leg_up_to(LONGEST_OWN_LEG_MILES, leg)
 }
 
 // A leg of k 64ths of a mile.

@@ -134,7 +134,7 @@ fn miss(i: usize) {
         print_miles(missed);
         print_next(last);
         print_next(start_of(i % 6, last));
-        print_next(leg::missed_leg(missed, p, last));
+        print_next(leg::leg_after_miss(missed, p, last));
         io::write_all(STDOUT_FILENO, b"\n");
     }
 }

@@ -41,6 +41,10 @@ mostMoves = 27
 abbrev pub desks : ℕ
 desks = 2
 
+-- how many fields are kept at most, each that before an accepted request (02, 2.13)
+abbrev pub mostKept : ℕ
+mostKept = 8
+
 -- the most miles past the ends of legs that are added up of an aircraft (02, 2.2)
 abbrev pub mostWaited : ℕ
 mostWaited = 4096

@@ -16,7 +16,7 @@ pub const LONGEST_LEG: u16 = 4096;
 pub const LONGEST_LEG_MILES: f64 = 64.0;
 
 // The longest leg of an aircraft's own, in miles.
-pub const LONGEST_OWN_LEG: f64 = 128.0;
+pub const LONGEST_OWN_LEG_MILES: f64 = 128.0;
 
 // The most requests of a practice file.
 pub const MOST_REQUESTS: usize = 4096;

@@ -2,7 +2,7 @@
 use mathlib.Core.Path.{_≡_, refl, subst}
 use Prim.Native.Nat.{ℕ, _≤_}
 use lib.Ieee.{neg, add, sub, mul, div, ofInt, round, lt, le, eq}
-use Rattle.leg.specs.Progress.{advanced, pastEnd, waitedAfter, missedLeg}
+use Rattle.leg.specs.Progress.{advanced, pastEnd, waitedAfter, legAfterMiss}
 use Rattle.request.specs.Input.{deskAllowed, kindAllowed, sideAllowed, numberAllowed, amountAllowed, inputNumber}
 use Rattle.field.specs.Airspace.{isSide, sideOf, opposite, isFlyingZone, zoneOf, queueOf, inZone, orderOf, legOf}
 use Rattle.field.specs.Airspace.{progressInto, entering, onLeg, arrived, arrivedByMiss, withFix, legFlownOut, emptyField}
@@ -23,7 +23,7 @@ use Rattle.most_moves.specs.MostMoves.{AllUsed, TwentySeven}
 -- the session, computed request by request
 pub all-used : AllUsed
 unfolding
-    advanced pastEnd waitedAfter missedLeg deskAllowed kindAllowed sideAllowed numberAllowed amountAllowed inputNumber isSide opposite isFlyingZone zoneOf queueOf inZone orderOf progressInto entering
+    advanced pastEnd waitedAfter legAfterMiss deskAllowed kindAllowed sideAllowed numberAllowed amountAllowed inputNumber isSide opposite isFlyingZone zoneOf queueOf inZone orderOf progressInto entering
     onLeg arrived arrivedByMiss withFix legOf legFlownOut emptyField howMany howManyWithFix presentOn inOperation inArea perFix approachHolds countedFor potentialOf findIn placeOf
     aircraftAt fixOf isFirst leaderOf leaderZone boundA boundB lateralRule boundC boundD numbersDiffer sequenceExact finalFirst isNobody zoneKept sequenceKept
     boundE boundF legFits fitsZone legalLegs boundG withinBounds withoutHead withTail appended removed withZone withSequence tickedAircraft tickedZone ticked sideOf

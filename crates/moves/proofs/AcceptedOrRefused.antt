@@ -24,7 +24,7 @@ use Rattle.rules.proofs.Checks.{NeverOthers, needNumbers, need-never, input-nev
 use Rattle.rules.proofs.Refusals.{accepts}
 use Rattle.moves.proofs.EveryKind.{accepted-after}
 
-pub record Accepted (f : Side) (line : List Placed) (runway : List Aircraft) (legs : Legs) (r : Request) : Type 1 where
+pub record AcceptedOnLine (f : Side) (line : List Placed) (runway : List Aircraft) (legs : Legs) (r : Request) : Type 1 where
   pub number-0 : numberOf (fieldOf f line runway legs) r ≡ 0
   pub after : After f line runway legs r
 
@@ -44,7 +44,7 @@ module _ (f : Side) (line : List Placed) (runway : List Aircraft) (legs : Legs) 
   number-input e = if-false (firstRefused ((10, withinBounds F) ∷ checksOf F r ++ ((25, withinBounds (effectOf F r)) ∷ []))) (inputNumber r) (ne-eqb (inputNumber r) 0 e)
 
   -- a request that passes the input rules and its checks is accepted
-  pub accepted-by : inputNumber r ≡ 0 → firstRefused (checksOf F r) ≡ 0 → Accepted f line runway legs r
+  pub accepted-by : inputNumber r ≡ 0 → firstRefused (checksOf F r) ≡ 0 → AcceptedOnLine f line runway legs r
   accepted-by i c =
       let a = accepted-after f line runway legs o r i c in
       let w : withinBounds (effectOf F r) ≡ true = ap withinBounds (a .effect) ∙ passed (within-bounds (a .first-after) (a .line-after) (a .runway-after) legs (a .orderly)) in
@@ -53,7 +53,7 @@ module _ (f : Side) (line : List Placed) (runway : List Aircraft) (legs : Legs) 
         after = a;
       }
 
-  by-checks : inputNumber r ≡ 0 → Accepted f line runway legs r ⊎ NeverOthers (numberOf F r)
+  by-checks : inputNumber r ≡ 0 → AcceptedOnLine f line runway legs r ⊎ NeverOthers (numberOf F r)
   by-checks i =
       elim (decided (eqb (firstRefused (checksOf F r)) 0)) [
         | inl e ↦ inl (accepted-by i (eqb-true (firstRefused (checksOf F r)) 0 e))
@@ -68,7 +68,7 @@ module _ (f : Side) (line : List Placed) (runway : List Aircraft) (legs : Legs) 
             ]
       ]
 
-  pub outcome : Accepted f line runway legs r ⊎ NeverOthers (numberOf F r)
+  pub outcome : AcceptedOnLine f line runway legs r ⊎ NeverOthers (numberOf F r)
   outcome =
       elim (input-numbered r) [
         | inl i ↦ by-checks i

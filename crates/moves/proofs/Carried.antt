@@ -8,7 +8,7 @@ use mathlib.Core.List.{List, [], _∷_, _++_, map}
 use Prim.Native.Nat.{ℕ}
 use lib.Dec.{T, eqb}
 use borrow.Author.Tests.{eq-eqb}
-use Rattle.leg.specs.Progress.{whole, missedLeg}
+use Rattle.leg.specs.Progress.{whole, legAfterMiss}
 use Rattle.request.specs.Input.{isEntry}
 use Rattle.request.specs.declared.Request.{Request}
 use Rattle.field.specs.declared.Aircraft.{Aircraft}
@@ -63,7 +63,7 @@ pub record Turned (legs : Legs) (e g : Placed) : Type 0 where
   pub begins-anew : g .aircraft .progress ≡ progressInto (g .zone)
   pub from-final : e .zone ≡ finalApproach
   pub to-missed : (eqb (g .zone) (missed right) || eqb (g .zone) (missed left)) ≡ true
-  pub leg-ahead : g .aircraft .leg ≡ missedLeg (legs .missed) (e .aircraft .progress) (e .aircraft .leg)
+  pub leg-ahead : g .aircraft .leg ≡ legAfterMiss (legs .missed) (e .aircraft .progress) (e .aircraft .leg)
 
 -- g has just entered by the request
 pub record Entered (r : Request) (g : Placed) : Type 0 where

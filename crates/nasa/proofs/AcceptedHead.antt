@@ -24,8 +24,9 @@ use Rattle.rules.specs.Kinds.{placeBefore, zoneBefore, absentChecks, headChecks
 use Rattle.rules.specs.Step.{numberOf}
 use Rattle.rules.specs.Reason.{hasPlaces}
 use Rattle.order.specs.Model.{Side, rightSide, leftSide}
+use Rattle.rules.proofs.HeadOfRequest as request
 use Rattle.rules.proofs.Checks.{HeadPassed, besides, owned, checks-at, head-passed}
-use Rattle.rules.proofs.Refusals.{passes}
+use Rattle.rules.proofs.Refusals.{Passes, passes}
 use Rattle.field.proofs.TestLaws.{decided, pass, failed, if-false, each-operation}
 use Rattle.questions.proofs.FindLaws.{at, found-exactly, found-there}
 use Rattle.laws.proofs.EditLaws.{Shaped}
@@ -108,10 +109,6 @@ of-side zs low p q z t =
       | inr e ↦ (leftSide, (let n = eqb-false z low e in omega arith) ∙ sym q)
     ]
 
--- a zone that is the only one
-pub only-zone : (n z : ℕ) → within n n z ≡ true → z ≡ n
-only-zone n z t = let l = input.within-low n n z t in let h = input.within-high n n z t in omega arith
-
 -- ---- the queues of a state
 
 -- a transition of a zone with a first goes on with it and the rest
@@ -130,7 +127,7 @@ nobody-in f z = ap (λ (n : ℕ). eqb n 0) (how-many-in f z)
 -- ---- an accepted request
 
 -- a request of kind k is accepted, on a field with its places
-pub record Accepted (f : Field) (r : Request) (k : ℕ) : Type 0 where
+pub record AcceptedOfKind (f : Field) (r : Request) (k : ℕ) : Type 0 where
   pub places : T (hasPlaces f)
   pub kind : r .kind ≡ k
   pub accepted : numberOf f r ≡ 0
@@ -142,40 +139,22 @@ pub record Heads (f : Field) (r : Request) (z : ScaZone) : Type 0 where
   pub first : First f z
   pub named : first .x .number ≡ r .number
 
-module _ {f : Field} {r : Request} {k : ℕ} (A : Accepted f r k) where
+module _ {f : Field} {r : Request} {k : ℕ} (A : AcceptedOfKind f r k) where
+  passed : Passes f r
+  passed = passes f r (A .accepted)
+
   pub bounded : T (withinBounds f)
-  bounded = pass (passes f r (A .accepted) .before)
+  bounded = request.bounded passed
 
   pub shape : Shaped f
   shape = shaped f (A .places) bounded
 
-  module _ (no-entry : isEntry k ≡ false) (no-tick : isTick k ≡ false) where
+  module _ (m : within 3 11 k ≡ true) where
     -- it has passed 12, 26, 13 and 14, and what its kind needs besides
     pub heading : HeadPassed k (placeBefore f r) (owned f r) (besides f r k)
-    heading =
-        let here = placeBefore f r in
-        let heads = headChecks k here (owned f r) in
-        let all : presenceChecks k here (owned f r) ≡ heads = if-false (absentChecks here) (cond (isTick k) [] heads) no-entry ∙ if-false [] heads no-tick in
-        head-passed k here (owned f r) (besides f r k)
-        (ap (λ (l : List (ℕ × Bool)). firstRefused (l ++ besides f r k)) (sym all) ∙ sym (ap firstRefused (checks-at f r (A .kind))) ∙ passes f r (A .accepted) .checks)
-
-    -- it is found, at the head
-    found : placeBefore f r ≡ at (zoneBefore f r) 1
-    found = ap (at (zoneBefore f r)) (eqb-true (placeBefore f r .place) 1 (heading .first))
+    heading = request.heading passed (A .kind) m
 
     pub heads : (z : ScaZone) → zoneBefore f r ≡ zoneNumber z → Heads f r z
-    unfolding howMany aircraftAt
     heads z e =
-        let present : isIn (r .number) (numbersIn f everywhere) ≡ true = is-in (isIn (r .number) (numbersIn f everywhere)) (found-exactly f (r .number)) (heading .known) in
-        let p = found-there f (r .number) present in
-        let there : placeBefore f r ≡ at (zoneNumber z) 1 = found ∙ ap (λ (y : ℕ). at y 1) e in
-        go (inZone f (zoneNumber z)) refl (subst (λ (y : Place). y .place ≤ howMany f (y .zone)) there (p .last))
-        (subst (λ (y : Place). aircraftAt f (y .zone) (y .place) .number ≡ r .number) there (p .has))
-      where
-        is-in : (b : Bool) → eqb (zoneBefore f r) 0 ≡ not b → not (eqb (zoneBefore f r) 0) ≡ true → b ≡ true
-        is-in true a c = refl
-        is-in false a c = absurd (true≢false (sym c ∙ ap not a))
-
-        go : (l : List field.Aircraft) → inZone f (zoneNumber z) ≡ l → 1 ≤ length l → getD (nobody ∷ l) 1 nobody .number ≡ r .number → Heads f r z
-        go [] i a b = absurd (omega arith)
-        go (x ∷ l) i a b = record { bounds = bounded; shaped = shape; first = record { x = x; rest = l; here = i }; named = b }
+        let h = request.heads passed (A .kind) m in
+        record { bounds = bounded; shaped = shape; first = record { x = h .head; rest = h .behind; here = ap (inZone f) (sym e) ∙ h .here }; named = h .named }

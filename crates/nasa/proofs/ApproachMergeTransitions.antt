@@ -32,7 +32,7 @@ use Rattle.nasa.specs.Definitions.{ScaAircraft, ScaZone, holding2, lez, 
 use Rattle.nasa.specs.Rules.{zoneNumber, mayInitiate, verticalApproachInitiation, lateralApproachInitiation, merging}
 use Rattle.nasa.specs.Stands.{sideNamed, seen, stateOf, sideBefore, approachInitiation, Is}
 use Rattle.nasa.proofs.States.{there}
-use Rattle.nasa.proofs.AcceptedHead.{differing, of-side, first-of, how-many-in, Accepted, Heads, heading, heads}
+use Rattle.nasa.proofs.AcceptedHead.{differing, of-side, first-of, how-many-in, AcceptedOfKind, Heads, heading, heads}
 use Rattle.nasa.proofs.AskedOfState.{in-sequence, first-seen, approach-seen, merge-seen}
 use Rattle.nasa.proofs.DescendFinalTaxi.{leads, each-side, goes}
 
@@ -87,15 +87,15 @@ module _ {f : Field} {r : Request} {z : ScaZone} (a : Heads f r z) (u : T (withi
 
 -- ---- kind 5
 module _ (f : Field) (h : T (hasPlaces f)) (r : Request) (k : r .kind ≡ 5) (e : numberOf f r ≡ 0) where
-  accepted-5 : Accepted f r 5
+  accepted-5 : AcceptedOfKind f r 5
   accepted-5 = record { places = h; kind = k; accepted = e }
 
   merge-from : (s : Side) → zoneBefore f r ≡ zoneNumber (base s) → Is f r (merging s)
   unfolding merging
   merge-from s at =
-      let a = heads accepted-5 refl refl (base s) at in
+      let a = heads accepted-5 refl (base s) at in
       let u = each-side (λ s. T (within 1 12 (zoneNumber (base s)))) tt tt s in
-      let others = first-passes 15 (flownOutCheck f (zoneBefore f r) .1) ((22, mayMerge (f .sequence) (r .number) (zoneAhead f r)) ∷ []) (omega arith) (heading accepted-5 refl refl .others) .1 in
+      let others = first-passes 15 (flownOutCheck f (zoneBefore f r) .1) ((22, mayMerge (f .sequence) (r .number) (zoneAhead f r)) ∷ []) (omega arith) (heading accepted-5 refl .others) .1 in
       let met = first-passes 22 (mayMerge (f .sequence) (r .number) (zoneAhead f r)) [] (omega arith) others .0 in
       leads f r (merging s) e (goes a intermediate (each-side (λ s. T (differing (base s) intermediate)) tt tt s))
       (effect-at f r k ∙ ap (λ (y : ℕ). moved f y 11) at)
@@ -104,7 +104,7 @@ module _ (f : Field) (h : T (hasPlaces f)) (r : Request) (k : r .kind ≡ 5) (e 
   pub merge-is : Is f r (merging (sideBefore f r))
   unfolding startsFrom sideOf
   merge-is =
-      let s = of-side base 9 refl refl (zoneBefore f r) (heading accepted-5 refl refl .starts) in
+      let s = of-side base 9 refl refl (zoneBefore f r) (heading accepted-5 refl .starts) in
       let own : sideBefore f r ≡ s .0 = ap (λ (z : ℕ). sideNamed (sideOf z)) (s .1) ∙ each-side (λ s. sideNamed (sideOf (zoneNumber (base s))) ≡ s) refl refl (s .0) in
       subst (λ (t : Side). Is f r (merging t)) (sym own) (merge-from (s .0) (s .1))
 
@@ -132,7 +132,7 @@ lower z t b =
     ]
 
 module _ (f : Field) (h : T (hasPlaces f)) (r : Request) (k : r .kind ≡ 4) (e : numberOf f r ≡ 0) where
-  accepted-4 : Accepted f r 4
+  accepted-4 : AcceptedOfKind f r 4
   accepted-4 = record { places = h; kind = k; accepted = e }
 
   abbrev z₀ : ℕ
@@ -148,12 +148,12 @@ module _ (f : Field) (h : T (hasPlaces f)) (r : Request) (k : r .kind ≡ 4) (e 
   from-2000 : (s : Side) → z₀ ≡ zoneNumber (holding2 s) → Is f r (verticalApproachInitiation s)
   unfolding verticalApproachInitiation approached
   from-2000 s at =
-      let a = heads accepted-4 refl refl (holding2 s) at in
+      let a = heads accepted-4 refl (holding2 s) at in
       let u = each-side (λ s. T (within 1 12 (zoneNumber (holding2 s)))) tt tt s in
       let low : within 5 6 z₀ ≡ false = ap (within 5 6) at ∙ each-side (λ s. within 5 6 (zoneNumber (holding2 s)) ≡ false) refl refl s in
       let own : sideOf z₀ ≡ num s = ap sideOf at ∙ side-of-2000 s in
       let to : airspace.base (sideOf z₀) ≡ zoneNumber (base s) = ap airspace.base own ∙ base-of s in
-      let met = first-passes 22 (within 5 6 z₀ || may) ((23, within 5 6 z₀ || free) ∷ []) (omega arith) (heading accepted-4 refl refl .others) in
+      let met = first-passes 22 (within 5 6 z₀ || may) ((23, within 5 6 z₀ || free) ∷ []) (omega arith) (heading accepted-4 refl .others) in
       let p : may ≡ true = sym (ap (λ (b : Bool). b || may) low) ∙ met .0 in
       let q : free ≡ true = sym (ap (λ (b : Bool). b || free) low) ∙ first-passes 23 (within 5 6 z₀ || free) [] (omega arith) (met .1) .0 in
       leads f r (verticalApproachInitiation s) e (goes a (base s) (each-side (λ s. T (differing (holding2 s) (base s))) tt tt s))
@@ -166,7 +166,7 @@ module _ (f : Field) (h : T (hasPlaces f)) (r : Request) (k : r .kind ≡ 4) (e 
   from-lateral s at = go (decided (may && free))
     where
       a : Heads f r (lez s)
-      a = heads accepted-4 refl refl (lez s) at
+      a = heads accepted-4 refl (lez s) at
 
       u : T (within 1 12 (zoneNumber (lez s)))
       u = each-side (λ s. T (within 1 12 (zoneNumber (lez s)))) tt tt s
@@ -204,7 +204,7 @@ module _ (f : Field) (h : T (hasPlaces f)) (r : Request) (k : r .kind ≡ 4) (e 
         let own : sideBefore f r ≡ s .0 = ap (λ (z : ℕ). sideNamed (sideOf z)) (s .1) ∙ each-side (λ s. sideNamed (sideOf (zoneNumber (lez s))) ≡ s) refl refl (s .0) in
         subst (Is f r) (sym (if-true _ _ b ∙ ap lateralApproachInitiation own)) (from-lateral (s .0) (s .1))
     | inr b ↦
-        let s = of-side holding2 3 refl refl z₀ (lower z₀ (heading accepted-4 refl refl .starts) b) in
+        let s = of-side holding2 3 refl refl z₀ (lower z₀ (heading accepted-4 refl .starts) b) in
         let own : sideBefore f r ≡ s .0 = ap (λ (z : ℕ). sideNamed (sideOf z)) (s .1) ∙ each-side (λ s. sideNamed (sideOf (zoneNumber (holding2 s))) ≡ s) refl refl (s .0) in
         subst (Is f r) (sym (if-false _ _ b ∙ ap verticalApproachInitiation own)) (from-2000 (s .0) (s .1))
   ]

@@ -41,7 +41,7 @@ use Rattle.nasa.specs.Definitions.{ScaZone, holding3, holding2, lez, maz
 use Rattle.nasa.specs.Rules.{nobodyIn, zoneNumber, verticalEntry, lateralEntry, holdingPatternDescend}
 use Rattle.nasa.specs.Stands.{sideNamed, stateOf, sideBefore, entryAbove, Is}
 use Rattle.nasa.proofs.States.{Move, moved-shaped, put-here}
-use Rattle.nasa.proofs.AcceptedHead.{differing, move, nobody-in, Accepted, bounded, shape}
+use Rattle.nasa.proofs.AcceptedHead.{differing, move, nobody-in, AcceptedOfKind, bounded, shape}
 use Rattle.nasa.proofs.DescendFinalTaxi.{leads, each-side, descend-is}
 use Rattle.nasa.proofs.StateCounts.{virtual-is, approach-is}
 use Rattle.nasa.proofs.Entering.{Newcomer, entered-state}
@@ -93,7 +93,7 @@ counted f rightSide = omega arith
 counted f leftSide = omega arith
 
 -- what an accepted entry to zone z has passed
-newcomer : {f : Field} {r : Request} {k : ℕ} → Accepted f r k → (E : Entry r) (z : ScaZone) → T (within 1 12 (zoneNumber z)) → eqb (placeOf f (r .number) .zone) 0 ≡ true
+newcomer : {f : Field} {r : Request} {k : ℕ} → AcceptedOfKind f r k → (E : Entry r) (z : ScaZone) → T (within 1 12 (zoneNumber z)) → eqb (placeOf f (r .number) .zone) 0 ≡ true
     → howMany f (zoneNumber z) < 4 → effectOf f r ≡ entered f r (zoneNumber z) → Newcomer f r (E .side) z
 newcomer {f} {r} A E z u unused few into =
     record {
@@ -119,13 +119,13 @@ module _ (f : Field) (h : T (hasPlaces f)) (r : Request) (k : r .kind ≡ 2) (e 
       let met = input.passed checks (tt, (tt, tt)) (sym (ap firstRefused (checks-at f r k)) ∙ passes f r e .checks) in
       let none : potentialOf f (num s) ≡ 0 = ap (potentialOf f) (sym (E .asks)) ∙ eqb-true (potentialOf f (r .side)) 0 (met .1 .0) in
       let few : howMany f (zoneNumber (lez s)) < 4 = let c = counted f s in omega arith in
-      let A : Accepted f r 2 = record { places = h; kind = k; accepted = e } in
+      let A : AcceptedOfKind f r 2 = record { places = h; kind = k; accepted = e } in
       subst (λ (q : Side). Is f r (lateralEntry q)) (sym (E .named))
       (leads f r (lateralEntry s) e (entered-state (newcomer A E (lez s) (each-side (λ s. T (within 1 12 (zoneNumber (lez s)))) tt tt s) (met .0) few into)) into
       (if-true _ [] (ap (λ (m : ℕ). eqb m 0) (virtual-is f (bounded A) s ∙ none))))
 
 -- ---- kind 1, where nobody is at 3000
-module _ {f : Field} {r : Request} (A : Accepted f r 1) (E : Entry r) (free : isEmpty f (zoneNumber (holding3 (E .side))) ≡ true) where
+module _ {f : Field} {r : Request} (A : AcceptedOfKind f r 1) (E : Entry r) (free : isEmpty f (zoneNumber (holding3 (E .side))) ≡ true) where
   vertical-is : Is f r (verticalEntry (E .side))
   unfolding verticalEntry
   vertical-is =
@@ -151,7 +151,7 @@ module _ {f : Field} {r : Request} (A : Accepted f r 1) (E : Entry r) (free : is
       all-five {a} {b} {c} {d} {g} p q u v w = rw (p, q, u, v, w)
 
 -- ---- kind 1, where somebody is at 3000: the descend of that one, and then the entry
-module _ {f : Field} {r : Request} (A : Accepted f r 1) (E : Entry r) (taken : isEmpty f (zoneNumber (holding3 (E .side))) ≡ false) where
+module _ {f : Field} {r : Request} (A : AcceptedOfKind f r 1) (E : Entry r) (taken : isEmpty f (zoneNumber (holding3 (E .side))) ≡ false) where
   abbrev s : Side
   s = E .side
 
@@ -204,7 +204,7 @@ module _ {f : Field} {r : Request} (A : Accepted f r 1) (E : Entry r) (taken : i
   abbrev below : Move f (holding3 s) (holding2 s)
   below = move (bounded A) (record { x = aircraftAt f (r .side) 1; rest = []; here = alone }) (holding2 s) (each-side (λ s. T (differing (holding3 s) (holding2 s))) tt tt s) (shape A)
 
-  then-accepted : Accepted g r 1
+  then-accepted : AcceptedOfKind g r 1
   then-accepted = record {
     places = subst (λ (q : Field). T (hasPlaces q)) (sym lower) (places-of (moved f up down) (moved-shaped below));
     kind = A .kind;
@@ -223,7 +223,7 @@ module _ {f : Field} {r : Request} (A : Accepted f r 1) (E : Entry r) (taken : i
 
 pub entry-is : (f : Field) → T (hasPlaces f) → (r : Request) → r .kind ≡ 1 → numberOf f r ≡ 0 → Is f r (entryAbove (sideNamed (r .side)))
 entry-is f h r k e =
-    let A : Accepted f r 1 = record { places = h; kind = k; accepted = e } in
+    let A : AcceptedOfKind f r 1 = record { places = h; kind = k; accepted = e } in
     let E = entry f r (omega arith) e in
     subst (λ (q : Side). Is f r (entryAbove q)) (sym (E .named))
     (elim (decided (isEmpty f (zoneNumber (holding3 (E .side))))) [

@@ -25,7 +25,7 @@ use Rattle.nasa.specs.Definitions.{ScaZone, holding3, holding2, maz, SCA
 use Rattle.nasa.specs.Rules.{zoneNumber, withQueue, add, lowestAvailableAltitude}
 use Rattle.nasa.specs.Stands.{sideNamed, seen, stateOf, sideBefore, Is}
 use Rattle.nasa.proofs.States.{First, there, Move, moved-shaped, put-here, put-elsewhere, moved-state}
-use Rattle.nasa.proofs.AcceptedHead.{differing, unlike, has-room, move, of-side, first-of, nobody-in, Accepted, Heads, heading, heads}
+use Rattle.nasa.proofs.AcceptedHead.{differing, unlike, has-room, move, of-side, first-of, nobody-in, AcceptedOfKind, Heads, heading, heads}
 use Rattle.nasa.proofs.DescendFinalTaxi.{leads, each-side, goes}
 
 -- a zone that is not empty has a first
@@ -54,11 +54,11 @@ module _ (f : Field) (h : T (hasPlaces f)) (r : Request) (k : r .kind ≡ 11) (e
   abbrev down : ℕ
   down = zoneNumber (holding2 s)
 
-  accepted : Accepted f r 11
+  accepted : AcceptedOfKind f r 11
   accepted = record { places = h; kind = k; accepted = e }
 
   a : Heads f r (maz s)
-  a = heads accepted refl refl (maz s) at
+  a = heads accepted refl (maz s) at
 
   own : sideOf z₀ ≡ num s
   own = ap sideOf at ∙ side-of-missed s
@@ -142,6 +142,6 @@ module _ (f : Field) (h : T (hasPlaces f)) (r : Request) (k : r .kind ≡ 11) (e
 pub hold-is : (f : Field) → T (hasPlaces f) → (r : Request) → r .kind ≡ 11 → numberOf f r ≡ 0 → Is f r (lowestAvailableAltitude (sideBefore f r))
 unfolding startsFrom sideOf
 hold-is f h r k e =
-    let s = of-side maz 7 refl refl (zoneBefore f r) (heading (record { places = h; kind = k; accepted = e }) refl refl .starts) in
+    let s = of-side maz 7 refl refl (zoneBefore f r) (heading (record { places = h; kind = k; accepted = e }) refl .starts) in
     let own : sideBefore f r ≡ s .0 = ap (λ (z : ℕ). sideNamed (sideOf z)) (s .1) ∙ each-side (λ s. sideNamed (sideOf (zoneNumber (maz s))) ≡ s) refl refl (s .0) in
     subst (λ (t : Side). Is f r (lowestAvailableAltitude t)) (sym own) (hold-from f h r k e (s .0) (s .1))

@@ -26,11 +26,12 @@ use Rattle.field.proofs.TestLaws.{decided, pass, if-true, if-false, same}
 use Rattle.questions.proofs.NumbersListed.{numbersAt}
 use Rattle.questions.proofs.FindLaws.{numbers}
 use Rattle.line.proofs.CountedOnLine.{none}
+use Rattle.rules.proofs.HeadOfRequest.{only-zone}
 use Rattle.nasa.specs.Definitions.{ScaAircraft, ScaZone, intermediate, final, runway, SCA, decrease}
 use Rattle.nasa.specs.Rules.{zoneNumber, sameZone, withQueue, add, withNext, decreased, lowered, exit, landing}
 use Rattle.nasa.specs.Stands.{sideNamed, seen, stateOf, Is}
 use Rattle.nasa.proofs.States.{same-state, asSeen, zone-number, First, gone-there, head-first, gone-here, Move, put-there, put-here, put-elsewhere}
-use Rattle.nasa.proofs.AcceptedHead.{only-zone, first-of, nobody-in, Accepted, Heads, heading, heads}
+use Rattle.nasa.proofs.AcceptedHead.{first-of, nobody-in, AcceptedOfKind, Heads, heading, heads}
 use Rattle.nasa.proofs.DescendFinalTaxi.{leads}
 use Rattle.nasa.proofs.ApproachMergeTransitions.{first-is}
 use Rattle.nasa.proofs.Sequences.{FirstInSequence, first-left}
@@ -138,9 +139,9 @@ module _ {f : Field} {r : Request} (H : Heads f r final) (b : FirstInSequence f 
 pub land-is : (f : Field) → T (hasPlaces f) → (r : Request) → r .kind ≡ 7 → numberOf f r ≡ 0 → Is f r landing
 unfolding landing startsFrom
 land-is f h r k e =
-    let A : Accepted f r 7 = record { places = h; kind = k; accepted = e } in
-    let passed = heading A refl refl in
-    let H = heads A refl refl final (only-zone 12 (zoneBefore f r) (passed .starts)) in
+    let A : AcceptedOfKind f r 7 = record { places = h; kind = k; accepted = e } in
+    let passed = heading A refl in
+    let H = heads A refl final (only-zone 12 (zoneBefore f r) (passed .starts)) in
     let others = first-passes 15 (flownOutCheck f (zoneBefore f r) .1) ((24, isEmpty f 13) ∷ []) (omega arith) (passed .others) .1 in
     let free = first-passes 24 (isEmpty f 13) [] (omega arith) others .0 in
     leads f r landing e (landed-state H (final-first (H .bounds) (H .first)) free) (effect-at f r k) (first-of (H .first) _ ∙ if-true _ [] (nobody-in f runway ∙ free))
@@ -240,9 +241,9 @@ module _ {f : Field} {r : Request} (H : Heads f r intermediate) (b : FirstInSequ
 pub exit-is : (f : Field) → T (hasPlaces f) → (r : Request) → r .kind ≡ 9 → numberOf f r ≡ 0 → Is f r exit
 unfolding exit startsFrom
 exit-is f h r k e =
-    let A : Accepted f r 9 = record { places = h; kind = k; accepted = e } in
-    let passed = heading A refl refl in
-    let H = heads A refl refl intermediate (only-zone 11 (zoneBefore f r) (passed .starts)) in
+    let A : AcceptedOfKind f r 9 = record { places = h; kind = k; accepted = e } in
+    let passed = heading A refl in
+    let H = heads A refl intermediate (only-zone 11 (zoneBefore f r) (passed .starts)) in
     let others = first-passes 15 (flownOutCheck f (zoneBefore f r) .1) ((22, isFirst (f .sequence) (r .number)) ∷ []) (omega arith) (passed .others) .1 in
     let met = first-passes 22 (isFirst (f .sequence) (r .number)) [] (omega arith) others .0 in
     let b = first-in f (H .first .x) (ap (isFirst (f .sequence)) (H .named) ∙ met) in

@@ -31,11 +31,12 @@ use Rattle.laws.proofs.BoundLaws.{within-each}
 use Rattle.laws.proofs.Fits.{fits-parts}
 use Rattle.line.proofs.CountedOnLine.{not-13}
 use Rattle.reason.proofs.Invariant.{parts}
+use Rattle.rules.proofs.HeadOfRequest.{only-zone}
 use Rattle.nasa.specs.Definitions.{ScaAircraft, ScaZone, maz, final, runway, SCA, decrease, reassign}
 use Rattle.nasa.specs.Rules.{zoneNumber, sameZone, withQueue, add, withNext, decreased, scaMissedApproach}
 use Rattle.nasa.specs.Stands.{sideNamed, seen, stateOf, Is}
 use Rattle.nasa.proofs.States.{same-state, asSeen, zone-number, First, head-first, Move, put-there, put-here, put-elsewhere}
-use Rattle.nasa.proofs.AcceptedHead.{differing, move, only-zone, first-of, Accepted, Heads, heading, heads}
+use Rattle.nasa.proofs.AcceptedHead.{differing, move, first-of, AcceptedOfKind, Heads, heading, heads}
 use Rattle.nasa.proofs.DescendFinalTaxi.{leads}
 use Rattle.nasa.proofs.AskedOfState.{sequence-different}
 use Rattle.nasa.proofs.Sequences.{FirstInSequence, first-last, before-kept, before-last}
@@ -236,6 +237,6 @@ module _ {f : Field} {r : Request} (H : Heads f r final) (b : FirstInSequence f 
 pub miss-is : (f : Field) → T (hasPlaces f) → (r : Request) → r .kind ≡ 10 → numberOf f r ≡ 0 → Is f r scaMissedApproach
 unfolding scaMissedApproach startsFrom
 miss-is f h r k e =
-    let A : Accepted f r 10 = record { places = h; kind = k; accepted = e } in
-    let H = heads A refl refl final (only-zone 12 (zoneBefore f r) (heading A refl refl .starts)) in
+    let A : AcceptedOfKind f r 10 = record { places = h; kind = k; accepted = e } in
+    let H = heads A refl final (only-zone 12 (zoneBefore f r) (heading A refl .starts)) in
     leads f r scaMissedApproach e (missed-state H (final-first (H .bounds) (H .first))) (effect-at f r k) (first-of (H .first) _)

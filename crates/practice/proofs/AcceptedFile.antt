@@ -86,12 +86,12 @@ legs-known legs e =
     known n t = record { low = within-low 1 longestLeg n t; high = within-high 1 longestLeg n t }
 
 -- a file that is accepted passes all tests
-pub record Accepted (file : List ℕ) : Type 0 where
+pub record AcceptedFile (file : List ℕ) : Type 0 where
   pub opening : opens file ≡ true
   pub contents : contentsAllowed file ≡ true
   pub legs : legsAllowed (legsOf (legsBody file)) ≡ true
 
-pub accepted : (file : List ℕ) → fileNumber file ≡ 0 → Accepted file
+pub accepted : (file : List ℕ) → fileNumber file ≡ 0 → AcceptedFile file
 unfolding fileNumber
 accepted file e =
     let p = passed ((5, opens file) ∷ (6, contentsAllowed file) ∷ (7, legsAllowed (legsOf (legsBody file))) ∷ []) (tt, (tt, (tt, tt))) e in

@@ -86,8 +86,8 @@ module _ (legs : FileLegs) (rs : List Request) where
       none-refused ((5, opens (encoded legs rs)) ∷ (6, contentsAllowed (encoded legs rs)) ∷ (7, legsAllowed (legsOf (legsBody (encoded legs rs)))) ∷ [])
       (opening h, (contents h, (ap legsAllowed legs-back ∙ l, tt)))
 
-  pub read-back : length rs ≤ mostRequests → legsAllowed legs ≡ true → practiceOf (encoded legs rs) ≡ holds legs (map (fromDesk 1) rs)
+  pub file-read-back : length rs ≤ mostRequests → legsAllowed legs ≡ true → practiceOf (encoded legs rs) ≡ holds legs (map (fromDesk 1) rs)
   unfolding practiceOf
-  read-back h l =
+  file-read-back h l =
       ap (λ (n : ℕ). cond (eqb n 0) (holds (legsOf (legsBody (encoded legs rs))) (requestsOf (requestsBody (encoded legs rs)))) (refused n)) (number h l)
       ∙ (λ i. holds (legs-back i) (body-back i))

@@ -102,12 +102,12 @@ no-number k n (x ∷ xs) h e = go (decided (eqb (x .number) n)) (no-number (suc 
     go (inl b) later = absurd (let z : k ≡ 0 = sym (if-true k (placeFrom (suc k) n xs) b) ∙ e in omega arith)
     go (inr b) later = ap (λ (c : Bool). c || isIn n (numbers xs)) b ∙ later (sym (if-false k (placeFrom (suc k) n xs) b) ∙ e)
 
-pub record Found (f : Field) (n : ℕ) (zs : List ℕ) (p : Place) : Type 0 where
+pub record FoundInZones (f : Field) (n : ℕ) (zs : List ℕ) (p : Place) : Type 0 where
   pub zone-in : isIn (p .zone) zs ≡ true
   pub named : aircraftAt f (p .zone) (p .place) .number ≡ n
   pub has : (t : Aircraft → Bool) → T (every t (inZone f (p .zone))) → T (t (aircraftAt f (p .zone) (p .place)))
 
-found : (f : Field) (n : ℕ) (zs ws : List ℕ) → isIn n (numbersIn f zs) ≡ true → Found f n zs (findIn f n (zs ++ ws))
+found : (f : Field) (n : ℕ) (zs ws : List ℕ) → isIn n (numbersIn f zs) ≡ true → FoundInZones f n zs (findIn f n (zs ++ ws))
 unfolding findIn aircraftAt
 found f n [] ws e = absurd (false≢true e)
 found f n (z ∷ zs) ws e = go (decided (eqb (placeFrom 1 n (inZone f z)) 0)) (found f n zs ws)
@@ -116,20 +116,20 @@ found f n (z ∷ zs) ws e = go (decided (eqb (placeFrom 1 n (inZone f z)) 0)) (f
     here = at z (placeFrom 1 n (inZone f z))
 
     go : (eqb (placeFrom 1 n (inZone f z)) 0 ≡ true) ⊎ (eqb (placeFrom 1 n (inZone f z)) 0 ≡ false)
-        → (isIn n (numbersIn f zs) ≡ true → Found f n zs (findIn f n (zs ++ ws))) → Found f n (z ∷ zs) (cond (eqb (placeFrom 1 n (inZone f z)) 0) (findIn f n (zs ++ ws)) here)
+        → (isIn n (numbersIn f zs) ≡ true → FoundInZones f n zs (findIn f n (zs ++ ws))) → FoundInZones f n (z ∷ zs) (cond (eqb (placeFrom 1 n (inZone f z)) 0) (findIn f n (zs ++ ws)) here)
     go (inl b) later =
         let none = no-number 1 n (inZone f z) (omega arith) (eqb-true (placeFrom 1 n (inZone f z)) 0 b) in
         let i : isIn n (numbersIn f zs) ≡ true = sym (ap (λ (c : Bool). c || isIn n (numbersIn f zs)) none) ∙ sym (in-append n (numbers (inZone f z)) (numbersIn f zs)) ∙ e in
         let r = later i in
         let p = findIn f n (zs ++ ws) in
-        subst (Found f n (z ∷ zs)) (sym (if-true p here b)) (record { zone-in = ap (λ (c : Bool). eqb z (p .zone) || c) (r .zone-in) ∙ right-true (eqb z (p .zone)); named = r .named; has = r .has })
+        subst (FoundInZones f n (z ∷ zs)) (sym (if-true p here b)) (record { zone-in = ap (λ (c : Bool). eqb z (p .zone) || c) (r .zone-in) ∙ right-true (eqb z (p .zone)); named = r .named; has = r .has })
       where
         right-true : (b : Bool) → (b || true) ≡ true
         right-true true = refl
         right-true false = refl
     go (inr b) later =
         let g = got n (nobody ∷ []) (inZone f z) 1 (placeFrom 1 n (inZone f z)) refl refl (eqb-false (placeFrom 1 n (inZone f z)) 0 b) in
-        subst (Found f n (z ∷ zs)) (sym (if-false (findIn f n (zs ++ ws)) here b)) (record { zone-in = ap (λ (c : Bool). c || isIn z zs) (same z); named = g .named; has = g .has })
+        subst (FoundInZones f n (z ∷ zs)) (sym (if-false (findIn f n (zs ++ ws)) here b)) (record { zone-in = ap (λ (c : Bool). c || isIn z zs) (same z); named = g .named; has = g .has })
 
 -- ---- the line of a field
 abbrev pub lookedUp : Field → ℕ → Placed
@@ -162,7 +162,7 @@ module _ (f : Field) where
   abbrev pub Named : List ℕ → Type 0
   Named ns = T (every (λ n. isIn n (numbersIn f operation)) ns)
 
-  pub found-one : (n : ℕ) → T (isIn n (numbersIn f operation)) → Found f n operation (placeOf f n)
+  pub found-one : (n : ℕ) → T (isIn n (numbersIn f operation)) → FoundInZones f n operation (placeOf f n)
   unfolding placeOf
   found-one n t = found f n operation (13 ∷ []) (passed t)
 

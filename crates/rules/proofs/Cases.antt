@@ -3,7 +3,7 @@
 use mathlib.Core.Path.{refl}
 use lib.Dec.{T}
 use lib.Ieee.{neg, add, sub, mul, div, ofInt, round, lt, le, eq}
-use Rattle.leg.specs.Progress.{advanced, pastEnd, waitedAfter, missedLeg}
+use Rattle.leg.specs.Progress.{advanced, pastEnd, waitedAfter, legAfterMiss}
 use Rattle.request.specs.Input.{deskAllowed, kindAllowed, sideAllowed, numberAllowed, amountAllowed, inputNumber}
 use Rattle.field.specs.Airspace.{isSide, sideOf, opposite, isFlyingZone, zoneOf, queueOf, inZone, orderOf, legOf}
 use Rattle.field.specs.Airspace.{progressInto, entering, onLeg, arrived, arrivedByMiss, withFix, legFlownOut, emptyField}
@@ -27,7 +27,7 @@ use Rattle.field.proofs.TestLaws.{each-operation}
 computed : T (every caseHolds marked) × T (every caseHolds examples) × T (every caseHolds exits) × T (every caseHolds entries) × T (every caseHolds earlyMisses)
     × T (every caseHolds twoDesks) × JudgedAfterBoth onePlace entryOfEight × BoundsNotEnough crowded missOfSeven × NobodyMoves stuck
 unfolding
-    advanced pastEnd waitedAfter missedLeg deskAllowed kindAllowed sideAllowed numberAllowed amountAllowed inputNumber isSide opposite isFlyingZone zoneOf queueOf inZone orderOf progressInto entering
+    advanced pastEnd waitedAfter legAfterMiss deskAllowed kindAllowed sideAllowed numberAllowed amountAllowed inputNumber isSide opposite isFlyingZone zoneOf queueOf inZone orderOf progressInto entering
     onLeg arrived arrivedByMiss withFix legOf legFlownOut emptyField howMany howManyWithFix presentOn inOperation inArea perFix approachHolds countedFor potentialOf findIn placeOf
     aircraftAt fixOf isFirst leaderOf leaderZone boundA boundB lateralRule boundC boundD numbersDiffer sequenceExact finalFirst isNobody zoneKept sequenceKept
     boundE boundF legFits fitsZone legalLegs boundG withinBounds withoutHead withTail appended removed withZone withSequence tickedAircraft tickedZone ticked sideOf

@@ -1,5 +1,6 @@
 pub mod Checks
 pub mod StepLaws
 pub mod Refusals
+pub mod HeadOfRequest
 pub mod Ticking
 pub mod Cases

@@ -8,6 +8,7 @@ use lib.Dec.{eqb, ltb}
 use lib.ListN.{length, getD, take, drop, set, length-set, length-append}
 use lib.Seq.{getD-set-same, getD-set-other, take-append-seam, take-append-le, take-take, length-take-le}
 use borrow.Author.Tests.{eqb-true, eqb-false, ltb-true, ltb-false}
+use Rattle.limits.specs.Limits.{mostKept}
 use Rattle.request.specs.declared.Request.{Request}
 use Rattle.field.specs.declared.Legs.{Legs}
 use Rattle.field.specs.declared.Field.{Field}
@@ -19,7 +20,7 @@ use Rattle.rules.specs.Play.{fieldAfter}
 use Rattle.rules.proofs.StepLaws.{number-is}
 use Rattle.indexed.specs.Indexed.{withIndex}
 use Rattle.history.specs.declared.History.{History}
-use Rattle.history.specs.History.{mostKept, startOf, startWith, keeping, givenBack}
+use Rattle.history.specs.History.{startOf, startWith, keeping, givenBack}
 use Rattle.history.proofs.MovedUp.{movedUp, moved-length, moved-at, moved-last}
 use Rattle.taken_back.specs.TakenBack.{fieldAfterFirst, Follows}
 use Rattle.taken_back.proofs.PlayedBehind.{after-behind, accepted-more, accepted-fewer}

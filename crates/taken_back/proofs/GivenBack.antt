@@ -9,6 +9,7 @@ use lib.Dec.{eqb, leb, ltb}
 use lib.ListN.{length, getD, take, drop, set, length-drop}
 use lib.Seq.{getD-set-same, take-all, take-at, take-set-le, take-suc-set}
 use borrow.Author.Tests.{le-leb, lt-ltb, eqb-false, ltb-true, ltb-false}
+use Rattle.limits.specs.Limits.{mostKept}
 use Rattle.request.specs.Input.{within, inputNumber}
 use Rattle.request.specs.declared.Request.{Request}
 use Rattle.request.proofs.InputTests.{both-left, both-right}
@@ -24,7 +25,7 @@ use Rattle.indexed.specs.Indexed.{withIndex}
 use Rattle.indexed.proofs.Own.{within-own}
 use Rattle.history.specs.declared.History.{History}
 use Rattle.history.specs.declared.SteppedHistory.{SteppedHistory}
-use Rattle.history.specs.History.{mostKept, counted, keptWithinBounds, withinBoundsHistory, keeping, numberHistory, stepHistory, numberBack, givenBack, stepBack}
+use Rattle.history.specs.History.{counted, keptWithinBounds, withinBoundsHistory, keeping, numberHistory, stepHistory, numberBack, givenBack, stepBack}
 use Rattle.history.proofs.MovedUp.{movedUp, moved-length, moved-last}
 use Rattle.history.proofs.StepNumbers as numbers
 use Rattle.taken_back.specs.Calls.{Call, request, back, called}
@@ -39,15 +40,15 @@ every-rest p [] e = refl
 every-rest p (x ∷ l) e = both-right (p x) (every p l) e
 
 -- what an accepted request has passed
-pub record Passed (h : History) (r : Request) : Type 0 where
+pub record PassesHistory (h : History) (r : Request) : Type 0 where
   pub bounds : withinBoundsHistory h ≡ true
   pub number : numberOf (h .now .field) r ≡ 0
 
-pub passes : (h : History) (r : Request) → numberHistory h r ≡ 0 → Passed h r
+pub passes : (h : History) (r : Request) → numberHistory h r ≡ 0 → PassesHistory h r
 unfolding numberHistory
 passes h r z = go (eqb (inputNumber r) 0) refl (withinBoundsHistory h) refl z
   where
-    go : (a : Bool) → eqb (inputNumber r) 0 ≡ a → (b : Bool) → withinBoundsHistory h ≡ b → cond a (cond b (numberOf (h .now .field) r) 10) (inputNumber r) ≡ 0 → Passed h r
+    go : (a : Bool) → eqb (inputNumber r) 0 ≡ a → (b : Bool) → withinBoundsHistory h ≡ b → cond a (cond b (numberOf (h .now .field) r) 10) (inputNumber r) ≡ 0 → PassesHistory h r
     go true i true w k = record { bounds = w; number = k }
     go true i false w k = absurd (omega (arith, k))
     go false i b w k = absurd (eqb-false (inputNumber r) 0 i k)

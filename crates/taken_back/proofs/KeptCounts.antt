@@ -9,6 +9,7 @@ use lib.Dec.{eqb, ltb}
 use lib.ListN.{length, take, length-append}
 use lib.Seq.{length-take-le}
 use borrow.Author.Tests.{eq-eqb, ne-eqb, eqb-true, eqb-false, ltb-true, ltb-false}
+use Rattle.limits.specs.Limits.{mostKept}
 use Rattle.request.specs.Input.{within}
 use Rattle.request.specs.declared.Request.{Request}
 use Rattle.field.specs.declared.Legs.{Legs}
@@ -20,7 +21,7 @@ use Rattle.indexed.specs.Indexed.{withIndex}
 use Rattle.finder.specs.declared.Indexed.{Indexed}
 use Rattle.history.specs.declared.History.{History}
 use Rattle.history.specs.declared.SteppedHistory.{SteppedHistory}
-use Rattle.history.specs.History.{mostKept, startOf, startWith, keeping, numberHistory, stepHistory, withinBoundsHistory, numberBack, givenBack, stepBack}
+use Rattle.history.specs.History.{startOf, startWith, keeping, numberHistory, stepHistory, withinBoundsHistory, numberBack, givenBack, stepBack}
 use Rattle.history.proofs.StepNumbers as numbers
 use Rattle.taken_back.specs.Calls.{Call, request, back, called, playedCalls, afterCalls, withCall, withCalls, historyOf, longestFrom, longestOf}
 use Rattle.taken_back.proofs.GivenBack.{passes}

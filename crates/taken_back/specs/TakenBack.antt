@@ -5,6 +5,7 @@ use mathlib.Core.List.{List, map}
 use Prim.Native.Nat.{ℕ, _+_, _-_, _≤_, _<_}
 use lib.Dec.{T, eqb, ltb}
 use lib.ListN.{length, getD, take, drop}
+use Rattle.limits.specs.Limits.{mostKept}
 use Rattle.request.specs.declared.Request.{Request}
 use Rattle.field.specs.declared.Legs.{Legs}
 use Rattle.field.specs.Airspace.{emptyField}
@@ -16,7 +17,7 @@ use Rattle.rules.specs.Play.{fieldAfter, played, allAccepted}
 use Rattle.indexed.specs.Indexed.{withIndex}
 use Rattle.demand.specs.Demand.{Demand3}
 use Rattle.history.specs.declared.History.{History}
-use Rattle.history.specs.History.{mostKept, counted, startOf, stepHistory, stepBack}
+use Rattle.history.specs.History.{counted, startOf, stepHistory, stepBack}
 use Rattle.taken_back.specs.Calls.{Call, request, called, playedCalls, afterCalls, historyOf, longestOf}
 
 -- no call is answered with the number

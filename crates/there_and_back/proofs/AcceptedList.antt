@@ -24,7 +24,7 @@ use Rattle.dialect_field.specs.Coming.{entriesIn, placedFrom, listAllowed, buil
 use Rattle.dialect_field.proofs.FirstFailing.{onList}
 
 -- what is known where the list's number is 0
-pub record Accepted (legs : FileLegs) (speed : ℕ) (bytes : List ℕ) : Type 0 where
+pub record AcceptedList (legs : FileLegs) (speed : ℕ) (bytes : List ℕ) : Type 0 where
   pub placed : T (placedFrom 1 (entriesIn bytes))
   pub bounds : T (withinBounds (built (legsInMiles legs) speed (entriesIn bytes)))
   pub after : fieldOfList legs speed bytes .after ≡ withIndex (built (legsInMiles legs) speed (entriesIn bytes))
@@ -39,7 +39,7 @@ module _ (legs : FileLegs) (speed : ℕ) (bytes : List ℕ) where
       go (inl e) = ap (λ (b : Built). b .number) (if-true _ _ e) ∙ sym (eqb-true (comingNumber legs speed bytes) 0 e)
       go (inr e) = ap (λ (b : Built). b .number) (if-false _ _ e)
 
-  pub accepted : fieldOfList legs speed bytes .number ≡ 0 → Accepted legs speed bytes
+  pub accepted : fieldOfList legs speed bytes .number ≡ 0 → AcceptedList legs speed bytes
   unfolding fieldOfList comingNumber listAllowed
   accepted e =
       let n = sym number-is ∙ e in

@@ -41,7 +41,7 @@ use Rattle.dialect.specs.Going.{listEntry, listEntries, onRunway, entriesOf, in
 use Rattle.dialect_field.specs.Coming.{entriesIn, isPlaced, placedFrom, fixIn, built, fieldOfList}
 use Rattle.there_and_back.proofs.Shape.{uncut, waiting, atZone, numbersIn, nextFrom, fieldFor, built-for}
 use Rattle.there_and_back.proofs.ByLocation.{own-place, from-1, to-4, in-a-zone, first-placed, rest-placed, located, none-at, in-all, at-split, only, fix-kept}
-use Rattle.there_and_back.proofs.AcceptedList.{Accepted, accepted}
+use Rattle.there_and_back.proofs.AcceptedList.{AcceptedList, accepted}
 
 module _ (legs : Legs) (speed : ℕ) (es : List ListEntry) (p : T (placedFrom 1 es)) (w : T (withinBounds (built legs speed es))) where
   -- the field

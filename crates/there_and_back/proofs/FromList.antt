@@ -4,6 +4,7 @@ use mathlib.Core.Bool.{true}
 use mathlib.Core.List.{List, [], _∷_}
 use Prim.Native.Nat.{ℕ}
 use lib.ListN.{replicate}
+use Rattle.limits.specs.Limits.{mostKept}
 use Rattle.practice.specs.declared.FileLegs.{FileLegs}
 use Rattle.field.specs.declared.Legs.{Legs}
 use Rattle.field.specs.declared.Field.{Field}
@@ -17,7 +18,7 @@ use Rattle.indexed.proofs.Own.{within-own}
 use Rattle.playing.specs.Playing.{legsInMiles}
 use Rattle.dialect.specs.declared.ListEntry.{ListEntry}
 use Rattle.dialect_field.specs.Coming.{withEntry, builtOn, built, entriesIn, fieldOfList}
-use Rattle.history.specs.History.{mostKept, startWith, keptWithinBounds, withinBoundsHistory}
+use Rattle.history.specs.History.{startWith, keptWithinBounds, withinBoundsHistory}
 use Rattle.there_and_back.specs.FromList.{FromList}
 use Rattle.there_and_back.proofs.AcceptedList.{accepted}
 

@@ -10,9 +10,9 @@ use Rattle.there_and_back.specs.Encoded.{listEntryBytes, listBytes}
 halves : (n : ℕ) → n % 256 + 256 * (n / 256) ≡ n
 halves n = omega arith
 
-pub read-back : (es : List ListEntry) → entriesIn (listBytes es) ≡ es
-read-back [] = refl
-read-back (e ∷ es) =
+pub list-read-back : (es : List ListEntry) → entriesIn (listBytes es) ≡ es
+list-read-back [] = refl
+list-read-back (e ∷ es) =
     let same : _≡_ {A = ListEntry}
     (record {
       number = e .number % 256 + 256 * (e .number / 256);
@@ -22,4 +22,4 @@ read-back (e ∷ es) =
     })
     e
     = λ i. record { number = halves (e .number) i; location = halves (e .location) i; place = halves (e .place) i; fix = halves (e .fix) i } in
-    ap (λ (x : ListEntry). x ∷ entriesIn (listBytes es)) same ∙ ap (λ (l : List ListEntry). e ∷ l) (read-back es)
+    ap (λ (x : ListEntry). x ∷ entriesIn (listBytes es)) same ∙ ap (λ (l : List ListEntry). e ∷ l) (list-read-back es)

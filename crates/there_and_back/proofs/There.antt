@@ -56,7 +56,7 @@ use Rattle.dialect_field.specs.Coming.{entriesIn, placedFrom, fixIn, built, fie
 use Rattle.there_and_back.specs.Settled.{settled, plainZeros, settledZone, settledField, settledIndexed}
 use Rattle.there_and_back.proofs.Shape.{uncut, waiting, atZone, numbersIn, nextFrom, fieldFor, built-for}
 use Rattle.there_and_back.proofs.ByLocation.{located, none-at, at-split, only, side-kept}
-use Rattle.there_and_back.proofs.AcceptedList.{Accepted, accepted}
+use Rattle.there_and_back.proofs.AcceptedList.{AcceptedList, accepted}
 use Rattle.there_and_back.proofs.Back.{zone-is, one-at}
 use Rattle.there_and_back.proofs.Gone.{none-on-runway, entries-are, all-hold, numbers-are, none-listed, Split, split-at, next-is}
 

@@ -4,13 +4,14 @@ use mathlib.Core.List.{List}
 use Prim.Native.Nat.{ℕ}
 use lib.Dec.{T}
 use lib.ListN.{replicate}
+use Rattle.limits.specs.Limits.{mostKept}
 use Rattle.practice.specs.declared.FileLegs.{FileLegs}
 use Rattle.field.specs.Airspace.{emptyField}
 use Rattle.indexed.specs.Indexed.{withIndex}
 use Rattle.playing.specs.Playing.{legsInMiles}
 use Rattle.dialect_field.specs.Coming.{fieldOfList}
 use Rattle.history.specs.declared.History.{History}
-use Rattle.history.specs.History.{mostKept, startWith, withinBoundsHistory}
+use Rattle.history.specs.History.{startWith, withinBoundsHistory}
 
 -- the field of a list with its index, and none kept
 abbrev pub historyOfList : FileLegs → ℕ → List ℕ → History

@@ -32,11 +32,11 @@ one-offence (r ∷ rest) zero = go (eqb (inputNumber r) 0) refl
 one-offence (r ∷ rest) (suc i) = one-offence rest i
 
 -- after i requests: the number that was found, or 0, and then that of the rest, is the number of the list
-pub record Found (rs : List Request) (number i : ℕ) : Type 0 where
+pub record OffenceFound (rs : List Request) (number i : ℕ) : Type 0 where
   pub within : i ≤ length rs
   pub whole : firstOffence rs ≡ cond (eqb number 0) (firstOffence (drop i rs)) number
 
-pub found-none : (rs : List Request) → Found rs 0 0
+pub found-none : (rs : List Request) → OffenceFound rs 0 0
 found-none rs = record { within = omega arith; whole = refl }
 
 -- from the i-th request on
@@ -46,7 +46,7 @@ here (r ∷ rest) zero h = refl
 here (r ∷ rest) (suc i) h = here rest i (omega arith)
 
 -- the number is still 0
-pub found-first : {rs : List Request} {number i n : ℕ} → i < length rs → n ≡ firstOffence (take 1 (drop i rs)) → number ≡ 0 → Found rs number i → Found rs n (i + 1)
+pub found-first : {rs : List Request} {number i n : ℕ} → i < length rs → n ≡ firstOffence (take 1 (drop i rs)) → number ≡ 0 → OffenceFound rs number i → OffenceFound rs n (i + 1)
 found-first {rs} {number} {i} {n} h o z f =
     let e : n ≡ offenceOf (readingAt rs i) = o ∙ sym (one-offence rs i) in
     record {
@@ -60,7 +60,7 @@ found-first {rs} {number} {i} {n} h o z f =
     }
 
 -- a number was found before
-pub found-before : {rs : List Request} {number i : ℕ} → i < length rs → (number ≡ 0 → ⊥) → Found rs number i → Found rs number (i + 1)
+pub found-before : {rs : List Request} {number i : ℕ} → i < length rs → (number ≡ 0 → ⊥) → OffenceFound rs number i → OffenceFound rs number (i + 1)
 found-before {rs} {number} {i} h z f =
     record {
       within = omega arith;
@@ -71,7 +71,7 @@ found-before {rs} {number} {i} h z f =
     }
 
 -- all requests were read
-pub found-all : {rs : List Request} {number i : ℕ} → length rs ≤ i → Found rs number i → number ≡ firstOffence rs
+pub found-all : {rs : List Request} {number i : ℕ} → length rs ≤ i → OffenceFound rs number i → number ≡ firstOffence rs
 found-all {rs} {number} {i} h f = go (eqb number 0) refl
   where
     go : (t : Bool) → eqb number 0 ≡ t → number ≡ firstOffence rs

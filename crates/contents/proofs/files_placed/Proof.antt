@@ -5,12 +5,12 @@ use native.Mathlib.Omega.{arith}
 use denote.Ref.{now}
 use borrow.Author.Needs.{needs}
 use Rattle.contents.proofs.Table.{table-known}
-use Rattle.contents.proofs.FilesPlaced.{Passed, passed-none, passed-more, passed-stop, passed-all}
+use Rattle.contents.proofs.FilesPlaced.{FilesPassed, passed-none, passed-more, passed-stop, passed-all}
 use Rattle.contents.proofs.files_placed.Statement.{statement}
 use Rattle.contents.proofs.files_placed.Tie as tie
 
 abbrev Inv-loop : tie.InvT-loop
-Inv-loop binder count end₀ i₀ end i = Passed binder count end i
+Inv-loop binder count end₀ i₀ end i = FilesPassed binder count end i
 
 abbrev μ-loop : tie.MeasureT-loop
 μ-loop binder count end₀ i₀ end i = count - i

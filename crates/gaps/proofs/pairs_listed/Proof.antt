@@ -13,7 +13,7 @@ use Rattle.field.specs.Airspace.{orderOf, orderLength}
 use Rattle.field.proofs.FieldKnown.{field-known}
 use Rattle.field.proofs.Shapes.{order-fits}
 use Rattle.gaps.specs.declared.Pair.{Pair}
-use Rattle.gaps.proofs.Pairs.{Found, found-none, found-same, found-more, found-all}
+use Rattle.gaps.proofs.Pairs.{PairsFound, found-none, found-same, found-more, found-all}
 use Rattle.gaps.proofs.pairs_listed.Statement.{statement}
 use Rattle.gaps.proofs.pairs_listed.Tie as tie
 
@@ -22,7 +22,7 @@ record Passed (f : Field) (spacing : ℕ) (s : Sequence) (end : ℕ) (pairs : Li
   pub low : 1 ≤ i
   pub whole : end ≡ length (orderOf s)
   pub fits : end ≤ 4
-  pub found : Found f spacing s pairs count i
+  pub found : PairsFound f spacing s pairs count i
 
 abbrev Inv-loop : tie.InvT-loop
 Inv-loop f spacing s end pairs₀ count₀ i₀ pairs count i = Passed f spacing s end pairs count i

@@ -4,9 +4,10 @@ use Prim.Native.Nat.{_-_, _≤_}
 use native.Mathlib.Omega.{arith}
 use borrow.Author.Needs.{needs}
 use borrow.Author.Tests.{le-leb, lt-leb}
+use Rattle.limits.specs.Limits.{mostKept}
 use Rattle.field.proofs.TestParts.{and-then, and-cut, holds, fails}
 use Rattle.finder.specs.Finder.{withinBoundsIndexed}
-use Rattle.history.specs.History.{keptWithinBounds, mostKept}
+use Rattle.history.specs.History.{keptWithinBounds}
 use Rattle.history.proofs.HistoryKnown.{history-known}
 use Rattle.history.proofs.KeptTested.{Tested, tested-none, tested-more, tested-not, tested-all}
 use Rattle.history.proofs.kept_within_bounds.Statement.{statement}

@@ -1,4 +1,4 @@
--- `writer::first_offence` meets its contract. The loop's invariant is `Found`. Assumes nothing.
+-- `writer::first_offence` meets its contract. The loop's invariant is `OffenceFound`. Assumes nothing.
 use Prim.Native.Nat.{_-_, _<_}
 use native.Mathlib.Omega.{arith}
 use lib.ListN.{length}
@@ -6,12 +6,12 @@ use denote.Ref.{now}
 use borrow.Author.Needs.{needs}
 use Rattle.practice.specs.Requests.{requestsOf}
 use Rattle.practice.proofs.Requests.{count}
-use Rattle.writer.proofs.Offences.{Found, found-none, found-first, found-before, found-all}
+use Rattle.writer.proofs.Offences.{OffenceFound, found-none, found-first, found-before, found-all}
 use Rattle.writer.proofs.first_offence.Statement.{statement}
 use Rattle.writer.proofs.first_offence.Tie as tie
 
 abbrev Inv-loop : tie.InvT-loop
-Inv-loop requests n number₀ i₀ number i = Found (requestsOf requests) number i
+Inv-loop requests n number₀ i₀ number i = OffenceFound (requestsOf requests) number i
 
 abbrev μ-loop : tie.MeasureT-loop
 μ-loop requests n number₀ i₀ number i = n - i

@@ -1,4 +1,4 @@
--- `field::airspace::arrived_by_miss` meets its contract, by those of `progress_into`, `missed_leg` and `on_leg`. Assumes nothing.
+-- `field::airspace::arrived_by_miss` meets its contract, by those of `progress_into`, `leg_after_miss` and `on_leg`. Assumes nothing.
 use mathlib.Core.Path.{_∙_}
 use borrow.Author.Needs.{needs}
 use Rattle.field.specs.Airspace.{onLeg, arrivedByMiss}

@@ -12,36 +12,31 @@ use Rattle.request.specs.declared.Request.{Request}
 use Rattle.request.proofs.InputTests.{within-low, within-high, within-above, Passed, passed}
 use Rattle.field.specs.declared.Aircraft.{Aircraft}
 use Rattle.field.specs.declared.Field.{Field}
-use Rattle.field.specs.Airspace.{nobody, sideOf, everywhere, inZone}
+use Rattle.field.specs.Airspace.{nobody, everywhere, inZone}
 use Rattle.field.specs.Lists.{isIn}
-use Rattle.field.proofs.TestLaws.{pass, each-from}
+use Rattle.field.proofs.TestLaws.{pass}
 use Rattle.questions.specs.declared.Place.{Place}
 use Rattle.questions.specs.Counts.{howMany}
 use Rattle.questions.specs.Find.{aircraftAt, numbersIn}
 use Rattle.questions.proofs.FindLaws.{at, found-exactly, found-there}
 use Rattle.bounds.specs.Bounds.{withinBounds}
-use Rattle.laws.proofs.EditLaws.{Shaped}
 use Rattle.rules.specs.Kinds.{placeBefore, zoneBefore, headChecks, presenceChecks, startsFrom}
 use Rattle.rules.specs.Step.{checksOf}
 use Rattle.rules.proofs.Checks.{HeadPassed, besides, owned, checks-at, head-passed, checks-refuse}
 use Rattle.rules.proofs.Refusals.{Passes}
-use Rattle.kept_up.proofs.Queues.{Heads}
 
--- the side of a side
-pub side-own : (s : ℕ) → 1 ≤ s → s ≤ 2 → sideOf s ≡ s
-unfolding sideOf
-side-own s low high = each-from 1 2 (λ s. sideOf s ≡ s) (refl, (refl, tt)) s low (omega (arith, high))
+-- the head of a zone's queue, with a number
+pub record HeadOfQueue (f : Field) (n z : ℕ) : Type 0 where
+  pub head : Aircraft
+  pub behind : List Aircraft
+  pub here : inZone f z ≡ head ∷ behind
+  pub named : head .number ≡ n
 
 -- the one zone that a kind starts from
-pub only : (n z : ℕ) → within n n z ≡ true → z ≡ n
-only n z t = let l = within-low n n z t in let h = within-high n n z t in omega (arith, l, h)
+pub only-zone : (n z : ℕ) → within n n z ≡ true → z ≡ n
+only-zone n z t = let l = within-low n n z t in let h = within-high n n z t in omega (arith, l, h)
 
--- a request that is accepted, of a field whose arrays have their places
-pub record Accepted (f : Field) (r : Request) : Type 0 where
-  pub shaped : Shaped f
-  pub passed : Passes f r
-
-module _ {f : Field} {r : Request} (a : Accepted f r) where
+module _ {f : Field} {r : Request} (a : Passes f r) where
   abbrev from : ℕ
   from = zoneBefore f r
 
@@ -50,11 +45,11 @@ module _ {f : Field} {r : Request} (a : Accepted f r) where
 
   -- the field is within the bounds
   pub bounded : T (withinBounds f)
-  bounded = pass (a .passed .before)
+  bounded = pass (a .before)
 
   -- every check of its kind passes
   pub all-pass : {k : ℕ} → r .kind ≡ k → Passed (presenceChecks k (placeBefore f r) (owned f r) ++ besides f r k)
-  all-pass q = subst Passed (checks-at f r q) (passed (checksOf f r) (checks-refuse f r) (a .passed .checks))
+  all-pass q = subst Passed (checks-at f r q) (passed (checksOf f r) (checks-refuse f r) (a .checks))
 
   -- of a kind that is no entry and no tick
   module _ {k : ℕ} (q : r .kind ≡ k) (m : within 3 11 k ≡ true) where
@@ -64,12 +59,12 @@ module _ {f : Field} {r : Request} (a : Accepted f r) where
         let high = within-high 3 11 k m in
         let all : presenceChecks k (placeBefore f r) (owned f r) ≡ headChecks k (placeBefore f r) (owned f r) = simp (within-above 1 2 k (omega arith), ne-eqb k 12 (λ t. omega arith)) in
         head-passed k (placeBefore f r) (owned f r) (besides f r k)
-        (ap (λ (l : List (ℕ × Bool)). firstRefused (l ++ besides f r k)) (sym all) ∙ sym (ap firstRefused (checks-at f r q)) ∙ a .passed .checks)
+        (ap (λ (l : List (ℕ × Bool)). firstRefused (l ++ besides f r k)) (sym all) ∙ sym (ap firstRefused (checks-at f r q)) ∙ a .checks)
 
     pub found : placeBefore f r ≡ at from 1
     found = ap (at from) (eqb-true (placeBefore f r .place) 1 (heading .first))
 
-    pub heads : Heads f n from
+    pub heads : HeadOfQueue f n from
     unfolding howMany aircraftAt
     heads =
         let present : isIn n (numbersIn f everywhere) ≡ true = is-in (isIn n (numbersIn f everywhere)) (found-exactly f n) (heading .known) in
@@ -80,7 +75,7 @@ module _ {f : Field} {r : Request} (a : Accepted f r) where
         is-in true a c = refl
         is-in false a c = absurd (true≢false (sym c ∙ ap not a))
 
-        go : (l : List Aircraft) → inZone f from ≡ l → 1 ≤ length l → getD (nobody ∷ l) 1 nobody .number ≡ n → Heads f n from
+        go : (l : List Aircraft) → inZone f from ≡ l → 1 ≤ length l → getD (nobody ∷ l) 1 nobody .number ≡ n → HeadOfQueue f n from
         go [] i a b = absurd (omega arith)
         go (x ∷ l) i a b = record { head = x; behind = l; here = i; named = b }
 
@@ -91,4 +86,4 @@ module _ {f : Field} {r : Request} (a : Accepted f r) where
   -- a miss finds somebody on final
   pub on-final : r .kind ≡ 10 → 1 ≤ howMany f 12
   unfolding startsFrom
-  on-final q = subst (λ (z : ℕ). 1 ≤ howMany f z) (only 12 from (heading q refl .starts)) (some q refl)
+  on-final q = subst (λ (z : ℕ). 1 ≤ howMany f z) (only-zone 12 from (heading q refl .starts)) (some q refl)
