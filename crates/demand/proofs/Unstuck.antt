@@ -135,27 +135,24 @@ module _ (f : Side) (x : Aircraft) (b : List Placed) (legs : Legs) where
     abbrev e : Placed
     e = record { zone = z; aircraft = x }
 
+    -- its zone is one of the operation area
     z-in : T (within 1 12 z)
     z-in = zone-in f [] e b [] legs (s .orderly)
 
-    place : placeOf (G z) (x .number) ≡ at z 1
-    place = located f [] e b [] legs (s .orderly .different) z-in
-
-    here : aircraftAt (G z) z 1 ≡ x
-    here = head-there f [] e b [] legs (s .orderly .different) z-in refl
-
+    -- it is at the head there
     heads : HeadOfZone (G z) z x
     heads =
         record {
-          place = place;
-          here = here;
+          place = located f [] e b [] legs (s .orderly .different) z-in;
+          here = head-there f [] e b [] legs (s .orderly .different) z-in refl;
           zone = leb→le 1 z (and-l (leb 1 z) (leb z 12) z-in);
           named = and-l (nonzero (x .number)) (every nonzero (numbersOf b ++ [])) (s .orderly .nonzeros);
           desk = desk-of legs z x (fit-here f [] e b [] legs (s .orderly));
         }
 
+    -- where look-up finds it
     zone-before : placeOf (G z) (x .number) .zone ≡ z
-    zone-before = ap (λ (p : Place). p .zone) place
+    zone-before = ap (λ (p : Place). p .zone) (heads .place)
 
     -- nobody is ahead of it, whatever is asked of the leader's zone
     leads : (low high : ℕ) → (isFirst (G z .sequence) (x .number) || within low high (leaderZone (G z) (x .number))) ≡ true
@@ -169,7 +166,7 @@ module _ (f : Side) (x : Aircraft) (b : List Placed) (legs : Legs) where
         let high = leb→le z 12 (and-r (leb 7 z) (leb z 12) u) in
         let t = every-from (λ y. every legFlownOut (inZone (G z) y)) 7 6 (s .flown) z low (omega arith) in
         let q = subst (λ (l : List Aircraft). T (every legFlownOut l)) (in-line f (lineFrom z) [] legs z z-in ∙ inside-at [] e b) t in
-        ap (λ (y : ℕ). legFlownOut (aircraftAt (G z) y 1)) zone-before ∙ ap legFlownOut here ∙ passed (and-l (legFlownOut x) (every legFlownOut (inside z b)) q)
+        ap (λ (y : ℕ). legFlownOut (aircraftAt (G z) y 1)) zone-before ∙ ap legFlownOut (heads .here) ∙ passed (and-l (legFlownOut x) (every legFlownOut (inside z b)) q)
 
     -- how many are in a zone, by the model
     counted : (w : ℕ) → T (within 1 12 w) → howMany (G z) w ≡ count (z ∷ zonesIn b) w

@@ -2,7 +2,7 @@
 use mathlib.Core.Path.{_≡_, refl, ap, _∙_, subst⁻¹}
 use mathlib.Core.Logic.{_≢_}
 use mathlib.Core.Bool.{true, false}
-use Prim.Native.Nat.{ℕ, _+_, _≤_}
+use Prim.Native.Nat.{ℕ, _≤_}
 use native.Mathlib.Omega.{arith}
 use Rattle.leg.specs.Ticks.{Between}
 use Rattle.request.specs.Input.{within}
@@ -69,7 +69,6 @@ module _ (f : Field) (r : Request) where
     pub staying : within 8 9 (r .kind) ≡ false
     pub above : MayMakeRoom f w
     pub start : 3 ≤ from
-    pub apart : from ≢ 2 + w
     pub head : placeBefore f r ≡ at from 1
     pub led : Led (madeRoom f w) g n from w
 

@@ -45,6 +45,7 @@ module _ {f : Field} {r : Request} (a : AcceptedRequest f r) where
     pub high : sideOf from ≤ 2
     pub zone : from ≡ 6 + sideOf from
 
+  -- of a zone that is 7 or 8
   missed-side : within 7 8 from ≡ true → Missed
   unfolding sideOf
   missed-side t =
@@ -69,9 +70,11 @@ module _ {f : Field} {r : Request} (a : AcceptedRequest f r) where
     abbrev s : ℕ
     s = sideOf from
 
+    -- whoever is at 3000 can make room
     may-make-room : MayMakeRoom f s
     may-make-room = record { low = m .low; high = m .high; clear = none-below s (m .low) (m .high) (subst (λ (z : ℕ). 1 ≤ howMany f z) (m .zone) (some (a .passed) q refl)) }
 
+    -- it goes there, where the field after it is the one with room made and the head moved
     rises : g ≡ moved (madeRoom f s) from s → Rises f r s
     unfolding howMany
     rises same =
@@ -92,7 +95,6 @@ module _ {f : Field} {r : Request} (a : AcceptedRequest f r) where
           staying = ap (within 8 9) q;
           above = may-make-room;
           start = omega arith;
-          apart = λ t. omega (arith, t);
           head = found (a .passed) q refl;
           led = led-same (λ y. ap (λ (x : Field). inZone x y) same) (moved-led (emptied .shaped) may);
         }

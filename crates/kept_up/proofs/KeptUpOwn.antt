@@ -84,9 +84,11 @@ module _ {f : Field} {r : Request} (a : AcceptedRequest f r) where
   abbrev es : List Entry
   es = indexOf f .entries
 
+  -- the field after it is within the bounds
   after : T (withinBounds g)
   after = pass (a .passed .after)
 
+  -- the index finds every number where look-up finds it
   looked : (n : ℕ) → n ≢ 0 → foundAmong n es ≡ placeOf f n
   unfolding foundIn
   looked n u = sym (if-false _ _ (ne-eqb n 0 u)) ∙ found-as-looked f (bounded (a .passed)) n
@@ -257,6 +259,7 @@ module _ {f : Field} {r : Request} (a : AcceptedRequest f r) where
       ∙ if-true _ _ three
       ∙ p
 
+  -- one that was on the field
   came-from : 1 ≤ from → eqb from 0 ≡ false
   came-from low = ne-eqb from 0 (λ z. omega (arith, z, low))
 
