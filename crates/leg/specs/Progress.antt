@@ -73,7 +73,7 @@ abbrev pub remaining : Progress → Float → Float
 remaining Waiting leg = leg
 remaining (Flying miles) leg = sub binary64 leg miles
 
--- the leg ahead on a miss, with this progress on this leg of final: the missed leg and the rest of this one, their sum rounded once (02, 2.7)
+-- the own leg after a miss, with this progress on this leg of final: the missed leg and the rest of final, their sum rounded once (02, 2.7)
 unfoldable pub legAfterMiss : Float → Progress → Float → Float
 legAfterMiss missed p last = add binary64 missed (remaining p last)
 

@@ -85,7 +85,7 @@ pub fn remaining(p: Progress, leg: f64) -> f64
     }
 }
 
-// The leg ahead on a miss: the missed leg and what is left of the last one, the sum rounded once.
+// The own leg after a miss: the missed leg and what is left of the last one, the sum rounded once.
 pub fn leg_after_miss(missed: f64, p: Progress, last: f64) -> f64
     ensures { λ r. ⌜ r ≡ legAfterMiss missed p last ⌝ }
 {

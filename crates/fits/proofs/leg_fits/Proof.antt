@@ -8,21 +8,21 @@ use borrow.Author.Needs.{needs}
 use Rattle.fits.proofs.leg_fits.Statement.{statement}
 use Rattle.fits.proofs.leg_fits.Tie as tie
 
-legal-missed-requires : tie.Need-legal-missed-requires
-legal-missed-requires c κs = search needs
+legal-after-miss-requires : tie.Need-legal-after-miss-requires
+legal-after-miss-requires c κs = search needs
 
 returns : tie.Need-returns
 unfolding legFits
-returns c = sym (cond-then _ (or-first _ (eq-eqb _ _ (c .before .if1 .taken))) (sym (c .legal-missed .ensures)))
+returns c = sym (cond-then _ (or-first _ (eq-eqb _ _ (c .before .if1 .taken))) (sym (c .legal-after-miss .ensures)))
 
-legal-missed-requires-2 : tie.Need-legal-missed-requires-2
-legal-missed-requires-2 c κs = search needs
+legal-after-miss-requires-2 : tie.Need-legal-after-miss-requires-2
+legal-after-miss-requires-2 c κs = search needs
 
 returns-2 : tie.Need-returns-2
 unfolding legFits
 returns-2 c =
     let at2 = c .before in
-    sym (cond-then _ (or-else (ne-eqb _ _ (at2 .before .if1 .left)) (eq-eqb _ _ (at2 .if2 .taken))) (sym (c .legal-missed2 .ensures)))
+    sym (cond-then _ (or-else (ne-eqb _ _ (at2 .before .if1 .left)) (eq-eqb _ _ (at2 .if2 .taken))) (sym (c .legal-after-miss2 .ensures)))
 
 leg-of-requires : tie.Need-leg-of-requires
 leg-of-requires c κs = search needs
@@ -35,4 +35,4 @@ returns-3 c =
     sym (cond-else _ (or-else (ne-eqb _ _ (at2 .before .if1 .left)) (ne-eqb _ _ (at2 .if2 .left))) (sym (ap (eq (s .leg)) (c .leg-of .ensures))))
 
 pub leg-fits-spec : {M : Type 1} → statement M
-leg-fits-spec = tie.close (tie.spec legal-missed-requires returns legal-missed-requires-2 returns-2 leg-of-requires returns-3)
+leg-fits-spec = tie.close (tie.spec legal-after-miss-requires returns legal-after-miss-requires-2 returns-2 leg-of-requires returns-3)
