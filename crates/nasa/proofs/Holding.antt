@@ -105,7 +105,9 @@ module _ (f : Field) (h : T (hasPlaces f)) (r : Request) (k : r .kind ≡ 11) (e
 
     -- .. and then the request's aircraft goes to 3000
     abbrev above : Move g (maz s) (holding3 s)
-    above = record { shaped = moved-shaped below; first = record { x = a .first .x; rest = a .first .rest; here = g-missed }; apart = λ q. unlike (maz s) (holding3 s) to-upper (sym q); room = g-room }
+    above =
+        let first : First g (maz s) = record { x = a .first .x; rest = a .first .rest; here = g-missed } in
+        record { shaped = moved-shaped below; first = first; apart = λ q. unlike (maz s) (holding3 s) to-upper (sym q); room = g-room }
 
     both : stateOf (moved g zn up) ≡ add (withQueue (there F (holding2 s)) (maz s) (map (seen f zn) (a .first .rest))) (holding3 s) (seen f zn (a .first .x))
     unfolding moved tailPut headGone withZone

@@ -116,24 +116,23 @@ module _ (f g : Field) (w : ℕ) where
 
   -- the first of the sequence is gone: each is lowered by one
   module _ {y : field.Aircraft} (b : FirstInSequence f y) (not-runway : eqb w 13 ≡ false) where
-    abbrev n₁ : ℕ
-    n₁ = y .number
-
-    one-lowered : (x : field.Aircraft) → eqb (x .number) n₁ ≡ false → before (x .number) (orderOf (g .sequence)) ≡ before (x .number) (b .behind) → seen g w x ≡ asSeen (seen f w x .seq - 1) (x .fix)
+    one-lowered : (x : field.Aircraft) → eqb (x .number) (y .number) ≡ false → before (x .number) (orderOf (g .sequence)) ≡ before (x .number) (b .behind)
+        → seen g w x ≡ asSeen (seen f w x .seq - 1) (x .fix)
     one-lowered x a h =
         let m = x .number in
-        let later : before m (orderOf (f .sequence)) ≡ suc (before m (b .behind)) = ap (before m) (b .order) ∙ if-false 0 (suc (before m (b .behind))) (flip-eqb m n₁ a) in
+        let later : before m (orderOf (f .sequence)) ≡ suc (before m (b .behind)) = ap (before m) (b .order) ∙ if-false 0 (suc (before m (b .behind))) (flip-eqb m (y .number) a) in
         let less : suc (before m (b .behind)) ≡ suc (before m (orderOf (f .sequence))) - 1 = omega arith in
         ap (λ (b : Bool). asSeen (cond b 1 (suc (before m (orderOf (g .sequence))))) (x .fix)) not-runway
         ∙ ap (λ (b : ℕ). asSeen (suc b) (x .fix)) h
         ∙ ap (λ (b : ℕ). asSeen b (x .fix)) less
         ∙ ap (λ (b : Bool). asSeen (cond b 1 (suc (before m (orderOf (f .sequence)))) - 1) (x .fix)) (sym not-runway)
 
-    pub seen-lowered : (xs : List field.Aircraft) → isIn n₁ (numbers xs) ≡ false → ((m : ℕ) → isIn m (numbers xs) ≡ true → before m (orderOf (g .sequence)) ≡ before m (b .behind))
+    pub seen-lowered : (xs : List field.Aircraft) → isIn (y .number) (numbers xs) ≡ false → ((m : ℕ) → isIn m (numbers xs) ≡ true → before m (orderOf (g .sequence)) ≡ before m (b .behind))
         → map (seen g w) xs ≡ decrease (map (seen f w) xs)
     seen-lowered [] a h = refl
     seen-lowered (x ∷ xs) a h =
         let m = x .number in
-        ap (λ (c : ScaAircraft). c ∷ map (seen g w) xs) (one-lowered x (or-false-left (eqb m n₁) (isIn n₁ (numbers xs)) a) (h m (ap (λ (b : Bool). b || isIn m (numbers xs)) (same m))))
+        let later = isIn (y .number) (numbers xs) in
+        ap (λ (c : ScaAircraft). c ∷ map (seen g w) xs) (one-lowered x (or-false-left (eqb m (y .number)) later a) (h m (ap (λ (b : Bool). b || isIn m (numbers xs)) (same m))))
         ∙ ap (λ (l : List ScaAircraft). asSeen (seen f w x .seq - 1) (x .fix) ∷ l)
-        (seen-lowered xs (or-false-right (eqb m n₁) (isIn n₁ (numbers xs)) a) (λ j i. h j (ap (λ (b : Bool). eqb m j || b) i ∙ or-true (eqb m j))))
+        (seen-lowered xs (or-false-right (eqb m (y .number)) later a) (λ j i. h j (ap (λ (b : Bool). eqb m j || b) i ∙ or-true (eqb m j))))

@@ -131,9 +131,6 @@ module _ {f : Field} {z w : ScaZone} (m : Move f z w) where
   abbrev gone : Field
   gone = headGone f zn
 
-  abbrev x : field.Aircraft
-  x = m .first .x
-
   -- the field after it keeps its places
   pub moved-shaped : Shaped (moved f zn wn)
   unfolding moved
@@ -158,9 +155,9 @@ module _ {f : Field} {z w : ScaZone} (m : Move f z w) where
   put-elsewhere a y h j = queue-kept gone wn (withTail (zoneOf gone wn) a) y j ∙ gone-there f zn y h
 
   -- not on the runway before or after, it has the same sequence number and fix as it arrives, ..
-  seen-there : eqb zn 13 ≡ eqb wn 13 → seen f wn (arrived (f .legs) wn x) ≡ seen f zn x
+  seen-there : eqb zn 13 ≡ eqb wn 13 → seen f wn (arrived (f .legs) wn (m .first .x)) ≡ seen f zn (m .first .x)
   unfolding arrived onLeg
-  seen-there alike = ap (λ (b : Bool). asSeen (cond b 1 (suc (before (x .number) (orderOf (f .sequence))))) (x .fix)) (sym alike)
+  seen-there alike = ap (λ (b : Bool). asSeen (cond b 1 (suc (before (m .first .x .number) (orderOf (f .sequence))))) (m .first .x .fix)) (sym alike)
 
   -- .. and the state has it there
   pub moved-state : eqb zn 13 ≡ eqb wn 13 → stateOf (moved f zn wn) ≡ there (m .first) w
@@ -176,15 +173,15 @@ module _ {f : Field} {z w : ScaZone} (m : Move f z w) where
       own : (y : ℕ) → List ScaAircraft
       own y = map (seen f y) (inZone f y)
 
-      arrives : seen f wn a ≡ seen f zn x
+      arrives : seen f wn a ≡ seen f zn (m .first .x)
       arrives = ap (λ (c : field.Aircraft). seen f wn (arrived (f .legs) wn c)) (head-first (m .first)) ∙ seen-there alike
 
-      at-end : map (seen f wn) (inZone (moved f zn wn) wn) ≡ cond (eqb wn zn) left (own wn) ++ (seen f zn x ∷ [])
+      at-end : map (seen f wn) (inZone (moved f zn wn) wn) ≡ cond (eqb wn zn) left (own wn) ++ (seen f zn (m .first .x) ∷ [])
       at-end =
           ap (map (seen f wn)) (put-there a)
           ∙ map-append (seen f wn) (inZone f wn) (a ∷ [])
           ∙ ap (λ (c : ScaAircraft). own wn ++ (c ∷ [])) arrives
-          ∙ ap (λ (l : List ScaAircraft). l ++ (seen f zn x ∷ [])) (sym (if-false left (own wn) (ne-eqb wn zn (m .apart))))
+          ∙ ap (λ (l : List ScaAircraft). l ++ (seen f zn (m .first .x) ∷ [])) (sym (if-false left (own wn) (ne-eqb wn zn (m .apart))))
 
       queues : (y : ScaZone) → stateOf (moved f zn wn) .queue y ≡ there (m .first) w .queue y
       queues y =
