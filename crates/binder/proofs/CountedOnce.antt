@@ -29,7 +29,7 @@ use Rattle.owners.proofs.OneDesk.{one-desk}
 use Rattle.practice.proofs.FileReadBack.{from-bytes}
 use Rattle.rules.proofs.StepLaws.{number-is}
 use Rattle.line.proofs.CountedOnLine.{total-add, total-none}
-use Rattle.playing.specs.Playing.{legsInMiles, answersFrom, requestsHeld, answersHeld, requestsOfFile, answersOf}
+use Rattle.playing.specs.Playing.{legsInMiles, answersFrom, requestsOfPractice, answersOfPractice, requestsOfFile, answersOf}
 use Rattle.playing.proofs.Playing.{length-answers}
 use Rattle.binder.specs.Counting.{requestsIn, answersIn, rowOf, rows, columns, isAnswered, answered, tableSum, filesNumbered, CountedOnce}
 
@@ -158,7 +158,7 @@ headed-file file =
     let legs = legsOf (legsBody file) in
     let bytes = requestsBody file in
     let asked = subst (AllAskedBy 1) (from-bytes bytes) (all-of-1 (requestsOf bytes)) in
-    either-way (λ (p : Practice). Headed (answersHeld p)) (eqb (fileNumber file) 0) (holds legs (requestsOf bytes)) (refused (fileNumber file))
+    either-way (λ (p : Practice). Headed (answersOfPractice p)) (eqb (fileNumber file) 0) (holds legs (requestsOf bytes)) (refused (fileNumber file))
     (λ e. headed-played (emptyField (legsInMiles legs)) (requestsOf bytes) (one-desk (legsInMiles legs) (requestsOf bytes) asked))
     (λ e. tt)
 
@@ -171,7 +171,7 @@ length-file : (file : List ℕ) → length (answersOf file) ≡ length (requests
 unfolding answersOf requestsOfFile
 length-file file = by (practiceOf file)
   where
-    by : (p : Practice) → length (answersHeld p) ≡ length (requestsHeld p)
+    by : (p : Practice) → length (answersOfPractice p) ≡ length (requestsOfPractice p)
     by (refused number) = refl
     by (holds legs requests) = length-answers (legsInMiles legs) requests
 

@@ -4,7 +4,6 @@ use mathlib.Core.Bool.{Bool, cond}
 use mathlib.Core.List.{List, [], _∷_, _++_, map, append-assoc, append-nil}
 use Prim.Native.Nat.{ℕ, zero, suc, _+_, _*_, _≤_, _<_}
 use native.Mathlib.Omega.{arith}
-use lib.Dec.{eqb}
 use lib.ListN.{length, getD, take, drop}
 use lib.Seq.{drop-cons}
 use borrow.Author.Tests.{eq-eqb, ne-eqb}
@@ -13,12 +12,11 @@ use Rattle.practice.specs.Sections.{stretch}
 use Rattle.rules.specs.declared.Answer.{Answer}
 use Rattle.rules.specs.Play.{moves}
 use Rattle.contents.specs.Contents.{binderNumber, filesOf}
-use Rattle.binder.specs.declared.counts.Counts.{Counts}
 use Rattle.binder.specs.Counting.{answersIn, rows, columns, answered, landings, filesNumbered}
 use Rattle.binder.specs.Week.{filesLine, refusedFilesLine, headingLine, rowLine, rowLines, movesLine, landingsLine, refusedBinder, filesReport, weekOf}
 use Rattle.binder.specs.Counts.{rowAt, emptyCounts, countsOf, rowsTo, weekLines}
 use Rattle.binder.proofs.Adding.{small-none}
-use Rattle.binder.proofs.Sums.{columnAt, Summed, counts-summed}
+use Rattle.binder.proofs.Sums.{Summed, counts-summed}
 
 -- a stretch of a list that holds, place by place, what a function gives for another list
 stretch-map : (f : ℕ → ℕ) (ns l : List ℕ) (at : ℕ) → at + length ns ≤ length l → ((k : ℕ) → k < length ns → getD l (at + k) 0 ≡ f (getD ns k 0)) → take (length ns) (drop at l) ≡ map f ns

@@ -4,7 +4,7 @@ use mathlib.Core.Bool.{Bool, true, false, not, cond, _&&_}
 use mathlib.Core.List.{List, [], _∷_, _++_, append-nil}
 use Prim.Native.Nat.{ℕ, zero, suc, _+_, _-_, _*_, _≤_, _<_}
 use native.Mathlib.Omega.{arith}
-use lib.Dec.{T, leb, eqb, leb→le}
+use lib.Dec.{T, eqb}
 use lib.ListN.{length, getD, set, drop, length-set, length-replicate, drop-of-length-le}
 use lib.Seq.{getD-set-same, getD-set-other}
 use borrow.Author.Tests.{eq-eqb, ne-eqb, eqb-true, eqb-false}
@@ -13,19 +13,18 @@ use Rattle.request.specs.declared.Request.{Request}
 use Rattle.request.proofs.InputTests.{within-low, within-high}
 use Rattle.field.specs.Lists.{every}
 use Rattle.field.specs.Airspace.{zonesFrom}
-use Rattle.field.proofs.TestLaws.{every-from, pass}
+use Rattle.field.proofs.TestLaws.{every-from}
 use Rattle.practice.specs.File.{fileNumber}
 use Rattle.rules.specs.declared.Answer.{Answer}
 use Rattle.rules.specs.Play.{accepted, moves}
 use Rattle.playing.specs.Playing.{answersOf}
-use Rattle.playing.specs.Log.{logOf, kindAt, numberAt}
+use Rattle.playing.specs.Log.{logOf, numberAt}
 use Rattle.playing.proofs.Logs.{here-in, kind-here}
 use Rattle.binder.specs.declared.counts.Counts.{Counts}
 use Rattle.binder.specs.Counting.{answersIn, rowOf, rows, columns, isAnswered, answered, landings, filesNumbered}
 use Rattle.week_table.specs.Table.{rowPlace, columnPlace, cellOf}
 use Rattle.binder.specs.Counts.{rowAt, emptyCounts, withAnswer, withNumber, countedTo, withFile, withFiles, countsOf}
 use Rattle.binder.proofs.CountedOnce.{listed, Headed, headed-file}
-use Rattle.week_table.proofs.KindRows.{row-low}
 use Rattle.binder.proofs.Cells.{listed-low, column-low}
 
 -- ---- which place a row and a column have

@@ -1,7 +1,7 @@
 -- The report of the button after a file that is refused, and after one that holds a session; and how long it is. Assumes nothing.
 use mathlib.Core.Path.{_≡_, sym, ap, _∙_, subst}
-use mathlib.Core.List.{List, [], _∷_, _++_}
-use Prim.Native.Nat.{ℕ, _*_, _^_, _≤_, _<_}
+use mathlib.Core.List.{List, [], _∷_}
+use Prim.Native.Nat.{ℕ, _^_, _≤_, _<_}
 use native.Mathlib.Omega.{arith}
 use lib.ListN.{length, length-append}
 use Rattle.limits.specs.Limits.{mostMoves}
@@ -16,7 +16,7 @@ use Rattle.playing.specs.Playing.{fieldFrom, playedOf}
 use Rattle.playing.proofs.PlayedFiles.{legsHeld, requestsInside, practice-holds, practice-refused, played-held, file-legs-legal}
 use Rattle.press.specs.declared.Ending.{Ending}
 use Rattle.press.specs.declared.Ending.the-variants.{Refused, None, Spent}
-use Rattle.press.specs.HeldDown.{heldRequests, heldLines}
+use Rattle.press.specs.HeldDown.{heldRequests}
 use Rattle.emptied.proofs.Emptying.{emptied}
 use Rattle.session.specs.Report.{refusedReport}
 use Rattle.demonstration.specs.Demonstration.{endWord, endingLine, buttonReport, practiceButton, buttonOf}

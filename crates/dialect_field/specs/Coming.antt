@@ -12,7 +12,6 @@ use Rattle.field.specs.declared.Legs.{Legs}
 use Rattle.field.specs.declared.Field.{Field}
 use Rattle.field.specs.Airspace.{isSide, opposite, zoneOf, entering, emptyField}
 use Rattle.edits.specs.Edits.{withTail, appended, withZone, withSequence}
-use Rattle.finder.specs.declared.Indexed.{Indexed}
 use Rattle.finder.specs.Finder.{withinBoundsIndexed}
 use Rattle.indexed.specs.Indexed.{withIndex}
 use Rattle.playing.specs.Playing.{legsInMiles, noLegs}

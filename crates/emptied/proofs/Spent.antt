@@ -1,5 +1,5 @@
 -- A field within the bounds on which the button ends spent: nobody can move on it, and a tick moves nobody. Assumes nothing.
-use mathlib.Core.Path.{_≡_, refl, sym, ap, _∙_}
+use mathlib.Core.Path.{_≡_, sym, ap, _∙_}
 use mathlib.Core.Bool.{Bool, not, _&&_}
 use mathlib.Core.List.{List, [], _∷_}
 use Prim.Native.Nat.{ℕ, zero, suc}
@@ -10,16 +10,13 @@ use lib.ListN.{length}
 use borrow.Author.Tests.{eqb-false, ne-eqb}
 use Rattle.limits.specs.Limits.{mostPresses}
 use Rattle.request.specs.Input.{within}
-use Rattle.request.specs.declared.Request.{Request}
 use Rattle.field.specs.declared.Field.{Field}
 use Rattle.field.specs.Airspace.{everywhere}
 use Rattle.field.specs.Lists.{every}
 use Rattle.field.proofs.TestLaws.{failed, if-false, every-from}
 use Rattle.questions.specs.Counts.{presentOn}
-use Rattle.questions.specs.Find.{aircraftAt}
 use Rattle.rules.specs.Step.{stepOf}
 use Rattle.rules.specs.Play.{fieldAfter}
-use Rattle.rules.specs.Cases.{ask}
 use Rattle.rules.specs.Examples.{headAsks, stuck, NobodyMoves}
 use Rattle.rules.proofs.Cases.{nobody-moves}
 use Rattle.rules.proofs.StepLaws.{number-is}

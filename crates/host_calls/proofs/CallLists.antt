@@ -2,15 +2,14 @@
 -- nothing.
 use mathlib.Core.Path.{_≡_, refl, ap, _∙_}
 use mathlib.Core.Bool.{Bool, true, cond}
-use mathlib.Core.List.{List, [], _∷_, _++_, map}
-use Prim.Native.Nat.{ℕ}
+use mathlib.Core.List.{List, [], _∷_, map}
 use lib.Dec.{eqb}
 use Rattle.practice.specs.declared.FileLegs.{FileLegs}
 use Rattle.practice.specs.File.{legsAllowed}
 use Rattle.playing.specs.Playing.{legsInMiles}
 use Rattle.history.specs.declared.History.{History}
 use Rattle.history.specs.History.{startOf}
-use Rattle.taken_back.specs.Calls.{Call, request, back, called, playedCalls, afterCalls}
+use Rattle.taken_back.specs.Calls.{Call, request, back, called}
 use Rattle.host.specs.Calls.{HostCall, start, Reply, numberAlone}
 use Rattle.host.specs.Calls.{replyOf, leftBy}
 use Rattle.host_calls.specs.HostCalls.{repliesOf, leftByAll}

@@ -1,6 +1,6 @@
 -- From the start with legal legs, any list of a host's calls that go on amounts to a list of requests and steps back, and what holds of those holds of it: with
 -- demand 3, no 25, and a button that empties the field. Assumes nothing.
-use mathlib.Core.Path.{_≡_, refl, sym, ap, subst, subst⁻¹, _∙_}
+use mathlib.Core.Path.{_≡_, refl, sym, ap, subst⁻¹, _∙_}
 use mathlib.Core.Bool.{Bool, true, cond, not, _||_}
 use mathlib.Core.List.{List, [], _∷_, _++_, map}
 use Prim.Native.Nat.{ℕ, _≤_}

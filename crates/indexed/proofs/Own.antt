@@ -4,20 +4,18 @@ use mathlib.Core.Logic.{inl, inr}
 use mathlib.Core.Bool.{Bool, true, false, cond, _&&_}
 use mathlib.Core.List.{List, [], _∷_}
 use Prim.Native.Nat.{ℕ}
-use lib.Dec.{T, eqb}
-use borrow.Author.Tests.{eq-eqb, ne-eqb, eqb-false}
+use lib.Dec.{eqb}
+use borrow.Author.Tests.{eqb-false}
 use Rattle.request.specs.Input.{inputNumber}
 use Rattle.request.specs.declared.Request.{Request}
 use Rattle.field.specs.declared.Field.{Field}
 use Rattle.field.proofs.TestLaws.{decided, if-true, if-false, same}
 use Rattle.bounds.specs.Bounds.{withinBounds}
 use Rattle.finder.specs.declared.Entry.{Entry}
-use Rattle.finder.specs.declared.Index.{Index}
-use Rattle.finder.specs.declared.Indexed.{Indexed}
 use Rattle.finder.specs.Finder.{indexOf, sameEntry, sameEntries, sameIndex, withinBoundsIndexed}
 use Rattle.rules.specs.declared.Answer.{Answer}
 use Rattle.rules.specs.declared.Stepped.{Stepped}
-use Rattle.rules.specs.Step.{effectOf, numberOf, numberAndZeros, answerOf, stepOf}
+use Rattle.rules.specs.Step.{numberOf, numberAndZeros, stepOf}
 use Rattle.rules.specs.Play.{fieldAfter, played}
 use Rattle.step.proofs.StepsByTests.{number-by, turned-away}
 use Rattle.indexed.specs.declared.SteppedIndexed.{SteppedIndexed}

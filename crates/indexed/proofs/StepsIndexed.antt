@@ -1,6 +1,6 @@
 -- The number and the step on a field with an index beside it, and what the index finds on the way. Assumes nothing.
 use mathlib.Core.Path.{_≡_, refl, sym, ap, _∙_}
-use mathlib.Core.Bool.{Bool, true, false, cond, _&&_}
+use mathlib.Core.Bool.{Bool, true, false, cond}
 use Prim.Native.Nat.{ℕ}
 use lib.Dec.{T, eqb}
 use lib.Ieee.Fits.{and-l, and-r}
@@ -12,17 +12,14 @@ use Rattle.field.proofs.TestLaws.{passed, if-true, if-false}
 use Rattle.questions.specs.declared.Place.{Place}
 use Rattle.questions.specs.Find.{placeOf, leaderOf, leaderZone}
 use Rattle.bounds.specs.Bounds.{withinBounds}
-use Rattle.finder.specs.declared.Index.{Index}
 use Rattle.finder.specs.declared.Indexed.{Indexed}
 use Rattle.finder.specs.Finder.{indexOf, foundIn, sameIndex, withinBoundsIndexed}
 use Rattle.finder.proofs.IndexLaws.{same-equal, indexed-as-looked, index-ticked}
 use Rattle.rules.specs.declared.Answer.{Answer}
-use Rattle.rules.specs.Kinds.{zoneAhead}
 use Rattle.rules.specs.Step.{effectOf, numberOf, numberAndZeros, answerOf, stepOf}
 use Rattle.rules.proofs.StepLaws.{field-accepted, answer-accepted}
 use Rattle.rules.proofs.Ticking.{tick-effect}
 use Rattle.step.proofs.StepsByTests.{asked}
-use Rattle.indexed.specs.declared.SteppedIndexed.{SteppedIndexed}
 use Rattle.indexed.specs.Indexed.{withIndex, numberIndexed, stepIndexed}
 
 module _ (x : Indexed) (r : Request) where

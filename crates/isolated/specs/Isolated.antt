@@ -1,7 +1,7 @@
 -- Two desks (02, 2.10): the numbers of the other desk's aircraft renamed, and the claim that this changes no answer to this desk. Definitions only.
 use mathlib.Core.Path.{_≡_}
 use mathlib.Core.Bool.{cond}
-use mathlib.Core.List.{List, [], _∷_, map}
+use mathlib.Core.List.{List, map}
 use Prim.Native.Nat.{ℕ}
 use lib.Dec.{T, eqb}
 use lib.ListN.{length}

@@ -2,7 +2,7 @@
 use mathlib.Core.Path.{_≡_, refl, sym, ap, _∙_, subst}
 use mathlib.Core.Logic.{inl, inr}
 use mathlib.Core.Bool.{true, false, cond, not, _&&_, true≢false, false≢true}
-use mathlib.Core.List.{List, [], _∷_, _++_, append-assoc}
+use mathlib.Core.List.{List, [], _∷_, _++_}
 use Prim.Native.Nat.{ℕ}
 use native.Mathlib.Omega.{arith}
 use lib.Dec.{T, leb, eqb, leb→le, eqb→eq}
@@ -17,7 +17,7 @@ use Rattle.field.specs.declared.Legs.{Legs}
 use Rattle.field.specs.declared.Field.{Field}
 use Rattle.field.specs.Airspace.{sideOf, at3000, at2000}
 use Rattle.questions.specs.Counts.{howMany, isEmpty}
-use Rattle.questions.specs.Find.{placeOf, isFirst}
+use Rattle.questions.specs.Find.{isFirst}
 use Rattle.order.specs.Model.{Side, count, free, isNil, okay, one}
 use Rattle.order.proofs.Facts.{final-first, hold-ahead}
 use Rattle.rules.specs.Kinds.{placeBefore, zoneBefore, startsFrom, headChecks, moved, held}
@@ -25,7 +25,6 @@ use Rattle.rules.specs.Step.{effectOf}
 use Rattle.field.proofs.TestLaws.{passed, failed, decided, if-false, zones-imply}
 use Rattle.line.proofs.Line.{Placed, zonesIn, fieldOf}
 use Rattle.line.proofs.CountedOnLine.{lower, how-many-runway, none}
-use Rattle.questions.proofs.FindLaws.{at}
 use Rattle.line.proofs.Located.{first-there}
 use Rattle.line.proofs.Members.{count-append}
 use Rattle.line.proofs.Orderly.{Orderly, Split, first-in}

@@ -5,7 +5,6 @@ use mathlib.Core.List.{List, _∷_, _++_, append-assoc}
 use Prim.Native.Nat.{ℕ, _+_}
 use native.Mathlib.Omega.{arith}
 use lib.Dec.{T, eqb, eqb→eq}
-use lib.ListN.{length}
 use borrow.Author.Tests.{eq-eqb}
 use Rattle.request.specs.Input.{within}
 use Rattle.request.specs.declared.Request.{Request}

@@ -16,7 +16,7 @@ use Rattle.field.specs.declared.Field.{Field}
 use Rattle.questions.specs.declared.Place.{Place}
 use Rattle.field.specs.Airspace.{opposite, sideOf, at3000, at2000, base}
 use Rattle.questions.specs.Counts.{howMany, isEmpty}
-use Rattle.questions.specs.Find.{placeOf, isFirst, leaderZone}
+use Rattle.questions.specs.Find.{isFirst, leaderZone}
 use Rattle.order.specs.Model as model
 use Rattle.order.specs.Model.{Side, count, free, isNil, lastOr, Kind, descend, approaching, merge, final, hold, needs, target, weight, one}
 use Rattle.order.proofs.Facts.{okay-zones, moves}
@@ -29,7 +29,7 @@ use Rattle.field.proofs.ArrivalLaws.{into-arrived}
 use Rattle.line.proofs.AheadInLists.{map-append, every-left}
 use Rattle.line.proofs.Line.{Placed, zonesIn, numbersOf, fieldOf}
 use Rattle.line.proofs.CountedOnLine.{how-many, lower}
-use Rattle.questions.proofs.FindLaws.{numbers, at}
+use Rattle.questions.proofs.FindLaws.{numbers}
 use Rattle.line.proofs.Located.{first-there}
 use Rattle.line.proofs.Leaders.{nonzero, leader-zone}
 use Rattle.moves.proofs.Owners.{passing, same-desks}

@@ -1,34 +1,31 @@
 -- What an accepted request of kinds 3 to 11 tells of the field: where its aircraft is, and the queue there. Assumes nothing.
-use mathlib.Core.Path.{_≡_, refl, sym, ap, _∙_, subst}
+use mathlib.Core.Path.{_≡_, refl, sym, ap, _∙_}
 use mathlib.Core.Logic.{_≢_, _⊎_, inl, inr}
-use mathlib.Core.Bool.{Bool, true, false, cond, not, _&&_, _||_, true≢false}
-use mathlib.Core.List.{List, [], _∷_, _++_, map}
+use mathlib.Core.Bool.{Bool, true, false, not, _&&_, _||_, true≢false}
+use mathlib.Core.List.{List, [], _∷_, map}
 use Prim.Native.Nat.{ℕ, suc, _+_, _≤_, _<_}
 use native.Mathlib.Omega.{arith}
 use borrow.Author.Tests.{eqb-true, eqb-false}
 use lib.Dec.{T, eqb, leb, leb→le}
 use lib.Ieee.Fits.{and-l, and-r}
-use lib.ListN.{length, getD, length-map}
-use Rattle.request.specs.Input.{within, isEntry, isTick, firstRefused}
+use lib.ListN.{length, length-map}
+use Rattle.request.specs.Input.{within}
 use Rattle.request.specs.declared.Request.{Request}
 use Rattle.request.proofs.InputTests as input
 use Rattle.field.specs.declared.Aircraft as field
 use Rattle.field.specs.declared.Field.{Field}
-use Rattle.questions.specs.declared.Place.{Place}
-use Rattle.field.specs.Airspace.{nobody, inZone, operation, everywhere}
+use Rattle.field.specs.Airspace.{inZone, operation}
 use Rattle.field.specs.Lists.{isIn}
 use Rattle.questions.specs.Counts.{total, howMany, isEmpty, inOperation}
-use Rattle.questions.specs.Find.{aircraftAt, numbersIn}
 use Rattle.bounds.specs.Bounds.{boundA, withinBounds}
-use Rattle.rules.specs.Kinds.{placeBefore, zoneBefore, absentChecks, headChecks, presenceChecks}
+use Rattle.rules.specs.Kinds.{placeBefore, zoneBefore}
 use Rattle.rules.specs.Step.{numberOf}
 use Rattle.rules.specs.Reason.{hasPlaces}
 use Rattle.order.specs.Model.{Side, rightSide, leftSide}
 use Rattle.rules.proofs.HeadOfRequest as request
-use Rattle.rules.proofs.Checks.{HeadPassed, besides, owned, checks-at, head-passed}
+use Rattle.rules.proofs.Checks.{HeadPassed, besides, owned}
 use Rattle.rules.proofs.Refusals.{Passes, passes}
-use Rattle.field.proofs.TestLaws.{decided, pass, failed, if-false, each-operation}
-use Rattle.questions.proofs.FindLaws.{at, found-exactly, found-there}
+use Rattle.field.proofs.TestLaws.{decided, failed, each-operation}
 use Rattle.laws.proofs.EditLaws.{Shaped}
 use Rattle.laws.proofs.BoundLaws.{within-each}
 use Rattle.descent.proofs.Descent.{shaped}

@@ -1,37 +1,34 @@
 -- Where desk 1 asks alone, from an empty field, everyone is its own, so that neither 26 nor 31 is answered. Assumes nothing.
-use mathlib.Core.Path.{_≡_, refl, sym, ap, _∙_, subst}
-use mathlib.Core.Logic.{_⊎_, inl, inr}
-use mathlib.Core.Bool.{Bool, true, false, cond, not, _&&_, true≢false}
+use mathlib.Core.Path.{_≡_, sym, ap, _∙_, subst}
+use mathlib.Core.Logic.{inl, inr}
+use mathlib.Core.Bool.{Bool, true, cond, not, true≢false}
 use mathlib.Core.List.{List, [], _∷_, _++_}
-use Prim.Native.Nat.{ℕ, zero, suc, _≤_, _<_}
+use Prim.Native.Nat.{ℕ, zero, suc, _≤_}
 use native.Mathlib.Omega.{arith}
-use lib.Dec.{T, eqb, leb, leb→le}
+use lib.Dec.{T, eqb}
 use lib.Ieee.Fits.{and-l, and-r}
-use lib.ListN.{length, getD, replicate}
-use borrow.Author.Tests.{eqb-true, eq-eqb, ne-eqb}
+use lib.ListN.{length, getD}
+use borrow.Author.Tests.{eq-eqb}
 use Rattle.limits.specs.Limits.{desks}
 use Rattle.request.specs.Input.{within, isEntry, isTick, firstRefused, deskAllowed, kindAllowed, sideAllowed, numberAllowed, amountAllowed, inputNumber}
 use Rattle.request.specs.declared.Request.{Request}
-use Rattle.request.proofs.InputTests.{Numbered}
 use Rattle.field.specs.declared.Aircraft.{Aircraft}
 use Rattle.field.specs.declared.Legs.{Legs}
 use Rattle.field.specs.declared.Field.{Field}
 use Rattle.field.specs.Airspace.{nobody, emptyZone, emptyField, everywhere, inZone}
 use Rattle.field.specs.Lists.{isIn, every, Each}
-use Rattle.questions.specs.declared.Place.{Place}
 use Rattle.questions.specs.Counts.{howMany}
-use Rattle.questions.specs.Find.{placeOf, aircraftAt, numbersIn}
+use Rattle.questions.specs.Find.{aircraftAt, numbersIn}
 use Rattle.bounds.specs.Bounds.{withinBounds}
 use Rattle.fits.specs.Fits.{fitsZone}
-use Rattle.field.proofs.TestLaws.{pass, passed, failed, decided, if-true, if-false, either-way}
+use Rattle.field.proofs.TestLaws.{pass, decided, if-true, if-false, either-way}
 use Rattle.questions.proofs.FindLaws.{found-exactly, found-there, place-within}
 use Rattle.laws.proofs.BoundLaws.{within-each}
 use Rattle.laws.proofs.Fits.{fits-parts, all-fit}
-use Rattle.rules.specs.declared.Answer.{Answer}
 use Rattle.rules.specs.Kinds.{placeBefore, startsFrom, belongsTo, absentChecks, headChecks, presenceChecks}
 use Rattle.rules.specs.Step.{checksOf, effectOf, numberOf, stepOf}
 use Rattle.rules.specs.Play.{played}
-use Rattle.rules.proofs.Checks.{Never, never-without, never-append, owned, besides, inputNumbers, refused-append}
+use Rattle.rules.proofs.Checks.{Never, never-without, never-append, owned, besides, inputNumbers}
 use Rattle.rules.proofs.Checks.{by-kind, presence-refuses, checks-refuse, input-numbered, needNumbers, refused-by, checks-numbered}
 use Rattle.rules.proofs.StepLaws.{number-is}
 use Rattle.owners.specs.Owners.{AllAskedBy, NoDeskRefuses, OneDesk}

@@ -19,10 +19,9 @@ use Rattle.practice.proofs.Meaning.{held}
 use Rattle.field.specs.declared.Legs.{Legs}
 use Rattle.field.specs.Airspace.{emptyField}
 use Rattle.fits.specs.Fits.{legalLegs}
-use Rattle.rules.specs.declared.Answer.{Answer}
 use Rattle.demand.proofs.Flights.{legs-legal}
 use Rattle.playing.specs.declared.Played.{Played}
-use Rattle.playing.specs.Playing.{legsInMiles, noLegs, answersFrom, presentFrom, fieldFrom, requestsHeld, answersHeld, presentHeld, fieldHeld, requestsOfFile, answersOf, fieldOfFile, playedOf}
+use Rattle.playing.specs.Playing.{legsInMiles, noLegs, answersFrom, presentFrom, fieldFrom, requestsOfPractice, answersOfPractice, presentOfPractice, fieldOfPractice, requestsOfFile, answersOf, fieldOfFile, playedOf}
 use Rattle.playing.proofs.Playing.{length-answers}
 
 module _ (file : List ℕ) where
@@ -37,7 +36,7 @@ module _ (file : List ℕ) where
   requestsInside = requestsOf (requestsBody file)
 
   abbrev playedBy : Practice → Played
-  playedBy p = record { number = fileNumber file; requests = length (requestsHeld p); present = presentHeld p; field = fieldHeld p }
+  playedBy p = record { number = fileNumber file; requests = length (requestsOfPractice p); present = presentOfPractice p; field = fieldOfPractice p }
 
   module _ (e : fileNumber file ≡ 0) where
     pub practice-holds : practiceOf file ≡ holds (legsOf (legsBody file)) requestsInside
@@ -46,7 +45,7 @@ module _ (file : List ℕ) where
 
     pub answers-held : answersOf file ≡ answersFrom legsHeld requestsInside
     unfolding answersOf
-    answers-held = ap answersHeld practice-holds
+    answers-held = ap answersOfPractice practice-holds
 
     pub played-held : playedOf file ≡ record { number = 0; requests = length requestsInside; present = presentFrom legsHeld requestsInside; field = fieldFrom legsHeld requestsInside }
     unfolding playedOf requestsOfFile fieldOfFile
@@ -60,7 +59,7 @@ module _ (file : List ℕ) where
 
     pub answers-none : answersOf file ≡ []
     unfolding answersOf
-    answers-none = ap answersHeld practice-refused
+    answers-none = ap answersOfPractice practice-refused
 
     pub played-none : playedOf file ≡ record { number = fileNumber file; requests = 0; present = 0; field = emptyField (legsInMiles noLegs) }
     unfolding playedOf requestsOfFile fieldOfFile
@@ -91,7 +90,7 @@ pub answers-count : (file : List ℕ) → playedOf file .requests ≡ length (an
 unfolding playedOf requestsOfFile answersOf
 answers-count file = by (practiceOf file)
   where
-    by : (p : Practice) → length (requestsHeld p) ≡ length (answersHeld p)
+    by : (p : Practice) → length (requestsOfPractice p) ≡ length (answersOfPractice p)
     by (refused n) = refl
     by (holds legs requests) = sym (length-answers (legsInMiles legs) requests)
 

@@ -12,7 +12,6 @@ use Rattle.practice.specs.Requests.{readingAt}
 use Rattle.field.specs.declared.Field.{Field}
 use Rattle.field.specs.declared.Legs.{Legs}
 use Rattle.field.specs.Airspace.{emptyField}
-use Rattle.rules.specs.declared.Answer.{Answer}
 use Rattle.finder.specs.declared.Indexed.{Indexed}
 use Rattle.indexed.specs.declared.SteppedIndexed.{SteppedIndexed}
 use Rattle.indexed.specs.Indexed.{withIndex, numberIndexed, stepIndexed}

@@ -32,43 +32,43 @@ unfoldable pub fieldFrom : Legs → List Request → Field
 fieldFrom legs requests = fieldAfter (emptyField legs) requests
 
 -- the requests that a file plays
-abbrev pub requestsHeld : Practice → List Request
-requestsHeld (refused number) = []
-requestsHeld (holds legs requests) = requests
+abbrev pub requestsOfPractice : Practice → List Request
+requestsOfPractice (refused number) = []
+requestsOfPractice (holds legs requests) = requests
 
 -- each of them with its answer
-abbrev pub answersHeld : Practice → List (Request × Answer)
-answersHeld (refused number) = []
-answersHeld (holds legs requests) = answersFrom (legsInMiles legs) requests
+abbrev pub answersOfPractice : Practice → List (Request × Answer)
+answersOfPractice (refused number) = []
+answersOfPractice (holds legs requests) = answersFrom (legsInMiles legs) requests
 
 -- how many aircraft are present at the end
-abbrev pub presentHeld : Practice → ℕ
-presentHeld (refused number) = 0
-presentHeld (holds legs requests) = presentFrom (legsInMiles legs) requests
+abbrev pub presentOfPractice : Practice → ℕ
+presentOfPractice (refused number) = 0
+presentOfPractice (holds legs requests) = presentFrom (legsInMiles legs) requests
 
 -- the legs of a refused file, all 0
 abbrev pub noLegs : FileLegs
 noLegs = record { missed = 0; base = 0; intermediate = 0; «final_approach» = 0 }
 
 -- the field at the end; nobody is on the field of a refused file, which has no legs
-abbrev pub fieldHeld : Practice → Field
-fieldHeld (refused number) = emptyField (legsInMiles noLegs)
-fieldHeld (holds legs requests) = fieldFrom (legsInMiles legs) requests
+abbrev pub fieldOfPractice : Practice → Field
+fieldOfPractice (refused number) = emptyField (legsInMiles noLegs)
+fieldOfPractice (holds legs requests) = fieldFrom (legsInMiles legs) requests
 
 -- the requests that a file of these bytes plays
 unfoldable pub requestsOfFile : List ℕ → List Request
-requestsOfFile file = requestsHeld (practiceOf file)
+requestsOfFile file = requestsOfPractice (practiceOf file)
 
 -- each of them with its answer
 unfoldable pub answersOf : List ℕ → List (Request × Answer)
-answersOf file = answersHeld (practiceOf file)
+answersOf file = answersOfPractice (practiceOf file)
 
 -- the field after the last of them
 unfoldable pub fieldOfFile : List ℕ → Field
-fieldOfFile file = fieldHeld (practiceOf file)
+fieldOfFile file = fieldOfPractice (practiceOf file)
 
 -- what playing a file tells beside its answers: its number, how many requests were played, how many aircraft are present at the end, and the
 -- field at the end
 unfoldable pub playedOf : List ℕ → Played
 playedOf file =
-    record { number = fileNumber file; requests = length (requestsOfFile file); present = presentHeld (practiceOf file); field = fieldOfFile file }
+    record { number = fileNumber file; requests = length (requestsOfFile file); present = presentOfPractice (practiceOf file); field = fieldOfFile file }

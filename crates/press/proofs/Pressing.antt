@@ -1,11 +1,11 @@
 -- The button between two presses: what is put, what is left to play, and that the field is within the bounds. Assumes nothing.
 use mathlib.Core.Path.{_≡_, refl, sym, ap, _∙_, subst, subst⁻¹}
-use mathlib.Core.Logic.{_⊎_, inl, inr}
-use mathlib.Core.Bool.{Bool, true, false, cond, _&&_, _||_}
+use mathlib.Core.Logic.{inl, inr}
+use mathlib.Core.Bool.{Bool, true, false, cond, _&&_}
 use mathlib.Core.List.{List, [], _∷_, _++_}
 use Prim.Native.Nat.{ℕ, zero, suc, _+_, _*_, _≤_, _<_}
 use native.Mathlib.Omega.{arith}
-use lib.Dec.{T, eqb, leb}
+use lib.Dec.{T}
 use lib.ListN.{length, length-append}
 use borrow.Author.Tests.{eq-eqb}
 use Rattle.limits.specs.Limits.{mostPresses}
@@ -16,11 +16,10 @@ use Rattle.field.proofs.TestLaws.{passed, if-true, if-false}
 use Rattle.bounds.specs.Bounds.{withinBounds}
 use Rattle.rules.specs.declared.Answer.{Answer}
 use Rattle.rules.specs.declared.Stepped.{Stepped}
-use Rattle.rules.specs.Step.{numberOf, stepOf}
+use Rattle.rules.specs.Step.{stepOf}
 use Rattle.rules.specs.Play.{fieldAfter, played, isAccepted, countedOnce, moves}
 use Rattle.rules.proofs.StepLaws.{number-is}
 use Rattle.rules.proofs.Refusals.{accepted-within}
-use Rattle.text.specs.Text.{lineOf}
 use Rattle.text.specs.Buffer.{Put}
 use Rattle.text.proofs.Texts.{Left, left-all, left-more, left-none}
 use Rattle.press.specs.declared.Proposal.{Proposal}

@@ -11,7 +11,6 @@ use lib.Ieee.Fits.{and-l, and-r}
 use borrow.Author.Tests.{eqb-true, eqb-false, eq-eqb, ne-eqb}
 use Rattle.limits.specs.Limits.{longestTick}
 use Rattle.request.specs.Input.{within, isTick, firstRefused, inputNumber, deskAllowed, kindAllowed, sideAllowed, numberAllowed, amountAllowed}
-use Rattle.request.specs.declared.Request.{Request}
 use Rattle.request.proofs.ByKind.{keeps}
 use Rattle.request.proofs.InputTests.{nonzero-known, within-yes, within-low, within-high}
 use Rattle.field.specs.declared.Field.{Field}

@@ -1,6 +1,6 @@
 -- The button on a field with its kept ones: what is proposed, what a press plays, and what is left of presses. Assumes nothing.
 use mathlib.Core.Path.{_≡_, refl, sym, ap, _∙_}
-use mathlib.Core.Bool.{Bool, true, false}
+use mathlib.Core.Bool.{true, false}
 use mathlib.Core.List.{List, [], _∷_}
 use Prim.Native.Nat.{ℕ, zero, suc, _+_, _<_}
 use native.Mathlib.Omega.{arith}
@@ -12,7 +12,7 @@ use Rattle.history.specs.declared.History.{History}
 use Rattle.history.specs.declared.SteppedHistory.{SteppedHistory}
 use Rattle.history.specs.History.{withinBoundsHistory, stepHistory}
 use Rattle.press.specs.declared.Proposal.{Proposal}
-use Rattle.press.specs.declared.Proposal.the-variants.{Refused, None, Play}
+use Rattle.press.specs.declared.Proposal.the-variants.{Refused, Play}
 use Rattle.press.specs.declared.Ending.{Ending}
 use Rattle.press.specs.Press.{proposalOf}
 use Rattle.press.specs.HeldDown.{thenPressed}

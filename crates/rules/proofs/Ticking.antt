@@ -1,15 +1,14 @@
 -- An accepted tick, on any field: each who flies is given its own advance, and everyone else nothing. Assumes nothing.
 use mathlib.Core.Path.{_≡_, refl, sym, ap, _∙_, subst⁻¹}
-use mathlib.Core.Logic.{inl, inr}
 use mathlib.Core.Bool.{Bool, true, false, cond, _&&_}
 use mathlib.Core.List.{List, [], _∷_, map}
-use Prim.Native.Nat.{ℕ, zero, suc, _≤_, _<_}
+use Prim.Native.Nat.{ℕ, zero, suc, _≤_}
 use native.Mathlib.Omega.{arith}
 use lib.Dec.{T, leb, ltb, eqb, leb→le}
 use lib.Ieee.{Float, eq, ofInt}
 use lib.Ieee.Fits.{and-l, and-r}
 use lib.ListN.{getD, drop, List·getD-map}
-use borrow.Author.Tests.{lt-ltb, ltb-false}
+use borrow.Author.Tests.{ltb-false}
 use Rattle.leg.specs.Progress.{whole, progressAfter, waitedWith}
 use Rattle.leg.specs.declared.Progress.{Progress}
 use Rattle.leg.specs.declared.Progress.the-variants.{Waiting, Flying}
@@ -17,13 +16,12 @@ use Rattle.request.specs.declared.Request.{Request}
 use Rattle.field.specs.declared.Aircraft.{Aircraft}
 use Rattle.field.specs.declared.Zone.{Zone}
 use Rattle.field.specs.declared.Field.{Field}
-use Rattle.field.specs.Airspace.{isFlyingZone, nobody, zoneOf, everywhere}
+use Rattle.field.specs.Airspace.{isFlyingZone, nobody, zoneOf}
 use Rattle.field.specs.Lists.{every}
-use Rattle.field.proofs.TestLaws.{pass, passed, decided, every-from}
+use Rattle.field.proofs.TestLaws.{pass, passed, every-from}
 use Rattle.bounds.specs.Bounds.{isNobody, zoneKept, withinBounds}
 use Rattle.fits.specs.Fits.{isWaiting}
 use Rattle.tick.specs.Tick.{tickedAircraft, ticked}
-use Rattle.tick.proofs.Tick.{tickedIn}
 use Rattle.laws.proofs.BoundLaws.{within-e}
 use Rattle.laws.proofs.TickLaws.{tickedAt, places-ticked, length-kept, zone-ticked}
 use Rattle.rules.specs.Step.{effectFor, effectOf, stepOf}

@@ -11,11 +11,11 @@ use Rattle.rules.specs.Step.{stepOf}
 use Rattle.rules.specs.Play.{played}
 use Rattle.text.specs.Text.{lineOf}
 use Rattle.text.proofs.Texts.{line-length}
-use Rattle.playing.specs.Log.{logEntry, logOf, kindAt, numberAt, HasWords}
+use Rattle.playing.specs.Log.{logOf, numberAt, HasWords}
 use Rattle.playing.proofs.AnswerSizes.{Short, short-step}
 use Rattle.playing.proofs.Logs.{Here, here-in, kind-here}
 use Rattle.session.specs.declared.tally.Tally.{Tally}
-use Rattle.session.specs.Tally.{tallyOf, emptyTally, tallied}
+use Rattle.session.specs.Tally.{tallyOf, tallied}
 use Rattle.session.specs.Report.{answerLine, answerLines, endLine, refusedReport}
 use Rattle.session.specs.Entries.{lineAt, linesTo, talliedTo}
 use Rattle.session.proofs.Tallies.{Adds, adds-none, adds-more, adds-all}

@@ -13,7 +13,6 @@ use Rattle.field.specs.declared.Field.{Field}
 use Rattle.field.specs.Lists.{every}
 use Rattle.field.proofs.TestLaws.{pass}
 use Rattle.field.proofs.TestParts.{and-then}
-use Rattle.rules.specs.declared.Answer.{Answer}
 use Rattle.rules.specs.Step.{stepOf}
 use Rattle.rules.specs.Play.{fieldAfter, played, allAccepted}
 use Rattle.rules.specs.Reason.{Sound}

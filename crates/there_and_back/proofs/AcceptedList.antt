@@ -1,13 +1,13 @@
 -- A list that is accepted: what is known of it, and of the field that it builds. Assumes nothing.
-use mathlib.Core.Path.{_≡_, refl, sym, ap, _∙_}
+use mathlib.Core.Path.{_≡_, sym, ap, _∙_}
 use mathlib.Core.Logic.{_⊎_, inl, inr}
-use mathlib.Core.Bool.{Bool, true, false, cond, _&&_}
+use mathlib.Core.Bool.{true, false, cond, _&&_}
 use mathlib.Core.List.{List, [], _∷_}
 use Prim.Native.Nat.{ℕ, _%_}
 use lib.Dec.{T, eqb, leb}
 use lib.ListN.{length}
-use lib.Ieee.Fits.{and-l, and-r}
-use borrow.Author.Tests.{eqb-true, eqb-false}
+use lib.Ieee.Fits.{and-r}
+use borrow.Author.Tests.{eqb-true}
 use Rattle.limits.specs.Limits.{fastest}
 use Rattle.request.specs.Input.{within}
 use Rattle.practice.specs.declared.FileLegs.{FileLegs}

@@ -1,24 +1,21 @@
 -- Back and there: the field that a list builds, where it is within the bounds, has that list. Assumes nothing.
 use mathlib.Core.Path.{_≡_, refl, sym, ap, _∙_, subst}
-use mathlib.Core.Logic.{_⊎_, inl, inr}
-use mathlib.Core.Bool.{Bool, true, false, cond, _&&_}
+use mathlib.Core.Bool.{Bool, true, _&&_}
 use mathlib.Core.List.{List, [], _∷_, _++_, map, append-assoc, append-nil}
-use Prim.Native.Nat.{ℕ, zero, suc, _+_, _≤_, _<_}
+use Prim.Native.Nat.{ℕ, suc, _+_, _≤_, _<_}
 use native.Mathlib.Omega.{arith}
 use lib.Dec.{T, eqb, leb, leb→le, le→leb}
 use lib.ListN.{length, getD, take, length-take, length-map}
-use lib.Ieee.Fits.{and-i, and-l, and-r}
-use borrow.Author.Tests.{eq-eqb}
+use lib.Ieee.Fits.{and-i, and-l}
 use Rattle.request.specs.Input.{within}
 use Rattle.practice.specs.declared.FileLegs.{FileLegs}
 use Rattle.leg.specs.Ticks.{Between}
 use Rattle.field.specs.declared.Aircraft.{Aircraft}
-use Rattle.field.specs.declared.Sequence.{Sequence}
 use Rattle.field.specs.declared.Legs.{Legs}
 use Rattle.field.specs.declared.Field.{Field}
 use Rattle.field.specs.Airspace.{right, isSide, everywhere, zonesFrom, nobody, zoneOf, queueOf, inZone, orderOf, entering, runway}
 use Rattle.field.specs.Lists.{every}
-use Rattle.field.proofs.TestLaws.{passed, decided, if-true, same, every-from}
+use Rattle.field.proofs.TestLaws.{passed, if-true, same, every-from}
 use Rattle.field.proofs.NumberLists.{every-listed, zone-listed}
 use Rattle.questions.specs.declared.Place.{Place}
 use Rattle.questions.specs.Counts.{howMany, isEmpty}
@@ -28,11 +25,9 @@ use Rattle.bounds.specs.Bounds.{lateralRule, boundC, withinBounds}
 use Rattle.fits.specs.Fits.{fitsZone}
 use Rattle.laws.proofs.BoundLaws.{within-each, numbers-different}
 use Rattle.laws.proofs.Fits.{fits-parts}
-use Rattle.finder.specs.declared.Indexed.{Indexed}
-use Rattle.finder.specs.Finder.{withinBoundsIndexed}
 use Rattle.indexed.specs.Indexed.{withIndex}
 use Rattle.indexed.proofs.Own.{within-own}
-use Rattle.line.proofs.Line.{zoneFor, queue-for, sequenceFor, order-for, fieldBy, zone-by}
+use Rattle.line.proofs.Line.{zoneFor, queue-for, sequenceFor, order-for, zone-by}
 use Rattle.line.proofs.CountedOnLine.{in-everywhere}
 use Rattle.reason.proofs.Invariant.{parts}
 use Rattle.playing.specs.Playing.{legsInMiles}
@@ -41,7 +36,7 @@ use Rattle.dialect.specs.Going.{listEntry, listEntries, onRunway, entriesOf, in
 use Rattle.dialect_field.specs.Coming.{entriesIn, isPlaced, placedFrom, fixIn, built, fieldOfList}
 use Rattle.there_and_back.proofs.Shape.{uncut, waiting, atZone, numbersIn, nextFrom, fieldFor, built-for}
 use Rattle.there_and_back.proofs.ByLocation.{own-place, from-1, to-4, in-a-zone, first-placed, rest-placed, located, none-at, in-all, at-split, only, fix-kept}
-use Rattle.there_and_back.proofs.AcceptedList.{AcceptedList, accepted}
+use Rattle.there_and_back.proofs.AcceptedList.{accepted}
 
 module _ (legs : Legs) (speed : ℕ) (es : List ListEntry) (p : T (placedFrom 1 es)) (w : T (withinBounds (built legs speed es))) where
   -- the field

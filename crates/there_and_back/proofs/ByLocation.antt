@@ -1,9 +1,8 @@
 -- A list by its locations: how many there are in all, and who stands alone at a location. Assumes nothing.
-use mathlib.Core.Path.{_≡_, refl, sym, ap, _∙_}
-use mathlib.Core.Logic.{_⊎_, inl, inr}
-use mathlib.Core.Bool.{Bool, true, false, cond, _&&_}
+use mathlib.Core.Path.{_≡_, refl, ap, _∙_}
+use mathlib.Core.Bool.{Bool, true, false, cond}
 use mathlib.Core.List.{List, [], _∷_, _++_}
-use Prim.Native.Nat.{ℕ, zero, suc, _+_, _≤_, _<_}
+use Prim.Native.Nat.{ℕ, suc, _+_, _≤_, _<_}
 use native.Mathlib.Omega.{arith}
 use lib.Dec.{T, eqb, leb, leb→le, le→leb, eqb→eq}
 use lib.ListN.{length}
@@ -11,7 +10,7 @@ use lib.Ieee.Fits.{and-i, and-l, and-r}
 use borrow.Author.Tests.{ne-eqb}
 use Rattle.request.specs.Input.{within}
 use Rattle.field.specs.Airspace.{isSide}
-use Rattle.field.proofs.TestLaws.{decided, if-true, if-false, same, each-from}
+use Rattle.field.proofs.TestLaws.{if-true, if-false, each-from}
 use Rattle.dialect.specs.declared.ListEntry.{ListEntry}
 use Rattle.dialect_field.specs.Coming.{isPlaced, placedFrom, fixIn}
 use Rattle.there_and_back.proofs.Shape.{atZone, Located}

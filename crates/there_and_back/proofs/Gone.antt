@@ -1,19 +1,18 @@
 -- The list of a field within the bounds, where everyone on it waits in a holding. Assumes nothing.
 use mathlib.Core.Path.{_≡_, refl, sym, ap, _∙_, subst}
 use mathlib.Core.Logic.{_⊎_, inl, inr}
-use mathlib.Core.Bool.{Bool, true, false, cond, not, _&&_, _||_, true≢false, or-true}
+use mathlib.Core.Bool.{Bool, true, false, cond, _||_, true≢false, or-true}
 use mathlib.Core.List.{List, [], _∷_, _++_, map, append-nil}
-use Prim.Native.Nat.{ℕ, zero, suc, _+_, _≤_, _<_}
+use Prim.Native.Nat.{ℕ, suc, _+_, _≤_}
 use native.Mathlib.Omega.{arith}
-use lib.Dec.{T, eqb, leb, leb→le, le→leb, eqb→eq}
-use lib.ListN.{length}
+use lib.Dec.{T, eqb, eqb→eq}
 use lib.Ieee.Fits.{and-i, and-l, and-r}
-use borrow.Author.Tests.{eq-eqb, ne-eqb, eqb-true, eqb-false}
+use borrow.Author.Tests.{eq-eqb, ne-eqb, eqb-true}
 use Rattle.request.specs.Input.{within}
 use Rattle.field.specs.declared.Field.{Field}
 use Rattle.field.specs.Airspace.{runway, isSide, opposite, orderOf}
 use Rattle.field.specs.Lists.{every, isIn}
-use Rattle.field.proofs.TestLaws.{pass, passed, decided, if-true, if-false, fail}
+use Rattle.field.proofs.TestLaws.{decided, if-true, if-false}
 use Rattle.questions.specs.Counts.{isEmpty}
 use Rattle.questions.specs.Find.{placeOf, fixOf, aircraftAt}
 use Rattle.bounds.specs.Bounds.{alternate}

@@ -1,11 +1,11 @@
 -- Every classroom list has its bytes: they are read as that list. Assumes nothing.
-use mathlib.Core.Path.{_≡_, refl, sym, ap, _∙_}
-use mathlib.Core.List.{List, [], _∷_, _++_}
+use mathlib.Core.Path.{_≡_, refl, ap, _∙_}
+use mathlib.Core.List.{List, [], _∷_}
 use Prim.Native.Nat.{ℕ, _+_, _*_, _/_, _%_}
 use native.Mathlib.Omega.{arith}
 use Rattle.dialect.specs.declared.ListEntry.{ListEntry}
 use Rattle.dialect_field.specs.Coming.{entriesIn}
-use Rattle.there_and_back.specs.Encoded.{listEntryBytes, listBytes}
+use Rattle.there_and_back.specs.Encoded.{listBytes}
 
 halves : (n : ℕ) → n % 256 + 256 * (n / 256) ≡ n
 halves n = omega arith

@@ -2,14 +2,13 @@
 -- are places. Assumes nothing.
 use mathlib.Core.Path.{_≡_, refl, sym, ap, _∙_}
 use mathlib.Core.Logic.{_⊎_, inl, inr}
-use mathlib.Core.Bool.{Bool, true, false, cond, _&&_}
+use mathlib.Core.Bool.{Bool, true, false, cond}
 use mathlib.Core.List.{List, [], _∷_, _++_, map, append-assoc, append-nil}
-use Prim.Native.Nat.{ℕ, zero, suc, _+_, _≤_, _<_}
+use Prim.Native.Nat.{ℕ, zero, suc, _+_, _≤_}
 use native.Mathlib.Omega.{arith}
-use lib.Dec.{T, eqb, leb, ltb, leb→le, le→leb}
+use lib.Dec.{T, eqb}
 use lib.ListN.{length, take, length-take}
-use lib.Ieee.Fits.{and-i, and-l, and-r}
-use borrow.Author.Tests.{lt-ltb, le-ltb, eqb-true}
+use borrow.Author.Tests.{eqb-true}
 use Rattle.request.specs.Input.{within}
 use Rattle.field.specs.declared.Aircraft.{Aircraft}
 use Rattle.field.specs.declared.Zone.{Zone}
@@ -18,11 +17,10 @@ use Rattle.field.specs.declared.Legs.{Legs}
 use Rattle.field.specs.declared.Field.{Field}
 use Rattle.field.specs.Airspace.{right, opposite, zoneOf, entering, emptyField}
 use Rattle.edits.specs.Edits.{withTail, appended, withZone, withSequence}
-use Rattle.field.specs.Lists.{every}
 use Rattle.field.proofs.TestLaws.{decided, if-true, if-false}
-use Rattle.line.proofs.Line.{zoneFor, tail-for, sequenceFor, appended-for, fieldBy, zone-by, with-by, by-zones}
+use Rattle.line.proofs.Line.{zoneFor, sequenceFor, fieldBy, zone-by, with-by, by-zones}
 use Rattle.dialect.specs.declared.ListEntry.{ListEntry}
-use Rattle.dialect_field.specs.Coming.{isPlaced, placedFrom, fixIn, withEntry, builtOn, built}
+use Rattle.dialect_field.specs.Coming.{fixIn, withEntry, builtOn, built}
 
 -- ---- lists
 

@@ -3,10 +3,10 @@ use mathlib.Core.Path.{_≡_, refl, sym, ap, _∙_, subst}
 use mathlib.Core.Logic.{_⊎_, inl, inr}
 use mathlib.Core.Bool.{Bool, true, false, cond, not, _&&_, _||_, true≢false}
 use mathlib.Core.List.{List, [], _∷_, _++_, map}
-use Prim.Native.Nat.{ℕ, zero, suc, _+_, _-_, _≤_, _<_}
+use Prim.Native.Nat.{ℕ, _+_, _-_, _≤_, _<_}
 use native.Mathlib.Omega.{arith}
 use lib.Dec.{T, eqb, leb, leb→le, le→leb, eqb→eq}
-use lib.Ieee.{Float, eq}
+use lib.Ieee.{eq}
 use lib.ListN.{length, getD, take, drop, replicate, length-take, length-drop, length-map}
 use lib.Seq.{length-take-le, take-append-seam}
 use lib.Ieee.Fits.{and-i, and-l, and-r}
@@ -14,15 +14,13 @@ use borrow.Author.Tests.{eq-eqb, ne-eqb, lt-leb, eqb-true, leb-true, leb-false}
 use Rattle.request.specs.Input.{within}
 use Rattle.practice.specs.declared.FileLegs.{FileLegs}
 use Rattle.leg.specs.Progress.{whole}
-use Rattle.leg.specs.Ticks.{Between}
 use Rattle.leg.specs.declared.Progress.{Progress}
 use Rattle.leg.specs.declared.Progress.the-variants.{Waiting, Flying}
 use Rattle.field.specs.declared.Aircraft.{Aircraft}
 use Rattle.field.specs.declared.Zone.{Zone}
-use Rattle.field.specs.declared.Sequence.{Sequence}
 use Rattle.field.specs.declared.Legs.{Legs}
 use Rattle.field.specs.declared.Field.{Field}
-use Rattle.field.specs.Airspace.{right, isSide, isFlyingZone, everywhere, operation, zonesFrom, nobody, emptyZone, zoneOf, queueOf, inZone, orderOf, orderLength, entering, runway}
+use Rattle.field.specs.Airspace.{right, isFlyingZone, everywhere, operation, zonesFrom, nobody, zoneOf, queueOf, inZone, orderOf, orderLength, entering, runway}
 use Rattle.field.specs.Lists.{every, isIn, allDifferent}
 use Rattle.field.proofs.TestLaws.{pass, passed, decided, if-true, if-false, same, every-from, each-operation}
 use Rattle.field.proofs.NumberLists.{every-listed}
@@ -39,12 +37,11 @@ use Rattle.laws.proofs.EditLaws.{no-zone-empty}
 use Rattle.laws.proofs.BoundLaws.{within-each, within-e, numbers-different}
 use Rattle.laws.proofs.Fits.{Fits, fits-parts}
 use Rattle.rules.specs.Reason.{hasPlaces}
-use Rattle.finder.specs.declared.Index.{Index}
 use Rattle.finder.specs.declared.Indexed.{Indexed}
 use Rattle.finder.specs.Finder.{indexOf, sameIndex, withinBoundsIndexed}
 use Rattle.finder.proofs.IndexLaws.{index-same, same-equal}
 use Rattle.indexed.specs.Indexed.{withIndex}
-use Rattle.line.proofs.Line.{zoneFor, queue-for, sequenceFor, fieldBy, by-zones}
+use Rattle.line.proofs.Line.{zoneFor, queue-for, sequenceFor, by-zones}
 use Rattle.line.proofs.CountedOnLine.{in-everywhere}
 use Rattle.reason.proofs.Invariant.{Places, places-parts, parts}
 use Rattle.reason.proofs.LineOfField.{sequence-is, zones-are}
@@ -54,11 +51,11 @@ use Rattle.dialect.specs.declared.Listing.{Listing}
 use Rattle.dialect.specs.Going.{listEntry, listEntries, entriesOf, inDialect, noEntry, entriesListed, listRefused, listOf}
 use Rattle.dialect_field.specs.Coming.{entriesIn, placedFrom, fixIn, built, fieldOfList}
 use Rattle.there_and_back.specs.Settled.{settled, plainZeros, settledZone, settledField, settledIndexed}
-use Rattle.there_and_back.proofs.Shape.{uncut, waiting, atZone, numbersIn, nextFrom, fieldFor, built-for}
+use Rattle.there_and_back.proofs.Shape.{uncut, waiting, atZone, numbersIn, nextFrom, built-for}
 use Rattle.there_and_back.proofs.ByLocation.{located, none-at, at-split, only, side-kept}
-use Rattle.there_and_back.proofs.AcceptedList.{AcceptedList, accepted}
+use Rattle.there_and_back.proofs.AcceptedList.{accepted}
 use Rattle.there_and_back.proofs.Back.{zone-is, one-at}
-use Rattle.there_and_back.proofs.Gone.{none-on-runway, entries-are, all-hold, numbers-are, none-listed, Split, split-at, next-is}
+use Rattle.there_and_back.proofs.Gone.{none-on-runway, entries-are, all-hold, numbers-are, none-listed, split-at, next-is}
 
 -- ---- a zone that is settled
 plain : (a : Aircraft) → T (isNobody a) → plainZeros a ≡ nobody

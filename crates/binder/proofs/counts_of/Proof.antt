@@ -1,13 +1,12 @@
 -- `binder::counts_of` meets its contract. The loop's invariant is `Counting`: the files before the i-th are counted. Assumes nothing.
-use mathlib.Core.Path.{_≡_, sym, ap, _∙_, subst, subst⁻¹}
-use mathlib.Core.List.{List, _++_}
-use Prim.Native.Nat.{ℕ, suc, _+_, _-_, _*_, _≤_, _<_}
+use mathlib.Core.Path.{_≡_, sym, ap, _∙_, subst⁻¹}
+use mathlib.Core.List.{List}
+use Prim.Native.Nat.{ℕ, suc, _+_, _-_, _*_, _≤_}
 use native.Mathlib.Omega.{arith}
 use lib.ListN.{length, drop, length-replicate}
 use denote.Ref.{now}
 use Rattle.playing.specs.declared.Played.{Played}
 use Rattle.playing.specs.Playing.{answersOf, playedOf}
-use Rattle.playing.specs.Log.{logOf}
 use Rattle.playing.proofs.PlayedFiles.{answers-count, requests-few}
 use Rattle.playing.proofs.Logs.{log-kept}
 use Rattle.contents.proofs.AcceptedBinder.{count-high}

@@ -8,7 +8,6 @@ use denote.Ref.{now}
 use Rattle.text.specs.Buffer.{room, Written}
 use Rattle.text.proofs.Texts.{written, stated}
 use Rattle.contents.specs.Contents.{binderNumber}
-use Rattle.binder.specs.declared.counts.Counts.{Counts}
 use Rattle.binder.specs.Week.{refusedBinder}
 use Rattle.binder.specs.Counts.{weekLines}
 use Rattle.binder.proofs.Rows.{binder-short}

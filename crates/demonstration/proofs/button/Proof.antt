@@ -6,7 +6,6 @@ use native.Mathlib.Omega.{arith}
 use lib.ListN.{length, length-append}
 use denote.Ref.{now}
 use borrow.Author.Needs.{needs}
-use Rattle.limits.specs.Limits.{mostMoves}
 use Rattle.practice.specs.File.{fileNumber}
 use Rattle.field.specs.declared.Field.{Field}
 use Rattle.rules.specs.Play.{played, moves}

@@ -3,7 +3,6 @@ use mathlib.Core.Path.{sym}
 use borrow.Author.Tests.{eq-eqb, ne-eqb}
 use Rattle.rules.specs.Kinds.{shownTo}
 use Rattle.field.proofs.TestLaws.{if-true, if-false}
-use borrow.Author.Needs.{needs}
 use Rattle.effects.proofs.shown_to.Statement.{statement}
 use Rattle.effects.proofs.shown_to.Tie as tie
 

@@ -2,7 +2,6 @@
 use mathlib.Core.Path.{refl, sym}
 use borrow.Author.Tests.{le-leb, lt-leb}
 use Rattle.field.proofs.TestParts.{and-then, and-cut}
-use borrow.Author.Needs.{needs}
 use Rattle.fits.proofs.is_desk.Statement.{statement}
 use Rattle.fits.proofs.is_desk.Tie as tie
 

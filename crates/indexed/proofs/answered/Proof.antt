@@ -1,19 +1,15 @@
 -- `indexed::answered` meets its contract: a tick leaves the index, and else the answer is read by the new one. Assumes nothing.
-use mathlib.Core.Path.{_≡_, refl, sym, ap, _∙_}
-use mathlib.Core.Bool.{cond}
+use mathlib.Core.Path.{_≡_, sym, ap, _∙_}
 use Prim.Native.Nat.{ℕ}
-use lib.Dec.{T, eqb}
 use borrow.Author.Tests.{eq-eqb, ne-eqb}
-use Rattle.field.specs.declared.Field.{Field}
 use Rattle.field.proofs.TestLaws.{if-true, if-false}
 use Rattle.questions.specs.declared.Place.{Place}
 use Rattle.questions.specs.Find.{placeOf}
-use Rattle.bounds.specs.Bounds.{withinBounds}
 use Rattle.finder.specs.declared.Index.{Index}
-use Rattle.finder.specs.Finder.{indexOf, foundIn}
+use Rattle.finder.specs.Finder.{foundIn}
 use Rattle.finder.proofs.IndexLaws.{found-as-looked}
 use Rattle.rules.specs.declared.Answer.{Answer}
-use Rattle.rules.specs.Step.{numberAndZeros, acceptance}
+use Rattle.rules.specs.Step.{acceptance}
 use borrow.Author.Needs.{needs}
 use Rattle.indexed.specs.declared.AnswerAndIndex.{AnswerAndIndex}
 use Rattle.indexed.proofs.answered.Statement.{statement}

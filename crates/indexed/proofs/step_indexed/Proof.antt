@@ -1,6 +1,6 @@
 -- `indexed::step_indexed` meets its contract, test by test. Assumes nothing.
 use mathlib.Core.Path.{_≡_, sym, _∙_}
-use mathlib.Core.Bool.{true, false, true≢false}
+use mathlib.Core.Bool.{true≢false}
 use native.Mathlib.Omega.{arith}
 use Rattle.request.specs.Input.{inputNumber}
 use Rattle.field.proofs.TestParts.{holds, fails}

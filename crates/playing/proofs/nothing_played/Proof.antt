@@ -1,5 +1,5 @@
 -- `playing::nothing_played` meets its contract. Assumes nothing.
-use mathlib.Core.Path.{_≡_, ap, _∙_}
+use mathlib.Core.Path.{ap, _∙_}
 use borrow.Author.Needs.{needs}
 use Rattle.field.specs.Airspace.{emptyField}
 use Rattle.playing.proofs.nothing_played.Statement.{statement}

@@ -1,7 +1,7 @@
 -- `playing::play` meets its contract: nothing of a refused file, or the session that the file holds. Assumes nothing.
 use mathlib.Core.Path.{_≡_, sym, ap, _∙_, subst⁻¹}
 use mathlib.Core.List.{List, _++_}
-use Prim.Native.Nat.{ℕ, _*_, _-_, _≤_}
+use Prim.Native.Nat.{ℕ, _*_, _-_}
 use native.Mathlib.Omega.{arith}
 use lib.Dec.{T}
 use lib.ListN.{length, take, drop}
@@ -10,7 +10,7 @@ use denote.Ref.{now}
 use borrow.Rule.Slice.PartAt.{part-to-end}
 use borrow.Author.Needs.{needs}
 use Rattle.request.specs.declared.Request.{Request}
-use Rattle.practice.specs.File.{legsOf, legsBody, requestsBody, fileNumber}
+use Rattle.practice.specs.File.{legsOf, legsBody, fileNumber}
 use Rattle.practice.specs.Requests.{requestsOf}
 use Rattle.practice.proofs.Meaning.{Held, held}
 use Rattle.field.specs.declared.Legs.{Legs}

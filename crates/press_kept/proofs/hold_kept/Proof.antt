@@ -14,7 +14,6 @@ use Rattle.press.specs.declared.Proposal.the-variants.{Refused, None, Play}
 use Rattle.press.specs.HeldDown.{thenPressed}
 use Rattle.press.proofs.Proposal as proposal
 use Rattle.history.specs.declared.History.{History}
-use Rattle.history.specs.History.{withinBoundsHistory}
 use Rattle.press_kept.specs.PressKept.{proposalKept, pressesKept, endingKept}
 use Rattle.press_kept.proofs.PressingKept.{Pressing, pressing-none, pressing-more, presses-none, presses-ended, held-is}
 use Rattle.press_kept.proofs.hold_kept.Statement.{statement}

@@ -1,7 +1,7 @@
 -- `session::report_by` meets its contract: the report of a refused file, or of the answers that were played. Assumes nothing.
-use mathlib.Core.Path.{_≡_, sym, ap, _∙_, subst, subst⁻¹}
+use mathlib.Core.Path.{_≡_, sym, ap, _∙_, subst}
 use mathlib.Core.List.{List, _++_}
-use Prim.Native.Nat.{ℕ, _*_, _≤_}
+use Prim.Native.Nat.{ℕ, _*_}
 use native.Mathlib.Omega.{arith}
 use lib.ListN.{length, drop, replicate, length-append, length-replicate}
 use denote.Ref.{now}
@@ -12,11 +12,11 @@ use Rattle.playing.specs.Playing.{playedOf, answersOf}
 use Rattle.playing.specs.Log.{logOf, HasWords}
 use Rattle.playing.proofs.PlayedFiles.{answers-count, requests-few}
 use Rattle.playing.proofs.Logs.{log-kept}
-use Rattle.text.specs.Buffer.{room, Put, Written}
+use Rattle.text.specs.Buffer.{room, Written}
 use Rattle.text.proofs.Texts.{put-more, written, stated}
 use Rattle.session.specs.declared.tally.Tally.{Tally}
 use Rattle.session.specs.Tally.{tallyOf}
-use Rattle.session.specs.Report.{answerLines, endLine, refusedReport, reportOf}
+use Rattle.session.specs.Report.{answerLines, endLine, refusedReport}
 use Rattle.session.specs.Entries.{linesTo, talliedTo}
 use Rattle.session.proofs.LogLines.{lines-all, counted-all, lines-short, end-length, refused-length}
 use Rattle.session.proofs.Reports.{report-refused, report-played, answers-short}

@@ -1,6 +1,6 @@
 -- `text::put_line` meets its contract. The loop's invariant: what is left to put is the line from the i-th number on. Assumes nothing.
 use mathlib.Core.Path.{ap}
-use Prim.Native.Nat.{_+_, _≤_, _<_, _-_}
+use Prim.Native.Nat.{_+_, _≤_, _-_}
 use native.Mathlib.Omega.{arith}
 use lib.ListN.{length, drop}
 use denote.Ref.{now}

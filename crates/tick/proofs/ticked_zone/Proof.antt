@@ -1,10 +1,8 @@
 -- `tick::ticked_zone` meets its contract: before place i each aircraft has advanced, and from there on each is as it was. Assumes nothing.
 use mathlib.Core.Path.{_≡_, refl, sym, ap, _∙_}
-use mathlib.Core.List.{List, map, _++_}
+use mathlib.Core.List.{map, _++_}
 use Prim.Native.Nat.{_-_, _≤_}
 use lib.ListN.{length, take, drop, length-map}
-use Rattle.field.specs.declared.Aircraft.{Aircraft}
-use Rattle.field.specs.declared.Zone.{Zone}
 use Rattle.field.specs.Airspace.{nobody}
 use Rattle.tick.specs.Tick.{tickedAircraft, tickedZone}
 use Rattle.field.proofs.Arrays.{filled-at, filled-more, filled-all, getD-map}

@@ -4,7 +4,6 @@ use native.Mathlib.Omega.{arith}
 use Rattle.request.specs.Input.{within}
 use Rattle.request.proofs.InputTests.{within-yes, within-below, within-above}
 use Rattle.week_table.proofs.KindRows.{of-accepted, of-refused}
-use borrow.Author.Needs.{needs}
 use Rattle.week_table.proofs.moved.Statement.{statement}
 use Rattle.week_table.proofs.moved.Tie as tie
 

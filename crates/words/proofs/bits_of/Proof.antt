@@ -1,7 +1,7 @@
 -- `words::bits_of` meets its contract: the bits of what is no NaN, and those of the NaN. Assumes nothing.
-use mathlib.Core.Path.{_≡_, sym, ap, _∙_}
+use mathlib.Core.Path.{sym, ap, _∙_}
 use borrow.Author.Needs.{needs}
-use lib.Ieee.{Float, nan, toBits, binary64}
+use lib.Ieee.{toBits, binary64}
 use Rattle.words.proofs.Patterns.{no-nan, nan-unequal, nan-pattern}
 use Rattle.words.proofs.bits_of.Statement.{statement}
 use Rattle.words.proofs.bits_of.Tie as tie

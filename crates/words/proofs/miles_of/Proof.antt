@@ -1,5 +1,5 @@
 -- `words::miles_of` meets its contract: the NaN for the bits of one, and what the other bits are. Assumes nothing.
-use mathlib.Core.Path.{_≡_, sym, _∙_}
+use mathlib.Core.Path.{sym, _∙_}
 use borrow.Author.Needs.{needs}
 use Rattle.words.proofs.Patterns.{nan-above, no-nan-below, zero-by-zero}
 use Rattle.words.proofs.miles_of.Statement.{statement}

@@ -1,7 +1,6 @@
 -- `binder::counts::empty_counts` meets its contract. Assumes nothing.
 use mathlib.Core.Path.{refl}
 use Rattle.binder.specs.Counts.{emptyCounts}
-use borrow.Author.Needs.{needs}
 use Rattle.binder.proofs.counts.empty_counts.Statement.{statement}
 use Rattle.binder.proofs.counts.empty_counts.Tie as tie
 

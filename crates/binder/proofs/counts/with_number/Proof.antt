@@ -1,7 +1,6 @@
 -- `binder::counts::with_number` meets its contract: one of four counts grows. Assumes nothing.
 use mathlib.Core.Path.{ap}
-use mathlib.Core.Bool.{Bool, true, false, cond}
-use Prim.Native.Nat.{ℕ, _+_, _≤_}
+use Prim.Native.Nat.{ℕ, _+_}
 use native.Mathlib.Omega.{arith}
 use lib.Dec.{eqb}
 use Rattle.binder.specs.Counts.{withNumber}

@@ -1,6 +1,5 @@
 -- `dialect::going::in_dialect` meets its contract: each test that refuses is the definition's. Assumes nothing.
 use mathlib.Core.Path.{sym, _∙_}
-use mathlib.Core.Bool.{Bool, true, _&&_}
 use borrow.Author.Needs.{needs}
 use Rattle.field.proofs.TestParts.{holds, fails, and-then, and-cut}
 use Rattle.dialect.specs.Going.{inDialect}

@@ -1,5 +1,5 @@
 -- `dialect_field::coming::all_placed` meets its contract. The loop's invariant is `Placed`. Assumes nothing.
-use mathlib.Core.Path.{_≡_, refl, sym, _∙_}
+use mathlib.Core.Path.{refl, sym}
 use Prim.Native.Nat.{_-_, _<_}
 use native.Mathlib.Omega.{arith}
 use lib.ListN.{length}

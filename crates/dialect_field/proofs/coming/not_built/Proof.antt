@@ -1,5 +1,5 @@
 -- `dialect_field::coming::not_built` meets its contract, by those of its callees. Assumes nothing.
-use mathlib.Core.Path.{_≡_, ap, _∙_}
+use mathlib.Core.Path.{ap, _∙_}
 use borrow.Author.Needs.{needs}
 use Rattle.field.specs.Airspace.{emptyField}
 use Rattle.indexed.specs.Indexed.{withIndex}

@@ -1,7 +1,5 @@
 -- `host::button::baguymo_host_hold_down` meets its contract: what the button reports on the history that the bytes are read as. Assumes nothing.
-use mathlib.Core.Path.{_≡_, ap, _∙_}
-use mathlib.Core.List.{List, [], _∷_}
-use Prim.Native.Nat.{ℕ}
+use mathlib.Core.Path.{ap, _∙_}
 use denote.Ref.{now}
 use borrow.Author.Needs.{needs}
 use Rattle.press_kept.specs.declared.HeldKept.{HeldKept}

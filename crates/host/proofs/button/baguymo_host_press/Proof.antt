@@ -1,5 +1,5 @@
 -- `host::button::baguymo_host_press` meets its contract: what a press does on the history that the bytes are read as. Assumes nothing.
-use mathlib.Core.Path.{_≡_, ap, _∙_}
+use mathlib.Core.Path.{ap, _∙_}
 use denote.Ref.{now}
 use borrow.Author.Needs.{needs}
 use Rattle.press_kept.specs.declared.PressedKept.{PressedKept}

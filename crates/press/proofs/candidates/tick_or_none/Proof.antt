@@ -1,11 +1,9 @@
 -- `press::candidates::tick_or_none` meets its contract: a tick on a field within the bounds is answered neither 10 nor 25. Assumes nothing.
-use mathlib.Core.Path.{_≡_, sym, ap, _∙_}
+use mathlib.Core.Path.{sym, ap, _∙_}
 use native.Mathlib.Omega.{arith}
 use borrow.Author.Needs.{needs}
 use Rattle.field.proofs.TestParts.{is, is-not}
 use Rattle.field.proofs.TestLaws.{if-true, if-false}
-use Rattle.rules.specs.declared.Stepped.{Stepped}
-use Rattle.press.specs.declared.Proposal.{Proposal}
 use Rattle.press.specs.declared.Proposal.the-variants.{None, Play}
 use Rattle.press.specs.Press.{longTick, pressedBy}
 use Rattle.press.proofs.Proposals.{tick-accepted}
