@@ -95,7 +95,8 @@ module _ (d : ℕ) {π : ℕ → ℕ} (p : Renaming π) where
   is-renamed : (x : Indexed) → Own d p x → renamedIndexed d π x ≡ renamed d p x
   is-renamed x o = ap withIndex (field-is d p (x .field) (o .stays))
 
-  module _ (h : History) (s : HistoryShaped h) (w : T (withinBoundsHistory h)) (on : KeepsAircraft d π (h .now .field)) (on-kept : Each (λ (x : Indexed). KeepsAircraft d π (x .field)) (counted h)) where
+  module _ (h : History) (s : HistoryShaped h) (w : T (withinBoundsHistory h)) (on : KeepsAircraft d π (h .now .field))
+      (on-kept : Each (λ (x : Indexed). KeepsAircraft d π (x .field)) (counted h)) where
     kept-within : T (keptWithinBounds h)
     unfolding withinBoundsHistory
     kept-within = and-l (keptWithinBounds h) (withinBoundsIndexed (h .now)) w

@@ -21,7 +21,8 @@ use Rattle.field.specs.Airspace.{emptyField}
 use Rattle.fits.specs.Fits.{legalLegs}
 use Rattle.demand.proofs.Flights.{legs-legal}
 use Rattle.playing.specs.declared.Played.{Played}
-use Rattle.playing.specs.Playing.{legsInMiles, noLegs, answersFrom, presentFrom, fieldFrom, requestsOfPractice, answersOfPractice, presentOfPractice, fieldOfPractice, requestsOfFile, answersOf, fieldOfFile, playedOf}
+use Rattle.playing.specs.Playing.{legsInMiles, noLegs, answersFrom, presentFrom, fieldFrom, requestsOfFile, answersOf, fieldOfFile, playedOf}
+use Rattle.playing.specs.Playing.{requestsOfPractice, answersOfPractice, presentOfPractice, fieldOfPractice}
 use Rattle.playing.proofs.Playing.{length-answers}
 
 module _ (file : List ℕ) where

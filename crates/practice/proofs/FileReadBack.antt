@@ -58,7 +58,12 @@ module _ (legs : FileLegs) (rs : List Request) where
 
   legs-back : legsOf (legsBody (encoded legs rs)) ≡ legs
   unfolding encoded
-  legs-back i = record { base = word-back (legs .base) i; intermediate = word-back (legs .intermediate) i; «final_approach» = word-back (legs .«final_approach») i; missed = word-back (legs .missed) i }
+  legs-back i = record {
+    base = word-back (legs .base) i;
+    intermediate = word-back (legs .intermediate) i;
+    «final_approach» = word-back (legs .«final_approach») i;
+    missed = word-back (legs .missed) i;
+  }
 
   body-back : requestsOf (requestsBody (encoded legs rs)) ≡ map (fromDesk 1) rs
   unfolding encoded

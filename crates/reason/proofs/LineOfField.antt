@@ -122,7 +122,8 @@ found f n (z ∷ zs) ws e = go (decided (eqb (placeFrom 1 n (inZone f z)) 0)) (f
         let i : isIn n (numbersIn f zs) ≡ true = sym (ap (λ (c : Bool). c || isIn n (numbersIn f zs)) none) ∙ sym (in-append n (numbers (inZone f z)) (numbersIn f zs)) ∙ e in
         let r = later i in
         let p = findIn f n (zs ++ ws) in
-        subst (FoundInZones f n (z ∷ zs)) (sym (if-true p here b)) (record { zone-in = ap (λ (c : Bool). eqb z (p .zone) || c) (r .zone-in) ∙ right-true (eqb z (p .zone)); named = r .named; has = r .has })
+        subst (FoundInZones f n (z ∷ zs)) (sym (if-true p here b))
+        (record { zone-in = ap (λ (c : Bool). eqb z (p .zone) || c) (r .zone-in) ∙ right-true (eqb z (p .zone)); named = r .named; has = r .has })
       where
         right-true : (b : Bool) → (b || true) ≡ true
         right-true true = refl

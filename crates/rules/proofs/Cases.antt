@@ -27,8 +27,8 @@ use Rattle.field.proofs.TestLaws.{each-operation}
 computed : T (every caseHolds marked) × T (every caseHolds examples) × T (every caseHolds exits) × T (every caseHolds entries) × T (every caseHolds earlyMisses)
     × T (every caseHolds twoDesks) × JudgedAfterBoth onePlace entryOfEight × BoundsNotEnough crowded missOfSeven × NobodyMoves stuck
 unfolding
-    advanced pastEnd waitedAfter legAfterMiss deskAllowed kindAllowed sideAllowed numberAllowed amountAllowed inputNumber isSide opposite isFlyingZone zoneOf queueOf inZone orderOf progressInto entering
-    onLeg arrived arrivedByMiss withFix legOf legFlownOut emptyField howMany howManyWithFix presentOn inOperation inArea perFix approachHolds countedFor potentialOf findIn placeOf
+    advanced pastEnd waitedAfter legAfterMiss deskAllowed kindAllowed sideAllowed numberAllowed amountAllowed inputNumber isSide opposite isFlyingZone zoneOf queueOf inZone orderOf
+    progressInto entering onLeg arrived arrivedByMiss withFix legOf legFlownOut emptyField howMany howManyWithFix presentOn inOperation inArea perFix approachHolds countedFor potentialOf findIn placeOf
     aircraftAt fixOf isFirst leaderOf leaderZone boundA boundB lateralRule boundC boundD numbersDiffer sequenceExact finalFirst isNobody zoneKept sequenceKept
     boundE boundF legFits fitsZone legalLegs boundG withinBounds withoutHead withTail appended removed withZone withSequence tickedAircraft tickedZone ticked sideOf
     startsFrom mayApproach baseFree mayMerge headGone tailPut moved
