@@ -123,15 +123,12 @@ not-own e = absurd (omega arith)
 computed : KeptNeeded
 unfolding
     advanced pastEnd waitedAfter legAfterMiss deskAllowed kindAllowed sideAllowed numberAllowed amountAllowed inputNumber isSide opposite isFlyingZone zoneOf queueOf inZone orderOf
-    progressInto entering onLeg arrived arrivedByMiss withFix legOf legFlownOut emptyField howMany howManyWithFix presentOn inOperation inArea perFix approachHolds countedFor potentialOf findIn placeOf
-    aircraftAt fixOf isFirst leaderOf leaderZone boundA boundB lateralRule boundC boundD numbersDiffer sequenceExact finalFirst isNobody zoneKept sequenceKept
-    boundE boundF legFits fitsZone legalLegs boundG withinBounds withoutHead withTail appended removed withZone withSequence tickedAircraft tickedZone ticked sideOf
-    startsFrom mayApproach baseFree mayMerge headGone tailPut moved
-    outOfSequence fixTaken entered madeRoom enteredAbove approached landed exited fixAfterMiss missedApproach held belongsTo shownTo shownAt3000 checksOf effectOf numberOf numberAndZeros acceptance
-    answerOf stepOf
-    entryOf isBefore firstOf secondOf indexOf sameEntry sameIndex withinBoundsIndexed withIndex
-    startOf startWith keptWithinBounds withinBoundsHistory keeping numberHistory stepHistory numberBack givenBack stepBack
-    neg add sub mul div ofInt round lt le eq
+    progressInto entering onLeg arrived arrivedByMiss withFix legOf legFlownOut emptyField howMany howManyWithFix presentOn inOperation inArea perFix approachHolds countedFor
+    potentialOf findIn placeOf aircraftAt fixOf isFirst leaderOf leaderZone boundA boundB lateralRule boundC boundD numbersDiffer sequenceExact finalFirst isNobody zoneKept sequenceKept
+    boundE boundF legFits fitsZone legalLegs boundG withinBounds withoutHead withTail appended removed withZone withSequence tickedAircraft tickedZone ticked sideOf startsFrom
+    mayApproach baseFree mayMerge headGone tailPut moved outOfSequence fixTaken entered madeRoom enteredAbove approached landed exited fixAfterMiss missedApproach held belongsTo shownTo
+    shownAt3000 checksOf effectOf numberOf numberAndZeros acceptance answerOf stepOf entryOf isBefore firstOf secondOf indexOf sameEntry sameIndex withinBoundsIndexed withIndex startOf
+    startWith keptWithinBounds withinBoundsHistory keeping numberHistory stepHistory numberBack givenBack stepBack neg add sub mul div ofInt round lt le eq
 computed = record {
   -- back is 5, or 6 where it was renamed: the other's entry is refused 11 or accepted, and the fix that 8 takes is 2 or 1
   kept-too =

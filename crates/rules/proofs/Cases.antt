@@ -28,13 +28,12 @@ computed : T (every caseHolds marked) × T (every caseHolds examples) × T (ever
     × T (every caseHolds twoDesks) × JudgedAfterBoth onePlace entryOfEight × BoundsNotEnough crowded missOfSeven × NobodyMoves stuck
 unfolding
     advanced pastEnd waitedAfter legAfterMiss deskAllowed kindAllowed sideAllowed numberAllowed amountAllowed inputNumber isSide opposite isFlyingZone zoneOf queueOf inZone orderOf
-    progressInto entering onLeg arrived arrivedByMiss withFix legOf legFlownOut emptyField howMany howManyWithFix presentOn inOperation inArea perFix approachHolds countedFor potentialOf findIn placeOf
-    aircraftAt fixOf isFirst leaderOf leaderZone boundA boundB lateralRule boundC boundD numbersDiffer sequenceExact finalFirst isNobody zoneKept sequenceKept
-    boundE boundF legFits fitsZone legalLegs boundG withinBounds withoutHead withTail appended removed withZone withSequence tickedAircraft tickedZone ticked sideOf
-    startsFrom mayApproach baseFree mayMerge headGone tailPut moved
-    outOfSequence fixTaken entered madeRoom enteredAbove approached landed exited fixAfterMiss missedApproach held belongsTo shownTo shownAt3000 checksOf effectOf numberOf numberAndZeros acceptance
-    answerOf stepOf
-    neg add sub mul div ofInt round lt le eq sequenceListed approachOrder areaOrder roomToMiss lateralOrder
+    progressInto entering onLeg arrived arrivedByMiss withFix legOf legFlownOut emptyField howMany howManyWithFix presentOn inOperation inArea perFix approachHolds countedFor
+    potentialOf findIn placeOf aircraftAt fixOf isFirst leaderOf leaderZone boundA boundB lateralRule boundC boundD numbersDiffer sequenceExact finalFirst isNobody zoneKept sequenceKept
+    boundE boundF legFits fitsZone legalLegs boundG withinBounds withoutHead withTail appended removed withZone withSequence tickedAircraft tickedZone ticked sideOf startsFrom
+    mayApproach baseFree mayMerge headGone tailPut moved outOfSequence fixTaken entered madeRoom enteredAbove approached landed exited fixAfterMiss missedApproach held belongsTo shownTo
+    shownAt3000 checksOf effectOf numberOf numberAndZeros acceptance answerOf stepOf neg add sub mul div ofInt round lt le eq sequenceListed approachOrder areaOrder roomToMiss
+    lateralOrder
 computed = (
   tt,
   tt,
