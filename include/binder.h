@@ -14,7 +14,7 @@ extern "C" {
 
 /* Writes the report over the binder of `length` bytes at `binder` to the start of `out`, which has BAGUYMO_WEEK_ROOM bytes and does not
    overlap the binder, and returns how many bytes the report has. The rest of `out` is not changed. Any binder is allowed, also an empty
-   one. No pointer is null, also where the length is 0. A log of 57,344 bytes is kept on the stack. */
+   one. No pointer may be null, not even where the length is 0. A log of 57,344 bytes is kept on the stack. */
 size_t baguymo_week(const uint8_t *binder, size_t length, uint8_t *out);
 
 #ifdef __cplusplus

@@ -18,7 +18,7 @@ extern "C" {
    the rest of `out` is not changed. The input has eight bytes for the legs (base, intermediate, final, missed, in 64ths of a mile) and then
    eight for each call: 0 for a request or any other byte for a step back, the desk, the kind, the side, the number and the amount; a number
    of two bytes has its low byte first. Any input is allowed, also an empty one: one that is refused gives the line `refused` and its
-   number, 7 or 5. No pointer is null, also where the length is 0. */
+   number, 7 or 5. No pointer may be null, not even where the length is 0. */
 size_t baguymo_desks(const uint8_t *input, size_t length, uint8_t *out);
 
 #ifdef __cplusplus

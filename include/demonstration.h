@@ -17,7 +17,7 @@ extern "C" {
    the report to the start of `out`, which has BAGUYMO_BUTTON_ROOM bytes and does not overlap the file. Returns how many bytes the report
    has. The rest of `out` is not changed. The report has a line for each press that moved somebody (press, kind, aircraft, zone, fix,
    leader, along) and a last line, `none` or `spent`, with how many requests the button played; a refused file has only `file` and its
-   number. Any file is allowed, also an empty one. No pointer is null, also where the length is 0. A log of 57,344 bytes is
+   number. Any file is allowed, also an empty one. No pointer may be null, not even where the length is 0. A log of 57,344 bytes is
    kept on the stack. */
 size_t baguymo_button(const uint8_t *file, size_t length, uint8_t *out);
 

@@ -15,7 +15,7 @@ extern "C" {
 
 /* Writes the report of the practice file of `length` bytes at `file` to the start of `out`, which has BAGUYMO_REPORT_ROOM bytes and
    does not overlap the file, and returns how many bytes the report has. The rest of `out` is not changed. Any file is allowed, also
-   an empty one. No pointer is null, also where the length is 0. A log of 57,344 bytes is kept on the stack. */
+   an empty one. No pointer may be null, not even where the length is 0. A log of 57,344 bytes is kept on the stack. */
 size_t baguymo_report(const uint8_t *file, size_t length, uint8_t *out);
 
 /* The same report, byte for byte, and slower: the field and its index are judged before every request, and the field after it, as the

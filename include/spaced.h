@@ -16,8 +16,8 @@ extern "C" {
 /* Writes the report of the spacing after the practice file of `length` bytes at `file`, by a spacing in 64ths of a mile, to the start of
    `out`, which has BAGUYMO_SPACING_ROOM bytes and does not overlap the file, and returns how many bytes the report has, which is 0 where
    there is no pair. The rest of `out` is not changed. Any spacing and any file are allowed, also an empty one: a spacing that is not 1 to
-   512 gives the line `spacing 4`, and then a refused file gives `file` and its number. No pointer is null, also where the length
-   is 0. A log of 57,344 bytes is kept on the stack. */
+   512 gives the line `spacing 4`, and then a refused file gives `file` and its number. No pointer may be null, not even where the
+   length is 0. A log of 57,344 bytes is kept on the stack. */
 size_t baguymo_spacing(const uint8_t *file, size_t length, uint16_t spacing, uint8_t *out);
 
 #ifdef __cplusplus

@@ -71,9 +71,9 @@ def waited_after(waited, past):
     return min(rounded(waited + past), MOST_WAITED)
 
 
-def missed_leg(missed, last, flown):
+def leg_after_miss(missed, final_leg, flown):
     """The leg ahead on a miss, by document 02, 2.7: the difference rounded once, and the sum."""
-    return rounded(missed + rounded(last - flown))
+    return rounded(missed + rounded(final_leg - flown))
 
 
 def line(leg, speed, start, before, amounts):
@@ -108,10 +108,10 @@ def ticks(legs):
 def misses(legs):
     """Writes the lines of all misses whose miles flown are within the leg of final."""
     for missed in legs:
-        for last in legs:
-            for flown in starts_of(last):
+        for final_leg in legs:
+            for flown in starts_of(final_leg):
                 if flown is not None:
-                    print(bits(missed), bits(last), bits(flown), bits(missed_leg(missed, last, flown)))
+                    print(bits(missed), bits(final_leg), bits(flown), bits(leg_after_miss(missed, final_leg, flown)))
 
 
 def main():

@@ -9,7 +9,7 @@ ghost use mathlib.Core.List.{[], _∷_, _++_};
 ghost use Prim.Native.Nat.{_≤_, _<_};
 ghost use lib.ListN.{length};
 ghost use Rattle.text.specs.Text.{lineOf};
-ghost use Rattle.text.specs.Buffer.{room, Put, Written};
+ghost use Rattle.text.specs.Buffer.{room, Put};
 ghost use Rattle.binder.specs.Week.{rowLine, refusedBinder};
 ghost use Rattle.binder.specs.Counts.{rowAt, rowsTo, weekLines};
 

@@ -52,8 +52,8 @@ move kind a = record { kind = kind; side = 0; number = a .number; amount = 0; de
 -- ---- the kinds by which somebody goes on
 
 -- kinds 3 to 8 and 11 lie between 3 and 11
-pub moves-low : (k : ℕ) → T (movesOn k) → (3 ≤ k) × (k ≤ 11)
-moves-low k t =
+pub moves-between : (k : ℕ) → T (movesOn k) → (3 ≤ k) × (k ≤ 11)
+moves-between k t =
     elim (decided (within 3 8 k)) [
       | inl e ↦ (let l = input.within-low 3 8 k e in let h = input.within-high 3 8 k e in (l, omega arith))
       | inr e ↦ (let q = eqb-true k 11 (passed (subst (λ (b : Bool). T (b || eqb k 11)) e t)) in (omega arith, omega arith))
@@ -63,7 +63,7 @@ moves-low k t =
 pub checks-of-move : (f : Field) (r : Request) → T (movesOn (r .kind)) → checksOf f r ≡ headChecks (r .kind) (placeBefore f r) (owned f r) ++ besides f r (r .kind)
 checks-of-move f r m =
     let k = r .kind in
-    let (low, high) = moves-low k m in
+    let (low, high) = moves-between k m in
     checks-at f r {k = k} refl ∙ simp (input.within-above 1 2 k (omega arith), ne-eqb k 12 (λ q. omega arith))
 
 -- ---- one at the head of zone z, as it asks for a move
@@ -94,7 +94,7 @@ module _ {f : Side} {line : List Placed} {runway : List Aircraft} {legs : Legs} 
   goes-on : (k : ℕ) → T (movesOn k) → T (startsFrom k z) → firstRefused (besides F (move k a) k) ≡ 0 → MovesOn F
   goes-on k t starts met =
       let r = move k a in
-      let range = moves-low k t in
+      let range = moves-between k t in
       let number = pos-of-ne-zero (eqb-false (a .number) 0 (failed {b = eqb (a .number) 0} (h .named))) in
       let input = move-allowed r (range .0) (range .1) (record { side = refl; number = number; amount = refl }) (h .desk) in
       record {

@@ -2,7 +2,7 @@
 -- Assumes nothing.
 use mathlib.Core.Path.{_≡_, refl, sym, ap, _∙_, subst}
 use mathlib.Core.Logic.{inl, inr}
-use mathlib.Core.Bool.{Bool, true, false, cond, not, _&&_, _||_, true≢false}
+use mathlib.Core.Bool.{Bool, true, false, cond, _&&_, _||_, true≢false}
 use mathlib.Core.List.{List, [], _∷_}
 use Prim.Native.Nat.{ℕ, _≤_}
 use native.Mathlib.Omega.{arith}
@@ -11,26 +11,28 @@ use lib.ListN.{length, getD}
 use lib.Ieee.Fits.{and-i, and-l, and-r}
 use borrow.Author.Tests.{eqb-true, eqb-false, eq-eqb, ne-eqb}
 use Rattle.limits.specs.Limits.{fastest, longestTick}
-use Rattle.request.specs.Input.{within, isEntry, isTick, inRange, range, firstRefused}
+use Rattle.request.specs.Input.{within, isEntry, isTick, inRange, range}
 use Rattle.request.specs.declared.Request.{Request}
 use Rattle.request.proofs.ByKind.{keeps}
-use Rattle.request.proofs.InputTests.{within-high, within-above, nonzero-known, both-left, both-right}
+use Rattle.request.proofs.InputTests.{within-high, within-yes, within-above, nonzero-known, both-left, both-right}
 use Rattle.field.specs.declared.Field.{Field}
 use Rattle.field.specs.declared.Aircraft.{Aircraft}
 use Rattle.field.specs.Airspace.{everywhere, zonesFrom, inZone, nobody}
 use Rattle.field.specs.Lists.{isIn, every}
 use Rattle.field.proofs.TestLaws.{pass, decided, each-zone, every-from, implies, implied, if-true}
 use Rattle.questions.specs.Counts.{howMany, presentOn, total}
-use Rattle.questions.specs.Find.{aircraftAt, numbersIn}
-use Rattle.questions.proofs.FindLaws.{found-exactly, found-there, place-within}
+use Rattle.questions.specs.Find.{aircraftAt}
+use Rattle.questions.proofs.FindLaws.{place-within}
 use Rattle.bounds.specs.Bounds.{withinBounds}
 use Rattle.rules.specs.Kinds.{placeBefore, startsFrom, belongsTo}
 use Rattle.rules.specs.Step.{numberOf}
-use Rattle.rules.proofs.Checks.{besides, owned, HeadPassed, head-passed}
+use Rattle.rules.proofs.HeadOfRequest as request
+use Rattle.rules.proofs.HeadOfRequest.{head-alike}
+use Rattle.rules.proofs.Checks.{besides, owned, HeadPassed}
 use Rattle.rules.proofs.Refusals.{passes}
 use Rattle.rules.proofs.StepLaws.{number-is, input-of}
 use Rattle.demand.specs.Demand.{movesOn}
-use Rattle.demand.proofs.Unstuck.{moves-low, checks-of-move}
+use Rattle.demand.proofs.Unstuck.{moves-between}
 use Rattle.press.specs.declared.Proposal.{Proposal}
 use Rattle.press.specs.declared.Proposal.the-variants.{None, Play}
 use Rattle.press.specs.Press.{candidates, headMove, longTick, firstAccepted, proposalOf, playedBy, pressOf}
@@ -63,28 +65,23 @@ module _ (f : Field) (r : Request) (m : T (movesOn (r .kind))) (e : numberOf f r
   k = r .kind
 
   no-entry : isEntry k ≡ false
-  no-entry = within-above 1 2 k (omega (arith, moves-low k m .0))
+  no-entry = within-above 1 2 k (omega (arith, moves-between k m .0))
 
   no-tick : isTick k ≡ false
-  no-tick = ne-eqb k 12 (λ q. omega (arith, moves-low k m .1))
+  no-tick = ne-eqb k 12 (λ q. omega (arith, moves-between k m .1))
+
+  is-move : within 3 11 k ≡ true
+  is-move = within-yes 3 11 k (moves-between k m .0) (moves-between k m .1)
 
   -- its aircraft stands at the head of a zone that the kind starts from
   heads : HeadPassed k (placeBefore f r) (owned f r) (besides f r k)
-  heads = head-passed k (placeBefore f r) (owned f r) (besides f r k) (sym (ap firstRefused (checks-of-move f r m)) ∙ passes f r e .checks)
+  heads = request.heading (passes f r e) refl is-move
 
   abbrev z : ℕ
   z = placeBefore f r .zone
 
   there : aircraftAt f z 1 .number ≡ r .number
-  there =
-      let present : isIn (r .number) (numbersIn f everywhere) ≡ true =
-      elim (decided (isIn (r .number) (numbersIn f everywhere))) [
-        | inl y ↦ y
-        | inr y ↦ absurd (true≢false (sym (heads .known) ∙ ap not (found-exactly f (r .number) ∙ ap not y)))
-      ] in
-      let found = found-there f (r .number) present in
-      let one = eqb-true (placeBefore f r .place) 1 (heads .first) in
-      sym (ap (λ (p : ℕ). aircraftAt f z p .number) one) ∙ found .has
+  there = head-alike (request.heads (passes f r e) refl is-move)
 
   own : aircraftAt f z 1 .desk ≡ r .desk
   unfolding belongsTo
@@ -104,7 +101,7 @@ module _ (f : Field) (r : Request) (m : T (movesOn (r .kind))) (e : numberOf f r
 
   among : T (isPair k z candidates)
   among =
-      let l = moves-low k m in
+      let l = moves-between k m in
       let low = nonzero-known z (heads .known) in
       candidate k z m (l .0) (l .1) low (place-within f (r .number)) (pass (heads .starts))
 

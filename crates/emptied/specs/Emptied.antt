@@ -28,10 +28,10 @@ pub record PressedOn (f : Field) : Type 0 where
 
 -- held down, the button empties the field, and says none, within its bound
 pub record Emptied (f : Field) : Type 0 where
-  -- 'none' is said, and nobody is left: the requests that it may play are enough
+  -- 'none' is said, and nobody is left: as many requests as it may play are enough
   pub ending : heldOf f .ending ≡ ending.None
   pub nobody : presentOn (heldOf f .field) ≡ 0
-  -- it plays no more of them, as it is defined
+  -- it plays no more than that, by its definition
   pub few : heldOf f .played ≤ mostPresses
   -- its moves are as few as those of any list without an entry or a miss
   pub few-moves : moves (played f (heldRequests f)) ≤ mostMoves

@@ -5,6 +5,7 @@ use finder::Indexed;
 use finder::within_bounds_indexed;
 use indexed::step_indexed;
 use indexed::with_index;
+use limits::MOST_KEPT;
 use request::Request;
 use request::input_number;
 use rules::Answer;
@@ -12,9 +13,6 @@ use step::number_and_zeros;
 ghost use mathlib.Core.Path.{_≡_};
 ghost use Rattle.rules.specs.Step.{numberAndZeros};
 ghost use Rattle.history.specs.History.{startWith, startOf, keptWithinBounds, withinBoundsHistory, keeping, stepHistory, stepBack};
-
-// The most fields that are kept.
-const MOST_KEPT: usize = 8;
 
 // A field with its index, the kept fields before the last accepted requests, oldest first, and how many of them count.
 pub struct History {

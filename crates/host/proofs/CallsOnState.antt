@@ -1,4 +1,4 @@
--- A start, a step and the button on the history that the bytes are read as, and the state after each. Assumes nothing.
+-- A start, a step, the button and the field of a list, on the history that the bytes are read as, and the state after each. Assumes nothing.
 use mathlib.Core.Path.{_≡_, refl, sym, ap, _∙_}
 use mathlib.Core.Bool.{Bool, true, false, cond}
 use mathlib.Core.List.{List}
@@ -16,7 +16,7 @@ use Rattle.dialect_field.specs.declared.Built.{Built}
 use Rattle.press_kept.specs.declared.PressedKept.{PressedKept}
 use Rattle.press_kept.specs.declared.HeldKept.{HeldKept}
 use Rattle.press_kept.specs.PressKept.{pressKept, heldKept}
-use Rattle.host.specs.Calls.{start, startNumber, written}
+use Rattle.host.specs.Calls.{start, startNumber, leftAsBytes}
 use Rattle.replies.specs.Replies.{endNumber}
 use Rattle.layout.specs.Read.{readHistory}
 use Rattle.layout.specs.Written.{historyBytes, stateAfter}
@@ -33,12 +33,12 @@ pub after-step : (state : List ℕ) {s t : SteppedHistory} → s ≡ t → state
 after-step state e = ap (λ (x : SteppedHistory). stateAfter state (x .answer .number) (x .after)) e
 
 -- ---- the start
-pub start-refused : (state : List ℕ) (legs : FileLegs) → legsAllowed legs ≡ false → (7 ≡ startNumber legs) × (state ≡ written state (start legs))
+pub start-refused : (state : List ℕ) (legs : FileLegs) → legsAllowed legs ≡ false → (7 ≡ startNumber legs) × (state ≡ leftAsBytes state (start legs))
 start-refused state legs h =
     let e : startNumber legs ≡ 7 = if-false _ _ h in
     (sym e, sym (ap (λ (n : ℕ). stateAfter state n (cond (eqb n 0) (startOf (legsInMiles legs)) (readHistory state))) e))
 
-pub start-stored : (state : List ℕ) (legs : FileLegs) → legsAllowed legs ≡ true → (0 ≡ startNumber legs) × (historyBytes (startOf (legsInMiles legs)) ≡ written state (start legs))
+pub start-stored : (state : List ℕ) (legs : FileLegs) → legsAllowed legs ≡ true → (0 ≡ startNumber legs) × (historyBytes (startOf (legsInMiles legs)) ≡ leftAsBytes state (start legs))
 start-stored state legs h =
     let e : startNumber legs ≡ 0 = if-true _ _ h in
     (sym e, sym (ap (λ (n : ℕ). stateAfter state n (cond (eqb n 0) (startOf (legsInMiles legs)) (readHistory state))) e))

@@ -85,8 +85,8 @@ replyOf h (spaced n) = let s = spacingsOf h n in record { number = s .number; re
 replyOf h listed = let l = listingOf h in record { number = l .number; request = []; numbers = listingNumbers l; gaps = [] }
 replyOf h (builtFrom legs speed bytes) = numberAlone (fieldOfList legs speed bytes .number)
 
--- what it leaves: an accepted start or field begins anew, with no field kept (02, 2.13); the spacing and the list only read; and of the others each is what
--- it is on the history
+-- what it leaves: an accepted start or field begins anew, with no field kept (02, 2.13); the spacing and the list only read; the others leave what
+-- `stepHistory`, `stepBack`, `pressKept` and `heldKept` leave
 abbrev pub leftBy : History → HostCall → History
 leftBy h (start legs) = cond (eqb (startNumber legs) 0) (startOf (legsInMiles legs)) h
 leftBy h (ask r) = stepHistory h r .after
@@ -99,21 +99,21 @@ leftBy h (builtFrom legs speed bytes) = cond (eqb (fieldOfList legs speed bytes 
 
 -- ---- on the bytes of a state
 
--- what a call replies: that of the history that they are
+-- what a call replies: what it replies on the history that the bytes are read as
 abbrev pub replyOn : List ℕ → HostCall → Reply
 replyOn state c = replyOf (readHistory state) c
 
--- what a call leaves, as bytes; where it is refused, the bytes as they were
-abbrev pub written : List ℕ → HostCall → List ℕ
-written state c = stateAfter state (replyOn state c .number) (leftBy (readHistory state) c)
+-- what a call leaves, as bytes; where it is refused, the bytes as they were; a press that says none is accepted, and so writes what was read
+abbrev pub leftAsBytes : List ℕ → HostCall → List ℕ
+leftAsBytes state c = stateAfter state (replyOn state c .number) (leftBy (readHistory state) c)
 
 -- the bytes after a call: the spacing and the list only read them
 abbrev pub bytesLeft : List ℕ → HostCall → List ℕ
-bytesLeft state (start legs) = written state (start legs)
-bytesLeft state (ask r) = written state (ask r)
-bytesLeft state (back desk) = written state (back desk)
-bytesLeft state press = written state press
-bytesLeft state holdDown = written state holdDown
+bytesLeft state (start legs) = leftAsBytes state (start legs)
+bytesLeft state (ask r) = leftAsBytes state (ask r)
+bytesLeft state (back desk) = leftAsBytes state (back desk)
+bytesLeft state press = leftAsBytes state press
+bytesLeft state holdDown = leftAsBytes state holdDown
 bytesLeft state (spaced n) = state
 bytesLeft state listed = state
-bytesLeft state (builtFrom legs speed bytes) = written state (builtFrom legs speed bytes)
+bytesLeft state (builtFrom legs speed bytes) = leftAsBytes state (builtFrom legs speed bytes)

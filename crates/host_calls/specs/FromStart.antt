@@ -95,7 +95,7 @@ pub record FromStart (legs : Legs) (cs : List HostCall) : Type 0 where
   pub taken-back : TakenBack legs (allCallsOf (startOf legs) cs)
   -- 25 never comes, but where a field is to be built
   pub no-25 : T (onlyFieldsReply 25 (startOf legs) cs)
-  -- held down then, the button empties the field, and says none (02, 2.6); that it plays no more than its bound is how it is defined
+  -- held down then, the button empties the field, and says none (02, 2.6); that it plays no more than its bound follows from its definition
   pub ending : heldKept (leftByAll (startOf legs) cs) .ending ≡ ending.None
   pub nobody : presentOn (heldKept (leftByAll (startOf legs) cs) .after .now .field) ≡ 0
   pub few : heldKept (leftByAll (startOf legs) cs) .played ≤ mostPresses

@@ -32,7 +32,7 @@ use Rattle.rules.specs.Play.{fieldAfter}
 use Rattle.renaming.specs.Renaming.{Renaming, exchanged}
 use Rattle.renaming.proofs.Exchanged.{exchange-apart, exchange-renames}
 use Rattle.indexed.specs.Indexed.{withIndex, numberIndexed, stepIndexed}
-use Rattle.isolated.specs.Isolated.{KeepsOne, KeepsAircraft, KeepsOwn}
+use Rattle.isolated.specs.Isolated.{KeepsNumber, KeepsAircraft, KeepsOwn}
 use Rattle.isolated.specs.Seen.{otherLets, seenSessions}
 use Rattle.isolated.specs.Weaker.{OnlyAccepted, OnlyNamed, NotApart, ZeroToo, EachNeeded}
 
@@ -71,7 +71,7 @@ merged n = cond (eqb n 9) 8 n
 -- nobody is on the empty field
 none-on : (π : ℕ → ℕ) → KeepsAircraft 1 π nobodyOn
 unfolding emptyField inZone queueOf zoneOf
-none-on π z t = each-zone (λ (z : ℕ). Each (KeepsOne 1 π) (inZone nobodyOn z)) (tt, (tt, (tt, (tt, (tt, (tt, (tt, (tt, (tt, (tt, (tt, (tt, (tt, tt))))))))))))) z t
+none-on π z t = each-zone (λ (z : ℕ). Each (KeepsNumber 1 π) (inZone nobodyOn z)) (tt, (tt, (tt, (tt, (tt, (tt, (tt, (tt, (tt, (tt, (tt, (tt, (tt, tt))))))))))))) z t
 
 -- a request of the other desk is not this desk's
 not-own : {A : Type 0} → _≡_ {A = ℕ} 2 1 → A
@@ -130,8 +130,8 @@ computed = (
     index-in-order =
         λ claim.
         let g : Field = fieldAfter nobodyOn (lets 2 8 ∷ []) in
-        let theirs : Each (KeepsOne 1 swap) (inZone g 2) = ((λ e. not-own e), tt) in
-        let on : KeepsAircraft 1 swap g = each-zone (λ (z : ℕ). Each (KeepsOne 1 swap) (inZone g z)) (tt, (theirs, (tt, (tt, (tt, (tt, (tt, (tt, (tt, (tt, (tt, (tt, (tt, tt))))))))))))) in
+        let theirs : Each (KeepsNumber 1 swap) (inZone g 2) = ((λ e. not-own e), tt) in
+        let on : KeepsAircraft 1 swap g = each-zone (λ (z : ℕ). Each (KeepsNumber 1 swap) (inZone g z)) (tt, (theirs, (tt, (tt, (tt, (tt, (tt, (tt, (tt, (tt, (tt, (tt, (tt, tt))))))))))))) in
         let c : KeepsOwn 1 swap g (seven ∷ []) = record { renaming = swap-renames; requests = ((λ e. refl), tt); aircraft = on } in
         true≢false (ap (λ (ps : List (Request × Answer)). eqb (numberFirst ps) 10) (claim (withIndex g) refl tt 1 (seven ∷ []) swap c));
   },

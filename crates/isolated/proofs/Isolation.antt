@@ -28,7 +28,7 @@ use Rattle.rules.specs.Step.{stepOf}
 use Rattle.rules.specs.Play.{played, ofDesk}
 use Rattle.renaming.specs.Renaming.{Renaming, renamedAircraft, renamedZone, renamedField, renamedRequest, renamedPair}
 use Rattle.renaming.proofs.StepsRenamed.{played-renamed}
-use Rattle.isolated.specs.Isolated.{KeepsRequest, KeepsRequests, KeepsOne, KeepsAircraft, Isolation, renamedOther, renamedOthersIn, renamedOthers, renamedOtherRequest, renamedOtherRequests}
+use Rattle.isolated.specs.Isolated.{KeepsRequest, KeepsRequests, KeepsNumber, KeepsAircraft, Isolation, renamedOther, renamedOthersIn, renamedOthers, renamedOtherRequest, renamedOtherRequests}
 use Rattle.owners.proofs.EachOfList.{each-parts, each-places, maps-agree}
 use Rattle.isolated.proofs.Stays.{StaysIn, Stays, own-numbers-stay}
 use Rattle.isolated.proofs.Shown.{pair-stays}
@@ -42,7 +42,7 @@ module _ (d : ℕ) {π : ℕ → ℕ} (p : Renaming π) where
   -- ---- from the aircraft within the lengths to every place
 
   -- a place past a length has number 0, which stays
-  past-stays : (xs : List Aircraft) → T (every isNobody xs) → Each (KeepsOne d π) xs
+  past-stays : (xs : List Aircraft) → T (every isNobody xs) → Each (KeepsNumber d π) xs
   unfolding isNobody
   past-stays [] t = tt
   past-stays (a ∷ xs) t =
@@ -57,7 +57,7 @@ module _ (d : ℕ) {π : ℕ → ℕ} (p : Renaming π) where
     zone-stays z b =
         let q = zoneOf f z in
         let kept = every-listed (λ y. zoneKept (zoneOf f y)) everywhere z (within-e f w .zones-kept) (zone-listed z b) in
-        each-parts (KeepsOne d π) (q .length) (q .aircraft)
+        each-parts (KeepsNumber d π) (q .length) (q .aircraft)
         (h z (and-i (leb 1 z) (leb z 13) (le→leb 1 z (b .least)) (le→leb z 13 (b .most))))
         (past-stays (drop (q .length) (q .aircraft)) (and-r (leb (q .length) 4) (every isNobody (drop (q .length) (q .aircraft))) kept))
 
@@ -66,14 +66,14 @@ module _ (d : ℕ) {π : ℕ → ℕ} (p : Renaming π) where
     own-stay long = each-places (StaysIn d π) (f .zones) emptyZone (λ i l. zone-stays (suc i) (record { least = omega arith; most = omega arith }))
 
   -- ---- where the own numbers stay, the other desk's numbers renamed are all numbers renamed
-  aircraft-is : (a : Aircraft) → KeepsOne d π a → renamedOther d π a ≡ renamedAircraft π a
+  aircraft-is : (a : Aircraft) → KeepsNumber d π a → renamedOther d π a ≡ renamedAircraft π a
   aircraft-is a k =
       either-way (λ (b : Aircraft). b ≡ renamedAircraft π a) (eqb (a .desk) d) a (renamedAircraft π a)
       (λ e. rw (k (eqb-true (a .desk) d e)) refl)
       (λ e. refl)
 
   zone-is : (q : Zone) → StaysIn d π q → renamedOthersIn d π q ≡ renamedZone π q
-  zone-is q h = rw (maps-agree (KeepsOne d π) (renamedOther d π) (renamedAircraft π) aircraft-is (q .aircraft) h) refl
+  zone-is q h = rw (maps-agree (KeepsNumber d π) (renamedOther d π) (renamedAircraft π) aircraft-is (q .aircraft) h) refl
 
   pub field-is : (f : Field) → Stays d π f → renamedOthers d π f ≡ renamedField π f
   field-is f h = rw (maps-agree (StaysIn d π) (renamedOthersIn d π) (renamedZone π) zone-is (f .zones) h) refl

@@ -14,12 +14,12 @@ use Rattle.rules.specs.declared.Stepped.{Stepped}
 use Rattle.rules.specs.Kinds.{zoneBefore, shownTo, shownAt3000}
 use Rattle.rules.specs.Step.{effectOf, numberOf, numberAndZeros, acceptance, alongFor, answerOf, stepOf}
 use Rattle.renaming.specs.Renaming.{Renaming, renamedAnswer, renamedPair}
-use Rattle.isolated.specs.Isolated.{KeepsRequest, KeepsOne}
+use Rattle.isolated.specs.Isolated.{KeepsRequest, KeepsNumber}
 use Rattle.isolated.proofs.Stays.{Stays, at-stays, effect-stays}
 
 module _ (d : ℕ) {π : ℕ → ℕ} (p : Renaming π) where
   -- ---- numbers that are shown
-  shown-stays : (a : Aircraft) → KeepsOne d π a → π (shownTo d a) ≡ shownTo d a
+  shown-stays : (a : Aircraft) → KeepsNumber d π a → π (shownTo d a) ≡ shownTo d a
   unfolding shownTo
   shown-stays a k = either-way (λ (n : ℕ). π n ≡ n) (eqb (a .desk) d) (a .number) 0 (λ e. k (eqb-true (a .desk) d e)) (λ e. p .zero)
 

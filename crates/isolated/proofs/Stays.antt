@@ -9,7 +9,7 @@ use Rattle.rules.specs.Step.{effectOf, stepOf}
 use Rattle.owners.proofs.Everyone as everyone
 use Rattle.owners.proofs.Everyone.{HoldsIn, Everyone}
 use Rattle.renaming.specs.Renaming.{Renaming}
-use Rattle.isolated.specs.Isolated.{KeepsRequest, KeepsOne}
+use Rattle.isolated.specs.Isolated.{KeepsRequest, KeepsNumber}
 
 module _ (d : ℕ) (π : ℕ → ℕ) where
   -- a number that one of the desk d has stays
@@ -24,7 +24,7 @@ module _ (d : ℕ) (π : ℕ → ℕ) where
   Stays = Everyone Fixed
 
 module _ (d : ℕ) {π : ℕ → ℕ} (p : Renaming π) where
-  pub at-stays : (f : Field) (z place : ℕ) → Stays d π f → KeepsOne d π (aircraftAt f z place)
+  pub at-stays : (f : Field) (z place : ℕ) → Stays d π f → KeepsNumber d π (aircraftAt f z place)
   at-stays = everyone.at-stays (Fixed d π) (λ e. p .zero)
 
   pub effect-stays : (f : Field) (r : Request) → KeepsRequest d π r → Stays d π f → Stays d π (effectOf f r)

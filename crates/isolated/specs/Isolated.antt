@@ -49,12 +49,12 @@ abbrev pub KeepsRequests : ℕ → (ℕ → ℕ) → List Request → Type 0
 KeepsRequests d π rs = Each (KeepsRequest d π) rs
 
 -- the number that an aircraft of desk d carries
-abbrev pub KeepsOne : ℕ → (ℕ → ℕ) → Aircraft → Type 0
-KeepsOne d π a = a .desk ≡ d → π (a .number) ≡ a .number
+abbrev pub KeepsNumber : ℕ → (ℕ → ℕ) → Aircraft → Type 0
+KeepsNumber d π a = a .desk ≡ d → π (a .number) ≡ a .number
 
 -- each number that an aircraft of desk d carries on the field; those that it lets in later are named by its requests (02, 2.10)
 abbrev pub KeepsAircraft : ℕ → (ℕ → ℕ) → Field → Type 0
-KeepsAircraft d π f = (z : ℕ) → T (within 1 13 z) → Each (KeepsOne d π) (inZone f z)
+KeepsAircraft d π f = (z : ℕ) → T (within 1 13 z) → Each (KeepsNumber d π) (inZone f z)
 
 -- what is asked of the new numbers
 pub record KeepsOwn (d : ℕ) (π : ℕ → ℕ) (f : Field) (rs : List Request) : Type 0 where

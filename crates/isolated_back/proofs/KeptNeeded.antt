@@ -33,7 +33,7 @@ use Rattle.rules.specs.Cases.{ask, allLegs}
 use Rattle.renaming.specs.Renaming.{exchanged}
 use Rattle.renaming.proofs.Exchanged.{exchange-renames}
 use Rattle.indexed.specs.Indexed.{withIndex}
-use Rattle.isolated.specs.Isolated.{KeepsOne, KeepsAircraft}
+use Rattle.isolated.specs.Isolated.{KeepsNumber, KeepsAircraft}
 use Rattle.isolated.specs.Seen.{otherLets}
 use Rattle.history.specs.declared.History.{History}
 use Rattle.history.specs.History.{counted, startOf, startWith, keptWithinBounds, withinBoundsHistory, keeping, numberHistory, stepHistory, numberBack, givenBack, stepBack}
@@ -48,14 +48,14 @@ staysOf π a = not (eqb (a .desk) 1) || eqb (π (a .number)) (a .number)
 abbrev staysOn : (ℕ → ℕ) → Field → Bool
 staysOn π f = every (λ z. every (staysOf π) (inZone f z)) everywhere
 
-one-stays : (π : ℕ → ℕ) (a : Aircraft) → T (staysOf π a) → KeepsOne 1 π a
+one-stays : (π : ℕ → ℕ) (a : Aircraft) → T (staysOf π a) → KeepsNumber 1 π a
 one-stays π a t e = go (eqb (a .desk) 1) (eq-eqb (a .desk) 1 e) t
   where
     go : (b : Bool) → b ≡ true → T (not b || eqb (π (a .number)) (a .number)) → π (a .number) ≡ a .number
     go true e t = eqb→eq (π (a .number)) (a .number) t
     go false e t = absurd (true≢false (sym e))
 
-those-stay : (π : ℕ → ℕ) (l : List Aircraft) → T (every (staysOf π) l) → Each (KeepsOne 1 π) l
+those-stay : (π : ℕ → ℕ) (l : List Aircraft) → T (every (staysOf π) l) → Each (KeepsNumber 1 π) l
 those-stay π [] t = tt
 those-stay π (a ∷ l) t = (one-stays π a (and-l (staysOf π a) (every (staysOf π) l) t), those-stay π l (and-r (staysOf π a) (every (staysOf π) l) t))
 

@@ -20,21 +20,22 @@ use Rattle.rules.proofs.Refusals.{Passes}
 use Rattle.kept_up.specs.KeptUp.{leadsTo}
 use Rattle.kept_up.proofs.Moved.{Left, Come}
 use Rattle.rules.proofs.HeadOfRequest.{bounded, heads, some}
-use Rattle.kept_up.proofs.Queues.{Led, MayGo, MayMakeRoom, led-same, moved-led, room-in}
+use Rattle.laws.proofs.RoomLaws.{room-in}
+use Rattle.kept_up.proofs.Queues.{Led, MayGo, MayMakeRoom, led-same, moved-led}
 
--- the side of a side
+-- the side of zone 1 or 2 is its own number
 pub side-own : (s : ℕ) → 1 ≤ s → s ≤ 2 → sideOf s ≡ s
 unfolding sideOf
 side-own s low high = each-from 1 2 (λ s. sideOf s ≡ s) (refl, (refl, tt)) s low (omega (arith, high))
 
--- a request that is accepted, of a field whose arrays have their places
+-- a request that is accepted, on a field whose arrays have their places
 pub record AcceptedRequest (f : Field) (r : Request) : Type 0 where
   pub shaped : Shaped f
   pub passed : Passes f r
 
 -- a zone that is one of the thirteen
-pub in-area : (z : ℕ) → 1 ≤ z → z ≤ 13 → Between 1 13 z
-in-area z a b = record { least = a; most = b }
+pub one-of-thirteen : (z : ℕ) → 1 ≤ z → z ≤ 13 → Between 1 13 z
+one-of-thirteen z a b = record { least = a; most = b }
 
 module _ (f : Field) (r : Request) where
   abbrev from : ℕ
@@ -109,5 +110,5 @@ steps {f} {r} {k} {w} a q m stays s =
     let room = room-in f (bounded (a .passed)) (s .start) in-operation (s .apart) (some (a .passed) q m) in
     let start : Between 1 13 (zoneBefore f r) = record { least = s .start .least; most = omega arith } in
     let may : MayGo f (r .number) (zoneBefore f r) w =
-    record { from-zone = start; to-zone = in-area w (omega arith) (omega arith); other-zone = s .apart; room = room; heads = heads (a .passed) q m } in
+    record { from-zone = start; to-zone = one-of-thirteen w (omega arith) (omega arith); other-zone = s .apart; room = room; heads = heads (a .passed) q m } in
     moves f r q stays (s .leads) (s .not-above) (led-same (λ y. ap (λ (x : Field). inZone x y) (s .effect)) (moved-led (a .shaped) may))

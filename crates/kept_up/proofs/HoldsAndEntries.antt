@@ -26,7 +26,7 @@ use Rattle.rules.proofs.Checks.{effect-at}
 use Rattle.kept_up.specs.KeptUp.{holdTo, leadsTo}
 use Rattle.rules.proofs.HeadOfRequest.{bounded, all-pass, heading, found, heads, some}
 use Rattle.kept_up.proofs.Queues.{MayGo, MayMakeRoom, put-come, come-same, led-same, moved-led, one-each, room-made}
-use Rattle.kept_up.proofs.FiveWays.{AcceptedRequest, side-own, to, Moves, Rises, Comes, ComesAbove, in-area, steps}
+use Rattle.kept_up.proofs.FiveWays.{AcceptedRequest, side-own, to, Moves, Rises, Comes, ComesAbove, one-of-thirteen, steps}
 
 module _ {f : Field} {r : Request} (a : AcceptedRequest f r) where
   abbrev from : ℕ
@@ -85,8 +85,8 @@ module _ {f : Field} {r : Request} (a : AcceptedRequest f r) where
         let low = m .low in
         let may : MayGo (madeRoom f s) n from s =
         record {
-          from-zone = in-area from (omega arith) (omega arith);
-          to-zone = in-area s low (omega arith);
+          from-zone = one-of-thirteen from (omega arith) (omega arith);
+          to-zone = one-of-thirteen s low (omega arith);
           other-zone = λ t. omega (arith, t);
           room = omega arith;
           heads = record { head = h .head; behind = h .behind; here = still ∙ h .here; named = h .named };
@@ -145,7 +145,7 @@ module _ {f : Field} {r : Request} (a : AcceptedRequest f r) where
         above = may;
         come =
             come-same (λ y. ap (λ (x : Field). inZone x y) (effect-at f r q))
-            (put-come (h .shaped) (in-area side low (omega (arith, high))) (entering n (fixTaken (madeRoom f side) side) (r .amount) (r .desk)) refl (omega (arith, few)));
+            (put-come (h .shaped) (one-of-thirteen side low (omega (arith, high))) (entering n (fixTaken (madeRoom f side) side) (r .amount) (r .desk)) refl (omega (arith, few)));
       })
     where
       none : (z : ℕ) → (isEmpty f z || isEmpty f (2 + z)) ≡ true → 1 ≤ howMany f z → howMany f (2 + z) ≡ 0
@@ -170,5 +170,5 @@ module _ {f : Field} {r : Request} (a : AcceptedRequest f r) where
         not-above = omega (arith, low);
         come =
             come-same (λ y. ap (λ (x : Field). inZone x y) (effect-at f r q))
-            (put-come (a .shaped) (in-area (4 + side) (omega arith) (omega (arith, high))) (entering n (fixTaken f side) (r .amount) (r .desk)) refl (omega (arith, few)));
+            (put-come (a .shaped) (one-of-thirteen (4 + side) (omega arith) (omega (arith, high))) (entering n (fixTaken f side) (r .amount) (r .desk)) refl (omega (arith, few)));
       })

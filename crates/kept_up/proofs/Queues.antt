@@ -1,42 +1,38 @@
 -- The queues of a field from which the head of a zone is taken, on which one more stands, or on which 3000 of a side was made empty. Assumes nothing.
 use mathlib.Core.Path.{_≡_, refl, sym, ap, _∙_, subst, subst⁻¹}
 use mathlib.Core.Logic.{_≢_, _⊎_, inl, inr}
-use mathlib.Core.Bool.{Bool, true, false, not, _&&_, _||_, true≢false}
+use mathlib.Core.Bool.{Bool, true, false, not, _&&_}
 use mathlib.Core.List.{List, [], _∷_}
 use Prim.Native.Nat.{ℕ, suc, _+_, _≤_, _<_}
 use native.Mathlib.Omega.{arith}
 use borrow.Author.Tests.{eqb-true, eqb-false, eq-eqb, ne-eqb}
 use lib.Dec.{T, eqb, leb, ltb, leb→le}
 use lib.Ieee.Fits.{and-l}
-use lib.ListN.{length, getD, drop}
+use lib.ListN.{length, drop}
 use Rattle.leg.specs.Ticks.{Between}
-use Rattle.request.proofs.InputTests.{within-yes}
 use Rattle.field.specs.declared.Aircraft.{Aircraft}
 use Rattle.field.specs.declared.Field.{Field}
-use Rattle.field.specs.Airspace.{right, left, nobody, operation, everywhere, zonesFrom, inZone, zoneOf, arrived}
+use Rattle.field.specs.Airspace.{right, left, everywhere, zonesFrom, inZone, zoneOf, arrived}
 use Rattle.edits.specs.Edits.{withoutHead, withTail}
 use Rattle.field.specs.Lists.{isIn, every}
 use Rattle.field.proofs.ArrivalLaws.{into-arrived}
 use Rattle.field.proofs.TestParts.{and-cut}
-use Rattle.field.proofs.TestLaws.{decided, pass, if-true, if-false, every-from, each-operation}
+use Rattle.field.proofs.TestLaws.{decided, if-true, if-false, every-from}
 use Rattle.questions.specs.declared.Place.{Place}
-use Rattle.questions.specs.Counts.{total, howMany, isEmpty, inOperation, presentOn}
+use Rattle.questions.specs.Counts.{howMany, isEmpty, presentOn}
 use Rattle.questions.specs.Find.{aircraftAt, placeOf, numbersIn}
 use Rattle.questions.proofs.FindLaws.{at, found-exactly, found-there, absent-nowhere}
-use Rattle.bounds.specs.Bounds.{boundA, lateralRule, boundC, withinBounds}
-use Rattle.laws.proofs.EditLaws.{Shaped, shaped-with-zone, shaped-without-head, shaped-with-tail, queue-taken, queue-put, queue-kept}
+use Rattle.bounds.specs.Bounds.{lateralRule, boundC, withinBounds}
+use Rattle.laws.proofs.EditLaws.{Shaped, queue-taken, queue-put, queue-kept}
 use Rattle.laws.proofs.BoundLaws.{within-each, numbers-different}
 use Rattle.rules.specs.Kinds.{headGone, tailPut, moved, madeRoom}
-use Rattle.rules.proofs.HeadOfRequest.{HeadOfQueue}
+use Rattle.rules.proofs.HeadOfRequest.{HeadOfQueue, head-alike}
+use Rattle.rules.proofs.MovedShapes.{gone-shaped, put-shaped}
 use Rattle.kept_up.proofs.Entries.{descendedPlace}
 use Rattle.kept_up.proofs.Moved.{Left, Come, others-left, was-head, own-left, left-total, others-come, own-new, come-total}
 
 module _ {f : Field} (sh : Shaped f) {z : ℕ} (b : Between 1 13 z) where
   -- with the head of a zone taken off it
-  pub gone-shaped : Shaped (headGone f z)
-  unfolding headGone
-  gone-shaped = shaped-with-zone f z (withoutHead (zoneOf f z)) b (sh .zones) sh (shaped-without-head (zoneOf f z) (sh .zone z))
-
   pub gone-left : {n : ℕ} → HeadOfQueue f n z → Left f (headGone f z) z n
   unfolding headGone
   gone-left heads =
@@ -51,10 +47,6 @@ module _ {f : Field} (sh : Shaped f) {z : ℕ} (b : Between 1 13 z) where
       }
 
   -- with an aircraft put at the tail of a zone
-  pub put-shaped : (a : Aircraft) → Shaped (tailPut f z a)
-  unfolding tailPut
-  put-shaped a = shaped-with-zone f z (withTail (zoneOf f z) a) b (sh .zones) sh (shaped-with-tail (zoneOf f z) a (sh .zone z))
-
   pub put-come : (a : Aircraft) {n : ℕ} → a .number ≡ n → howMany f z < 4 → Come f (tailPut f z a) z n
   unfolding tailPut
   put-come a e few =
@@ -84,11 +76,6 @@ pub record Led (f g : Field) (n z w : ℕ) : Type 0 where
   pub left : Left f between z n
   pub come : Come between g w n
 
--- the head of a zone as it arrives has its number
-pub head-alike : {f : Field} {n z : ℕ} → HeadOfQueue f n z → aircraftAt f z 1 .number ≡ n
-unfolding aircraftAt
-head-alike heads = ap (λ (l : List Aircraft). getD (nobody ∷ l) 1 nobody .number) (heads .here) ∙ heads .named
-
 -- what it takes that the head of zone z, with the number n, goes to the tail of zone w
 pub record MayGo (f : Field) (n z w : ℕ) : Type 0 where
   pub from-zone : Between 1 13 z
@@ -114,42 +101,6 @@ module _ {f : Field} (sh : Shaped f) {n z w : ℕ} (m : MayGo f n z w) where
 pub led-same : {f g h : Field} {n z w : ℕ} → ((y : ℕ) → inZone h y ≡ inZone g y) → Led f g n z w → Led f h n z w
 led-same same l = record { apart = l .apart; between = l .between; left = l .left; come = come-same same (l .come) }
 
--- ---- room in a zone
-one-in-total : (c : ℕ → ℕ) (zs : List ℕ) (z : ℕ) → isIn z zs ≡ true → c z ≤ total c zs
-one-in-total c [] z i = absurd (true≢false (sym i))
-one-in-total c (w ∷ zs) z i = go (decided (eqb w z)) (one-in-total c zs z)
-  where
-    go : (eqb w z ≡ true) ⊎ (eqb w z ≡ false) → (isIn z zs ≡ true → c z ≤ total c zs) → c z ≤ c w + total c zs
-    go (inl a) later = let e : c w ≡ c z = ap c (eqb-true w z a) in omega arith
-    go (inr a) later = let h = later (sym (ap (λ (b : Bool). b || isIn z zs) a) ∙ i) in omega arith
-
-two-in-total : (c : ℕ → ℕ) (zs : List ℕ) (y z : ℕ) → isIn y zs ≡ true → isIn z zs ≡ true → y ≢ z → c y + c z ≤ total c zs
-two-in-total c [] y z i j h = absurd (true≢false (sym i))
-two-in-total c (w ∷ zs) y z i j h = go (decided (eqb w y)) (decided (eqb w z)) (λ a b. two-in-total c zs y z a b h)
-  where
-    rest-y : eqb w y ≡ false → isIn y zs ≡ true
-    rest-y a = sym (ap (λ (b : Bool). b || isIn y zs) a) ∙ i
-
-    rest-z : eqb w z ≡ false → isIn z zs ≡ true
-    rest-z b = sym (ap (λ (b : Bool). b || isIn z zs) b) ∙ j
-
-    go : (eqb w y ≡ true) ⊎ (eqb w y ≡ false) → (eqb w z ≡ true) ⊎ (eqb w z ≡ false) → (isIn y zs ≡ true → isIn z zs ≡ true → c y + c z ≤ total c zs) → c y + c z ≤ c w + total c zs
-    go (inl a) (inl b) later = absurd (h (sym (eqb-true w y a) ∙ eqb-true w z b))
-    go (inl a) (inr b) later = let e : c w ≡ c y = ap c (eqb-true w y a) in let k = one-in-total c zs z (rest-z b) in omega arith
-    go (inr a) (inl b) later = let e : c w ≡ c z = ap c (eqb-true w z b) in let k = one-in-total c zs y (rest-y a) in omega arith
-    go (inr a) (inr b) later = let k = later (rest-y a) (rest-z b) in omega arith
-
--- A zone of the operation area has room where another has somebody.
-pub room-in : (f : Field) → T (withinBounds f) → {z w : ℕ} → Between 1 12 z → Between 1 12 w → w ≢ z → 1 ≤ howMany f z → howMany f w < 4
-unfolding boundA inOperation
-room-in f t {z} {w} a b h l =
-    let four = leb→le (inOperation f) 4 (and-l (leb (inOperation f) 4) (leb (howMany f 13) 1) (within-each f t .bound-a)) in
-    let both = two-in-total (howMany f) operation w z (listed w b) (listed z a) h in
-    omega arith
-  where
-    listed : (z : ℕ) → Between 1 12 z → isIn z operation ≡ true
-    listed z b = each-operation (λ z. isIn z operation ≡ true) (refl, refl, refl, refl, refl, refl, refl, refl, refl, refl, refl, refl) z (pass (within-yes 1 12 z (b .least) (b .most)))
-
 -- A holding and a lateral zone have at most one.
 pub one-each : (f : Field) → T (withinBounds f) → (z : ℕ) → 1 ≤ z → z ≤ 6 → howMany f z ≤ 1
 unfolding boundC
@@ -167,7 +118,7 @@ pub record MayMakeRoom (f : Field) (side : ℕ) : Type 0 where
   pub clear : 1 ≤ howMany f side → howMany f (2 + side) ≡ 0
 
 -- the field h with 3000 empty: one who was there on f is at 2000
-pub record Emptied (f : Field) (side : ℕ) (h : Field) : Type 0 where
+pub record RoomMade (f : Field) (side : ℕ) (h : Field) : Type 0 where
   pub shaped : Shaped h
   pub none : inZone h side ≡ []
   pub elsewhere : (y : ℕ) → y ≢ side → y ≢ 2 + side → inZone h y ≡ inZone f y
@@ -202,7 +153,7 @@ module _ {f : Field} (sh : Shaped f) (before : T (withinBounds f)) {side : ℕ} 
   stays p h = sym (if-false _ _ (ne-eqb (p .zone) side h))
 
   -- nobody was there
-  empty-already : howMany f side ≡ 0 → Emptied f side f
+  empty-already : howMany f side ≡ 0 → RoomMade f side f
   unfolding howMany
   empty-already e =
       record {
@@ -241,7 +192,7 @@ module _ {f : Field} (sh : Shaped f) (before : T (withinBounds f)) {side : ℕ} 
         is-out true e = e
         is-out false e = refl
 
-    moved-down : Emptied f side (moved f side (2 + side))
+    moved-down : RoomMade f side (moved f side (2 + side))
     unfolding moved howMany led moved-led put-led gone-left heads
     moved-down =
         record {
@@ -275,17 +226,17 @@ module _ {f : Field} (sh : Shaped f) (before : T (withinBounds f)) {side : ℕ} 
             ∙ stays (placeOf f m) zone
 
   -- `madeRoom` (`rules`) makes it so.
-  pub room-made : Emptied f side (madeRoom f side)
+  pub room-made : RoomMade f side (madeRoom f side)
   unfolding madeRoom howMany
   room-made =
       elim (decided (isEmpty f side)) [
-        | inl e ↦ subst⁻¹ (Emptied f side) (if-true _ _ e) (empty-already (eqb-true (howMany f side) 0 e))
+        | inl e ↦ subst⁻¹ (RoomMade f side) (if-true _ _ e) (empty-already (eqb-true (howMany f side) 0 e))
         | inr e ↦
             let some = eqb-false (howMany f side) 0 e in
-            subst⁻¹ (Emptied f side) (if-false _ _ e) (alone (inZone f side) refl some one)
+            subst⁻¹ (RoomMade f side) (if-false _ _ e) (alone (inZone f side) refl some one)
       ]
     where
-      alone : (l : List Aircraft) → inZone f side ≡ l → howMany f side ≢ 0 → howMany f side ≤ 1 → Emptied f side (moved f side (2 + side))
+      alone : (l : List Aircraft) → inZone f side ≡ l → howMany f side ≢ 0 → howMany f side ≤ 1 → RoomMade f side (moved f side (2 + side))
       alone [] i a b = absurd (a (many i))
         where
           many : inZone f side ≡ [] → howMany f side ≡ 0

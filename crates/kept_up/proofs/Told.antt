@@ -35,9 +35,10 @@ use Rattle.rules.proofs.Refusals.{passes}
 use Rattle.kept_up.specs.KeptUp.{approachTo, leadsTo}
 use Rattle.kept_up.proofs.Moved.{Left}
 use Rattle.kept_up.proofs.Leads.{of-side}
-use Rattle.rules.proofs.HeadOfRequest.{HeadOfQueue, only-zone, bounded, all-pass, heading, heads, on-final}
-use Rattle.kept_up.proofs.Queues.{Led, MayGo, gone-left, left-same, led-same, put-led, moved-led, head-alike, room-in}
-use Rattle.kept_up.proofs.FiveWays.{AcceptedRequest, side-own, to, Leaves, Moves, Rises, Comes, ComesAbove, in-area, moves, steps}
+use Rattle.rules.proofs.HeadOfRequest.{head-alike, HeadOfQueue, only-zone, bounded, all-pass, heading, heads, on-final}
+use Rattle.laws.proofs.RoomLaws.{room-in}
+use Rattle.kept_up.proofs.Queues.{Led, MayGo, gone-left, left-same, led-same, put-led, moved-led}
+use Rattle.kept_up.proofs.FiveWays.{AcceptedRequest, side-own, to, Leaves, Moves, Rises, Comes, ComesAbove, one-of-thirteen, moves, steps}
 use Rattle.kept_up.proofs.HoldsAndEntries.{holds-11, comes-1, comes-2}
 
 module _ {f : Field} {r : Request} (a : AcceptedRequest f r) where
@@ -141,8 +142,8 @@ module _ {f : Field} {r : Request} (a : AcceptedRequest f r) where
       let none = eqb-true (howMany f 13) 0 (all-pass (a .passed) q .1 .1 .1 .1 .1 .0) in
       let may : MayGo f n from 13 =
       record {
-        from-zone = in-area from (omega arith) (omega arith);
-        to-zone = in-area 13 (omega arith) (omega arith);
+        from-zone = one-of-thirteen from (omega arith) (omega arith);
+        to-zone = one-of-thirteen 13 (omega arith) (omega arith);
         other-zone = λ e. omega (arith, e);
         room = omega (arith, none);
         heads = heads (a .passed) q refl;
@@ -160,12 +161,12 @@ module _ {f : Field} {r : Request} (a : AcceptedRequest f r) where
   leaves-8 : r .kind ≡ 8 → Leaves f r
   unfolding startsFrom
   leaves-8 q =
-      leaves q refl (only-zone 13 from (heading (a .passed) q refl .starts)) (in-area 13 (omega arith) (omega arith)) (heads (a .passed) q refl) (λ y. ap (λ (x : Field). inZone x y) (effect-at f r q))
+      leaves q refl (only-zone 13 from (heading (a .passed) q refl .starts)) (one-of-thirteen 13 (omega arith) (omega arith)) (heads (a .passed) q refl) (λ y. ap (λ (x : Field). inZone x y) (effect-at f r q))
 
   leaves-9 : r .kind ≡ 9 → Leaves f r
   unfolding startsFrom exited outOfSequence withSequence inZone zoneOf
   leaves-9 q =
-      leaves q refl (only-zone 11 from (heading (a .passed) q refl .starts)) (in-area 11 (omega arith) (omega arith)) (heads (a .passed) q refl) (λ y. ap (λ (x : Field). inZone x y) (effect-at f r q))
+      leaves q refl (only-zone 11 from (heading (a .passed) q refl .starts)) (one-of-thirteen 11 (omega arith) (omega arith)) (heads (a .passed) q refl) (λ y. ap (λ (x : Field). inZone x y) (effect-at f r q))
 
   -- the fix of the head of final is a side
   fix-side : (l : List Aircraft) → T (every (fitsZone (f .legs) 12) l) → 1 ≤ length l → T (isSide (getD (nobody ∷ l) 1 nobody .fix))
@@ -187,8 +188,8 @@ module _ {f : Field} {r : Request} (a : AcceptedRequest f r) where
       let apart : w ≢ 12 = λ h. omega (arith, h) in
       let may : MayGo f n 12 w =
       record {
-        from-zone = in-area 12 (omega arith) (omega arith);
-        to-zone = in-area w (omega arith) (omega arith);
+        from-zone = one-of-thirteen 12 (omega arith) (omega arith);
+        to-zone = one-of-thirteen w (omega arith) (omega arith);
         other-zone = apart;
         room = room-in f (bounded (a .passed)) (record { least = omega arith; most = omega arith }) (record { least = omega arith; most = omega arith }) apart has;
         heads = head;

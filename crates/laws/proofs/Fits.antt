@@ -186,9 +186,9 @@ arrived-by-miss-fits legs l z a e t =
     let b = legalLeg (legs .base) in
     let i = legalLeg (legs .intermediate) in
     let f = legalLeg (legs .«final_approach») in
-    let last = equal-legal (a .leg) (legs .«final_approach») (and-r (m && b && i) f l) (p .own) in
+    let final = equal-legal (a .leg) (legs .«final_approach») (and-r (m && b && i) f l) (p .own) in
     let ahead = legAfterMiss (legs .missed) (a .progress) (a .leg) in
-    let legal : T (legalLegAfterMiss ahead) = leg-after-miss-legal (legs .missed) (a .leg) (a .progress) (and-l m b (and-l (m && b) i (and-l (m && b && i) f l))) last (p .along refl) in
+    let legal : T (legalLegAfterMiss ahead) = leg-after-miss-legal (legs .missed) (a .leg) (a .progress) (and-l m b (and-l (m && b) i (and-l (m && b && i) f l))) final (p .along refl) in
     into-fits legs l finalApproach z ahead a (arrivedByMiss legs z a) (into-arrived-by-miss legs z a) (subst T (sym (if-true (legalLegAfterMiss ahead) (eq ahead (legOf legs z)) e)) legal) t
 
 -- ---- an aircraft with another fix

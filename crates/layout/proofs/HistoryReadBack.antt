@@ -80,8 +80,8 @@ module _ (b : List ℕ) where
       let missed = miles-back b at (legs .missed) (p .missed) (holds-first b at m s h2) in
       let base = miles-back b (at + 8) (legs .base) (p .base) (holds-behind b at m s h2) in
       let middle = miles-back b (at + 16) (legs .intermediate) (p .intermediate) (holds-behind b at (m ++ s) i h3) in
-      let last = miles-back b (at + 24) (legs .«final_approach») (p .final-leg) (holds-behind b at (m ++ s ++ i) f h) in
-      λ t. record { missed = missed t; base = base t; intermediate = middle t; «final_approach» = last t }
+      let final = miles-back b (at + 24) (legs .«final_approach») (p .final-leg) (holds-behind b at (m ++ s ++ i) f h) in
+      λ t. record { missed = missed t; base = base t; intermediate = middle t; «final_approach» = final t }
 
   field-back : (f : Field) → FieldWith MilesHeld f → (at : ℕ) → Holds b at (fieldBytes f) → readField b at ≡ f
   unfolding readField fieldBytes

@@ -199,18 +199,18 @@ arrival-in-4096 = arrival-in-ticks-up-to longestLegMiles (lit< tt)
 -- ---- 3. The leg ahead on a miss (02, 2.7)
 
 -- From any miles within a legal leg of final, with a legal missed leg, it is from 1/64 of a mile to 128 miles, on the grid or off it: rounding keeps the order.
-pub leg-after-miss-legal : (missed last : Float) (p : Progress) → T (legalLeg missed) → T (legalLeg last) → T (withinLeg p last) → T (legalLegAfterMiss (legAfterMiss missed p last))
+pub leg-after-miss-legal : (missed final : Float) (p : Progress) → T (legalLeg missed) → T (legalLeg final) → T (withinLeg p final) → T (legalLegAfterMiss (legAfterMiss missed p final))
 unfolding legAfterMiss
-leg-after-miss-legal missed last Waiting l r w = leg-ahead missed last l (whole-leg last r)
-leg-after-miss-legal missed last (Flying miles) l r w = leg-ahead missed (sub binary64 last miles) l
-    (left-under miles last r (and-l (le (whole 0) miles) (le miles last) w) (and-r (le (whole 0) miles) (le miles last) w))
+leg-after-miss-legal missed final Waiting l r w = leg-ahead missed final l (whole-leg final r)
+leg-after-miss-legal missed final (Flying miles) l r w = leg-ahead missed (sub binary64 final miles) l
+    (left-under miles final r (and-l (le (whole 0) miles) (le miles final) w) (and-r (le (whole 0) miles) (le miles final) w))
 
 -- With a missed leg of j / 4096 miles and m / 4096 miles flown of k / 4096 it is exactly (j + (k - m)) / 4096 miles.
-pub leg-after-miss-exact : (missed last : Float) (p : Progress) (j k m : ℕ) → Exactly missed j → Exactly last k
-    → FlownExactly p m → m ≤ k → j + k < 2 ^ 53 → Exactly (legAfterMiss missed p last) (j + (k - m))
+pub leg-after-miss-exact : (missed final : Float) (p : Progress) (j k m : ℕ) → Exactly missed j → Exactly final k
+    → FlownExactly p m → m ≤ k → j + k < 2 ^ 53 → Exactly (legAfterMiss missed p final) (j + (k - m))
 unfolding legAfterMiss
-leg-after-miss-exact missed last Waiting j k m h g f under few = absurd f
-leg-after-miss-exact missed last (Flying miles) j k m h g f under few = ahead-grid missed (sub binary64 last miles) j (k - m) h (left-grid miles last k m g f under (omega arith)) (omega arith)
+leg-after-miss-exact missed final Waiting j k m h g f under few = absurd f
+leg-after-miss-exact missed final (Flying miles) j k m h g f under few = ahead-grid missed (sub binary64 final miles) j (k - m) h (left-grid miles final k m g f under (omega arith)) (omega arith)
 
 -- On a leg of up to 128 miles 8192 ticks of 64, or more of them, always leave it flown out.
 pub arrival-in-8192 : (miles leg : Float) {speed : ℕ} (n : ℕ) → T (legalLegAfterMiss leg) → Between 1 fastest speed → T (withinLeg (Flying miles) leg) → 8192 ≤ n

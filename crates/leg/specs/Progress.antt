@@ -75,7 +75,7 @@ remaining (Flying miles) leg = sub binary64 leg miles
 
 -- the own leg after a miss, with this progress on this leg of final: the missed leg and the rest of final, their sum rounded once (02, 2.7)
 unfoldable pub legAfterMiss : Float → Progress → Float → Float
-legAfterMiss missed p last = add binary64 missed (remaining p last)
+legAfterMiss missed p final = add binary64 missed (remaining p final)
 
 -- the miles of one who flies compare as bound g asks: not below 0, and not above the leg
 abbrev pub withinLeg : Progress → Float → Bool

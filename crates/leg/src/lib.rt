@@ -85,11 +85,11 @@ pub fn remaining(p: Progress, leg: f64) -> f64
     }
 }
 
-// The own leg after a miss: the missed leg and what is left of the last one, the sum rounded once.
-pub fn leg_after_miss(missed: f64, p: Progress, last: f64) -> f64
-    ensures { λ r. ⌜ r ≡ legAfterMiss missed p last ⌝ }
+// The own leg after a miss: the missed leg and what is left of final, the sum rounded once.
+pub fn leg_after_miss(missed: f64, p: Progress, final_leg: f64) -> f64
+    ensures { λ r. ⌜ r ≡ legAfterMiss missed p «final_leg» ⌝ }
 {
-    missed + remaining(p, last)
+    missed + remaining(p, final_leg)
 }
 
 // Whether the miles flown, if any, lie from 0 to the leg's length.

@@ -128,13 +128,13 @@ fn combination(i: usize) {
 // Writes the line of miss i: the miles flown change first, then the leg of final, then the missed leg.
 fn miss(i: usize) {
     let missed = length_of(i / 78);
-    let last = length_of(i / 6 % 13);
-    let p = Progress::Flying(start_of(i % 6, last));
-    if leg::within(p, last) {
+    let final_leg = length_of(i / 6 % 13);
+    let p = Progress::Flying(start_of(i % 6, final_leg));
+    if leg::within(p, final_leg) {
         print_miles(missed);
-        print_next(last);
-        print_next(start_of(i % 6, last));
-        print_next(leg::leg_after_miss(missed, p, last));
+        print_next(final_leg);
+        print_next(start_of(i % 6, final_leg));
+        print_next(leg::leg_after_miss(missed, p, final_leg));
         io::write_all(STDOUT_FILENO, b"\n");
     }
 }

@@ -21,11 +21,11 @@ longestLegMiles = 64
 abbrev pub longestOwnLegMiles : ℕ
 longestOwnLegMiles = 128
 
--- the most requests of a practice file (01, "The practice file")
+-- the most requests of a practice file (02, 2.11)
 abbrev pub mostRequests : ℕ
 mostRequests = 4096
 
--- the longest body 2 of a practice file, six bytes for each request: 24,576 bytes (01, "Turned away by the request or the file", 6)
+-- the longest body 2 of a practice file, six bytes for each request: 24,576 bytes (01, "The practice file")
 abbrev pub longestBody : ℕ
 longestBody = 6 * mostRequests
 
@@ -41,7 +41,7 @@ mostMoves = 27
 abbrev pub desks : ℕ
 desks = 2
 
--- how many fields are kept at most, each that before an accepted request (02, 2.13)
+-- how many fields are kept at most, each the one before an accepted request (02, 2.13)
 abbrev pub mostKept : ℕ
 mostKept = 8
 

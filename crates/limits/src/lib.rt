@@ -27,6 +27,9 @@ pub const LONGEST_BODY: u32 = 6 * 4096;
 // The longest practice file, in bytes.
 pub const LONGEST_FILE: usize = 34 + 6 * MOST_REQUESTS;
 
+// How many fields are kept at most.
+pub const MOST_KEPT: usize = 8;
+
 // The most miles past the ends of legs that are added up of an aircraft.
 pub const MOST_WAITED: f64 = 4096.0;
 

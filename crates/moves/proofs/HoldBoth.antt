@@ -32,10 +32,6 @@ use Rattle.moves.proofs.Carried.{WentAlong, onward-into, Carried, apart
 use Rattle.moves.proofs.AfterAccepted.{After, ZonesAllow, one-le, zone-in, moved-is, moved-orderly, zones-split}
 use Rattle.moves.proofs.Heads.{AtHead}
 
--- what is nowhere in a list is nowhere in its parts
-free-left : (xs ys : List ℕ) (z : ℕ) → T (free (xs ++ ys) z) → T (free xs z)
-free-left xs ys z t = pass (eq-eqb (count xs z) 0 (let a = count-append xs ys z in let b = eqb→eq (count (xs ++ ys) z) 0 t in omega arith))
-
 -- one of a list in another zone than z
 free-changed : (xs : List ℕ) (y w : ℕ) (ys : List ℕ) (z : ℕ) → T (free (xs ++ y ∷ ys) z) → eqb w z ≡ false → T (free (xs ++ w ∷ ys) z)
 free-changed xs y w ys z t h =

@@ -1,23 +1,23 @@
 -- What an accepted request of kinds 3 to 11 tells of the field: where its aircraft is, and the queue there. Assumes nothing.
-use mathlib.Core.Path.{_≡_, refl, sym, ap, _∙_}
-use mathlib.Core.Logic.{_≢_, _⊎_, inl, inr}
-use mathlib.Core.Bool.{Bool, true, false, not, _&&_, _||_, true≢false}
-use mathlib.Core.List.{List, [], _∷_, map}
-use Prim.Native.Nat.{ℕ, suc, _+_, _≤_, _<_}
+use mathlib.Core.Path.{_≡_, sym, ap, _∙_}
+use mathlib.Core.Logic.{_≢_, inl, inr}
+use mathlib.Core.Bool.{Bool, true, not, _&&_}
+use mathlib.Core.List.{List, map}
+use Prim.Native.Nat.{ℕ, suc, _<_}
 use native.Mathlib.Omega.{arith}
 use borrow.Author.Tests.{eqb-true, eqb-false}
 use lib.Dec.{T, eqb, leb, leb→le}
 use lib.Ieee.Fits.{and-l, and-r}
 use lib.ListN.{length, length-map}
+use Rattle.leg.specs.Ticks.{Between}
 use Rattle.request.specs.Input.{within}
 use Rattle.request.specs.declared.Request.{Request}
 use Rattle.request.proofs.InputTests as input
 use Rattle.field.specs.declared.Aircraft as field
 use Rattle.field.specs.declared.Field.{Field}
-use Rattle.field.specs.Airspace.{inZone, operation}
-use Rattle.field.specs.Lists.{isIn}
-use Rattle.questions.specs.Counts.{total, howMany, isEmpty, inOperation}
-use Rattle.bounds.specs.Bounds.{boundA, withinBounds}
+use Rattle.field.specs.Airspace.{inZone}
+use Rattle.questions.specs.Counts.{howMany, isEmpty}
+use Rattle.bounds.specs.Bounds.{withinBounds}
 use Rattle.rules.specs.Kinds.{placeBefore, zoneBefore}
 use Rattle.rules.specs.Step.{numberOf}
 use Rattle.rules.specs.Reason.{hasPlaces}
@@ -25,40 +25,14 @@ use Rattle.order.specs.Model.{Side, rightSide, leftSide}
 use Rattle.rules.proofs.HeadOfRequest as request
 use Rattle.rules.proofs.Checks.{HeadPassed, besides, owned}
 use Rattle.rules.proofs.Refusals.{Passes, passes}
-use Rattle.field.proofs.TestLaws.{decided, failed, each-operation}
+use Rattle.field.proofs.TestLaws.{decided, failed}
 use Rattle.laws.proofs.EditLaws.{Shaped}
-use Rattle.laws.proofs.BoundLaws.{within-each}
+use Rattle.laws.proofs.RoomLaws.{room-in}
 use Rattle.descent.proofs.Descent.{shaped}
 use Rattle.nasa.specs.Definitions.{ScaAircraft, ScaZone, SCA}
 use Rattle.nasa.specs.Rules.{forFirst, nobodyIn, zoneNumber}
 use Rattle.nasa.specs.Stands.{seen, stateOf}
 use Rattle.nasa.proofs.States.{First, someone, Move}
-
--- ---- sums over zones
-one-in-total : (g : ℕ → ℕ) (zs : List ℕ) (z : ℕ) → isIn z zs ≡ true → g z ≤ total g zs
-one-in-total g [] z i = absurd (true≢false (sym i))
-one-in-total g (w ∷ zs) z i = go (decided (eqb w z)) (one-in-total g zs z)
-  where
-    go : (eqb w z ≡ true) ⊎ (eqb w z ≡ false) → (isIn z zs ≡ true → g z ≤ total g zs) → g z ≤ g w + total g zs
-    go (inl a) later = let e : g w ≡ g z = ap g (eqb-true w z a) in omega arith
-    go (inr a) later = let h = later (sym (ap (λ (c : Bool). c || isIn z zs) a) ∙ i) in omega arith
-
--- those of two zones are among those of all
-two-in-total : (g : ℕ → ℕ) (zs : List ℕ) (y z : ℕ) → isIn y zs ≡ true → isIn z zs ≡ true → y ≢ z → g y + g z ≤ total g zs
-two-in-total g [] y z i j h = absurd (true≢false (sym i))
-two-in-total g (w ∷ zs) y z i j h = go (decided (eqb w y)) (decided (eqb w z)) (λ a b. two-in-total g zs y z a b h)
-  where
-    rest-y : eqb w y ≡ false → isIn y zs ≡ true
-    rest-y a = sym (ap (λ (c : Bool). c || isIn y zs) a) ∙ i
-
-    rest-z : eqb w z ≡ false → isIn z zs ≡ true
-    rest-z b = sym (ap (λ (c : Bool). c || isIn z zs) b) ∙ j
-
-    go : (eqb w y ≡ true) ⊎ (eqb w y ≡ false) → (eqb w z ≡ true) ⊎ (eqb w z ≡ false) → (isIn y zs ≡ true → isIn z zs ≡ true → g y + g z ≤ total g zs) → g y + g z ≤ g w + total g zs
-    go (inl a) (inl b) later = absurd (h (sym (eqb-true w y a) ∙ eqb-true w z b))
-    go (inl a) (inr b) later = let e : g w ≡ g y = ap g (eqb-true w y a) in let k = one-in-total g zs z (rest-z b) in omega arith
-    go (inr a) (inl b) later = let e : g w ≡ g z = ap g (eqb-true w z b) in let k = one-in-total g zs y (rest-y a) in omega arith
-    go (inr a) (inr b) later = let k = later (rest-y a) (rest-z b) in omega arith
 
 -- ---- two zones
 
@@ -81,16 +55,10 @@ both-inside z w d =
 module _ {f : Field} {z : ScaZone} (t : T (withinBounds f)) (F : First f z) (w : ScaZone) (d : T (differing z w)) where
   -- where the one has somebody the other has room, ..
   pub has-room : howMany f (zoneNumber w) < 4
-  unfolding boundA inOperation
-  has-room =
-      let four = leb→le (inOperation f) 4 (and-l (leb (inOperation f) 4) (leb (howMany f 13) 1) (within-each f t .bound-a)) in
-      let i = both-inside z w d in
-      let both = two-in-total (howMany f) operation (zoneNumber z) (zoneNumber w) (listed (zoneNumber z) (i .0)) (listed (zoneNumber w) (i .1)) (unlike z w d) in
-      let l = someone F in
-      omega arith
+  has-room = let i = both-inside z w d in room-in f t (between (i .0)) (between (i .1)) (λ q. unlike z w d (sym q)) (someone F)
     where
-      listed : (z : ℕ) → T (within 1 12 z) → isIn z operation ≡ true
-      listed = each-operation (λ z. isIn z operation ≡ true) (refl, refl, refl, refl, refl, refl, refl, refl, refl, refl, refl, refl)
+      between : {n : ℕ} → T (within 1 12 n) → Between 1 12 n
+      between {n} t = record { least = leb→le 1 n (and-l (leb 1 n) (leb n 12) t); most = leb→le n 12 (and-r (leb 1 n) (leb n 12) t) }
 
   -- .. and the first can go there
   abbrev pub move : Shaped f → Move f z w

@@ -19,7 +19,8 @@ use Rattle.questions.specs.Find.{aircraftAt}
 use Rattle.rules.specs.Kinds.{headGone, tailPut, moved}
 use Rattle.order.specs.Model.{rightSide, leftSide}
 use Rattle.field.proofs.TestLaws.{decided, if-true, if-false}
-use Rattle.laws.proofs.EditLaws.{Shaped, shaped-without-head, shaped-with-tail, shaped-with-zone, queue-kept, queue-taken, queue-put}
+use Rattle.rules.proofs.MovedShapes.{gone-shaped, put-shaped}
+use Rattle.laws.proofs.EditLaws.{Shaped, queue-kept, queue-taken, queue-put}
 use Rattle.nasa.specs.Definitions.{ScaAircraft, ScaZone, holding3, holding2, lez, maz, base, intermediate, final, runway, SCA}
 use Rattle.nasa.specs.Rules.{zoneNumber, withQueue, add}
 use Rattle.nasa.specs.Stands.{sideNamed, seen, stateOf}
@@ -47,15 +48,6 @@ zone-number (base leftSide) = record { least = omega arith; most = omega arith }
 zone-number intermediate = record { least = omega arith; most = omega arith }
 zone-number final = record { least = omega arith; most = omega arith }
 zone-number runway = record { least = omega arith; most = omega arith }
-
--- ---- a field keeps its places
-gone-shaped : (f : Field) → Shaped f → (z : ScaZone) → Shaped (headGone f (zoneNumber z))
-unfolding headGone
-gone-shaped f k z = let n = zoneNumber z in shaped-with-zone f n (withoutHead (zoneOf f n)) (zone-number z) (k .zones) k (shaped-without-head (zoneOf f n) (k .zone n))
-
-put-shaped : (f : Field) → Shaped f → (z : ScaZone) (a : field.Aircraft) → Shaped (tailPut f (zoneNumber z) a)
-unfolding tailPut
-put-shaped f k z a = let n = zoneNumber z in shaped-with-zone f n (withTail (zoneOf f n) a) (zone-number z) (k .zones) k (shaped-with-tail (zoneOf f n) a (k .zone n))
 
 -- ---- the first of a zone
 
@@ -134,7 +126,7 @@ module _ {f : Field} {z w : ScaZone} (m : Move f z w) where
   -- the field after it keeps its places
   pub moved-shaped : Shaped (moved f zn wn)
   unfolding moved
-  moved-shaped = put-shaped gone (gone-shaped f (m .shaped) z) w (arrived (f .legs) wn (aircraftAt f zn 1))
+  moved-shaped = put-shaped (gone-shaped (m .shaped) (zone-number z)) (zone-number w) (arrived (f .legs) wn (aircraftAt f zn 1))
 
   -- where one is put at the end of zone w of the field without it: the queue there, ..
   pub put-there : (a : field.Aircraft) → inZone (tailPut gone wn a) wn ≡ inZone f wn ++ (a ∷ [])
@@ -142,7 +134,7 @@ module _ {f : Field} {z w : ScaZone} (m : Move f z w) where
   put-there a =
       let kept = gone-there f zn wn (m .apart) in
       let few : howMany gone wn < 4 = let e = ap length kept in let l = m .room in omega arith in
-      queue-put gone (gone-shaped f (m .shaped) z) wn a (zone-number w) few ∙ ap (λ (l : List field.Aircraft). l ++ (a ∷ [])) kept
+      queue-put gone (gone-shaped (m .shaped) (zone-number z)) wn a (zone-number w) few ∙ ap (λ (l : List field.Aircraft). l ++ (a ∷ [])) kept
 
   -- .. that of zone z, ..
   pub put-here : (a : field.Aircraft) → inZone (tailPut gone wn a) zn ≡ m .first .rest

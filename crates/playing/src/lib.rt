@@ -24,7 +24,6 @@ ghost use lib.ListN.{length, drop};
 ghost use lib.Seq.{sets};
 ghost use Rattle.limits.specs.Limits.{mostRequests};
 ghost use Rattle.practice.specs.Requests.{requestsOf};
-ghost use Rattle.practice.specs.Practice.{practiceOf};
 ghost use Rattle.field.specs.Airspace.{emptyField};
 ghost use Rattle.fits.specs.Fits.{legalLegs};
 ghost use Rattle.indexed.specs.Indexed.{numberIndexed, stepIndexed};

@@ -41,7 +41,7 @@ abbrev pub bodyLength : List ℕ → ℕ
 bodyLength file = number32 file 22
 
 -- what 6 asks of the contents: they count two entries; body 1 is the eight bytes from 26 on, and body 2 the rest of the file from 34 on, whole requests of six
--- bytes, and no longer than `longestBody`; the length that the second entry has is that of body 2, whatever it is, and the last three lines ask of it
+-- bytes, and no longer than `longestBody`; the third line compares the length in the second entry with itself, and the last three ask of it
 unfoldable pub contentsAllowed : List ℕ → Bool
 contentsAllowed file =
     eqb (number16 file 4) 2

@@ -25,6 +25,7 @@ use Rattle.bounds.specs.Bounds.{sequenceKept}
 use Rattle.order.specs.Model.{Side, num, nextFix, count, one}
 use Rattle.rules.specs.Reason.{Listed, listed, sequenceListed, those, isInZone, QueueAgrees}
 use Rattle.field.proofs.TestLaws.{passed, decided, if-true, if-false, same}
+use Rattle.laws.proofs.RoomLaws.{two-in-total}
 use Rattle.field.proofs.NumberLists.{in-append}
 use Rattle.line.proofs.AheadInLists.{map-append}
 use Rattle.line.proofs.Line.{zoneFor, sequenceFor, fieldBy, by-zones, Placed, zonesIn, numbersOf, inside, zonesOf, fieldOf}
@@ -138,25 +139,6 @@ lookedUp f n = record { aircraft = aircraftAt f (placeOf f n .zone) (placeOf f n
 
 abbrev pub landingLine : Field → List Placed
 landingLine f = map (lookedUp f) (orderOf (f .sequence))
-
--- sums over zones that name two of them
-one-in-total : (g : ℕ → ℕ) (zs : List ℕ) (z : ℕ) → isIn z zs ≡ true → g z ≤ total g zs
-one-in-total g [] z i = absurd (false≢true i)
-one-in-total g (w ∷ zs) z i = go (decided (eqb w z)) (one-in-total g zs z)
-  where
-    go : (eqb w z ≡ true) ⊎ (eqb w z ≡ false) → (isIn z zs ≡ true → g z ≤ total g zs) → g z ≤ g w + total g zs
-    go (inl b) later = let e : g w ≡ g z = ap g (eqb-true w z b) in omega arith
-    go (inr b) later = let h = later (sym (ap (λ (c : Bool). c || isIn z zs) b) ∙ i) in omega arith
-
-two-in-total : (g : ℕ → ℕ) (zs : List ℕ) (y z : ℕ) → isIn y zs ≡ true → isIn z zs ≡ true → (y ≡ z → ⊥) → g y + g z ≤ total g zs
-two-in-total g [] y z i j h = absurd (false≢true i)
-two-in-total g (w ∷ zs) y z i j h = go (decided (eqb w y)) (decided (eqb w z)) (λ a b. two-in-total g zs y z a b h)
-  where
-    go : (eqb w y ≡ true) ⊎ (eqb w y ≡ false) → (eqb w z ≡ true) ⊎ (eqb w z ≡ false) → (isIn y zs ≡ true → isIn z zs ≡ true → g y + g z ≤ total g zs) → g y + g z ≤ g w + total g zs
-    go (inl a) (inl b) later = absurd (h (sym (eqb-true w y a) ∙ eqb-true w z b))
-    go (inl a) (inr b) later = let e : g w ≡ g y = ap g (eqb-true w y a) in let k = one-in-total g zs z (sym (ap (λ (c : Bool). c || isIn z zs) b) ∙ j) in omega arith
-    go (inr a) (inl b) later = let e : g w ≡ g z = ap g (eqb-true w z b) in let k = one-in-total g zs y (sym (ap (λ (c : Bool). c || isIn y zs) a) ∙ i) in omega arith
-    go (inr a) (inr b) later = let k = later (sym (ap (λ (c : Bool). c || isIn y zs) a) ∙ i) (sym (ap (λ (c : Bool). c || isIn z zs) b) ∙ j) in omega arith
 
 module _ (f : Field) where
   -- the numbers of the sequence are those of the operation area

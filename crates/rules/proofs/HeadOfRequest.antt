@@ -1,4 +1,4 @@
--- What an accepted request that is no entry and no tick tells of the field: where its aircraft is, and the queue there. Assumes nothing.
+-- What an accepted request tells of the field, and, where it is no entry and no tick, where its aircraft is and the queue there. Assumes nothing.
 use mathlib.Core.Path.{_≡_, refl, sym, ap, _∙_, subst}
 use mathlib.Core.Bool.{Bool, true, false, not, true≢false}
 use mathlib.Core.List.{List, [], _∷_, _++_}
@@ -31,6 +31,11 @@ pub record HeadOfQueue (f : Field) (n z : ℕ) : Type 0 where
   pub behind : List Aircraft
   pub here : inZone f z ≡ head ∷ behind
   pub named : head .number ≡ n
+
+-- it is the aircraft at the first place
+pub head-alike : {f : Field} {n z : ℕ} → HeadOfQueue f n z → aircraftAt f z 1 .number ≡ n
+unfolding aircraftAt
+head-alike heads = ap (λ (l : List Aircraft). getD (nobody ∷ l) 1 nobody .number) (heads .here) ∙ heads .named
 
 -- the one zone that a kind starts from
 pub only-zone : (n z : ℕ) → within n n z ≡ true → z ≡ n

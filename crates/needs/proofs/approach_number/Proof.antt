@@ -1,5 +1,5 @@
 -- `needs::approach_number` meets its contract, need by need. Assumes nothing.
-use mathlib.Core.Path.{refl, ap, _∙_, _≡_, sym, ap, _∙_}
+use mathlib.Core.Path.{_≡_, refl, sym, ap, _∙_}
 use mathlib.Core.Bool.{false}
 use Rattle.request.specs.Input.{within}
 use Rattle.field.proofs.TestParts.{or-first, or-else, holds, fails}
