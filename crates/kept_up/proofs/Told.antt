@@ -161,12 +161,14 @@ module _ {f : Field} {r : Request} (a : AcceptedRequest f r) where
   leaves-8 : r .kind ≡ 8 → Leaves f r
   unfolding startsFrom
   leaves-8 q =
-      leaves q refl (only-zone 13 from (heading (a .passed) q refl .starts)) (one-of-thirteen 13 (omega arith) (omega arith)) (heads (a .passed) q refl) (λ y. ap (λ (x : Field). inZone x y) (effect-at f r q))
+      leaves q refl (only-zone 13 from (heading (a .passed) q refl .starts)) (one-of-thirteen 13 (omega arith) (omega arith)) (heads (a .passed) q refl)
+      (λ y. ap (λ (x : Field). inZone x y) (effect-at f r q))
 
   leaves-9 : r .kind ≡ 9 → Leaves f r
   unfolding startsFrom exited outOfSequence withSequence inZone zoneOf
   leaves-9 q =
-      leaves q refl (only-zone 11 from (heading (a .passed) q refl .starts)) (one-of-thirteen 11 (omega arith) (omega arith)) (heads (a .passed) q refl) (λ y. ap (λ (x : Field). inZone x y) (effect-at f r q))
+      leaves q refl (only-zone 11 from (heading (a .passed) q refl .starts)) (one-of-thirteen 11 (omega arith) (omega arith)) (heads (a .passed) q refl)
+      (λ y. ap (λ (x : Field). inZone x y) (effect-at f r q))
 
   -- the fix of the head of final is a side
   fix-side : (l : List Aircraft) → T (every (fitsZone (f .legs) 12) l) → 1 ≤ length l → T (isSide (getD (nobody ∷ l) 1 nobody .fix))

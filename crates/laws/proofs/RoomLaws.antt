@@ -18,7 +18,7 @@ use Rattle.bounds.specs.Bounds.{boundA, withinBounds}
 use Rattle.laws.proofs.BoundLaws.{within-each}
 
 -- what one zone of a list counts is among what all count
-one-in-total : (c : ℕ → ℕ) (zs : List ℕ) (z : ℕ) → isIn z zs ≡ true → c z ≤ total c zs
+pub one-in-total : (c : ℕ → ℕ) (zs : List ℕ) (z : ℕ) → isIn z zs ≡ true → c z ≤ total c zs
 one-in-total c [] z i = absurd (true≢false (sym i))
 one-in-total c (w ∷ zs) z i = go (decided (eqb w z)) (one-in-total c zs z)
   where
@@ -52,4 +52,6 @@ room-in f t {z} {w} a b h l =
     omega arith
   where
     listed : (z : ℕ) → Between 1 12 z → isIn z operation ≡ true
-    listed z b = each-operation (λ z. isIn z operation ≡ true) (refl, refl, refl, refl, refl, refl, refl, refl, refl, refl, refl, refl) z (and-i (leb 1 z) (leb z 12) (le→leb 1 z (b .least)) (le→leb z 12 (b .most)))
+    listed z b =
+        each-operation (λ z. isIn z operation ≡ true) (refl, refl, refl, refl, refl, refl, refl, refl, refl, refl, refl, refl) z
+        (and-i (leb 1 z) (leb z 12) (le→leb 1 z (b .least)) (le→leb z 12 (b .most)))

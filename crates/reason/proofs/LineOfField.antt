@@ -25,7 +25,7 @@ use Rattle.bounds.specs.Bounds.{sequenceKept}
 use Rattle.order.specs.Model.{Side, num, nextFix, count, one}
 use Rattle.rules.specs.Reason.{Listed, listed, sequenceListed, those, isInZone, QueueAgrees}
 use Rattle.field.proofs.TestLaws.{passed, decided, if-true, if-false, same}
-use Rattle.laws.proofs.RoomLaws.{two-in-total}
+use Rattle.laws.proofs.RoomLaws.{one-in-total, two-in-total}
 use Rattle.field.proofs.NumberLists.{in-append}
 use Rattle.line.proofs.AheadInLists.{map-append}
 use Rattle.line.proofs.Line.{zoneFor, sequenceFor, fieldBy, by-zones, Placed, zonesIn, numbersOf, inside, zonesOf, fieldOf}
