@@ -106,7 +106,6 @@ module _ {f : Field} {r : Request} (a : AcceptedRequest f r) where
       let side = sideOf from in
       elim (decided (isEmpty f side)) [
         | inl t ↦
-            let above = sym (ap (λ (x : Field). moved x from side) (if-true _ _ t)) in
             elim (decided (isEmpty f (2 + side))) [
               | inl u ↦
                   inl
@@ -119,7 +118,9 @@ module _ {f : Field} {r : Request} (a : AcceptedRequest f r) where
                     apart = λ t. omega (arith, t);
                     effect = effect-at f r q ∙ if-true _ _ t ∙ if-true _ _ u;
                   }))
-              | inr u ↦ inr (subst⁻¹ (Rises f r) (ap (to f r) q ∙ if-true _ _ t ∙ if-false _ _ u) (rises q m (effect-at f r q ∙ if-true _ _ t ∙ if-false _ _ u ∙ above)))
+              | inr u ↦
+                  let above = sym (ap (λ (x : Field). moved x from side) (if-true _ _ t)) in
+                  inr (subst⁻¹ (Rises f r) (ap (to f r) q ∙ if-true _ _ t ∙ if-false _ _ u) (rises q m (effect-at f r q ∙ if-true _ _ t ∙ if-false _ _ u ∙ above)))
             ]
         | inr t ↦
             let above = sym (ap (λ (x : Field). moved x from side) (if-false _ _ t)) in
