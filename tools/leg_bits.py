@@ -72,7 +72,7 @@ def waited_after(waited, past):
 
 
 def leg_after_miss(missed, final_leg, flown):
-    """The leg ahead on a miss, by document 02, 2.7: the difference rounded once, and the sum."""
+    """The own leg after a miss, by document 02, 2.7: the difference rounded once, and the sum."""
     return rounded(missed + rounded(final_leg - flown))
 
 

@@ -1,4 +1,4 @@
--- The leg ahead on a miss: between 1/64 of a mile and 128 miles on the grid of the 4096ths or off it (`leg-ahead`), since rounding keeps the order; on the grid nothing is rounded (`ahead-grid`).
+-- The own leg after a miss: between 1/64 of a mile and 128 miles on the grid of the 4096ths or off it (`leg-ahead`), since rounding keeps the order; on the grid nothing is rounded (`ahead-grid`).
 -- And a leg that compares equal to another. Assumes nothing.
 use mathlib.Core.Path.{_≡_, refl, sym, ap, _∙_, subst}
 use mathlib.Core.Logic.{inl, inr}

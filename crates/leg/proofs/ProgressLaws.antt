@@ -196,7 +196,7 @@ pub arrival-in-4096 : (miles leg : Float) {speed : ℕ} (n : ℕ) → T (legalLe
     → T (flownOut (afterTicks (Flying miles) speed (replicate n longestTick) leg) leg)
 arrival-in-4096 = arrival-in-ticks-up-to longestLegMiles (lit< tt)
 
--- ---- 3. The leg ahead on a miss (02, 2.7)
+-- ---- 3. The own leg after a miss (02, 2.7)
 
 -- From any miles within a legal leg of final, with a legal missed leg, it is from 1/64 of a mile to 128 miles, on the grid or off it: rounding keeps the order.
 pub leg-after-miss-legal : (missed final : Float) (p : Progress) → T (legalLeg missed) → T (legalLeg final) → T (withinLeg p final) → T (legalLegAfterMiss (legAfterMiss missed p final))

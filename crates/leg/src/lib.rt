@@ -116,7 +116,7 @@ pub fn legal(leg: f64) -> bool
     leg_up_to(LONGEST_LEG_MILES, leg)
 }
 
-// Whether the leg ahead after a miss is from 1/64 of a mile to the longest.
+// Whether the own leg after a miss is from 1/64 of a mile to the longest.
 pub fn legal_after_miss(leg: f64) -> bool
     ensures { λ r. ⌜ r ≡ legalLegAfterMiss leg ⌝ }
 {
