@@ -190,7 +190,7 @@ pub record MayCome (s f : Side) (line : List Placed) (runway : List Aircraft) (l
   pub effect : effectOf (fieldOf f line runway legs) r ≡ entered (fieldOf f line runway legs) r w
   pub okay-after : T (okay (firstFix s f (zonesIn line)) (zonesIn line ++ (w ∷ [])))
 
--- an entry is no other kind
+-- an entry is neither a taxi nor an exit
 entry-only : (k : ℕ) → T (isEntry k) → leaves k ≡ false
 entry-only k t =
     let low = leb→le 1 k (and-l (leb 1 k) (leb k 2) t) in
