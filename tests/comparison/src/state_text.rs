@@ -6,7 +6,7 @@
 
 use reference::history::KEPT;
 use reference::index::{Entry, Index};
-use reference::state::{Place, Queue, State, Stored, NAN, WAITING};
+use reference::state::{Place, Queue, State, Stored, WAITING};
 
 /// Places in every queue and in the sequence.
 const PLACES: usize = 4;
@@ -78,22 +78,15 @@ fn numbers<T: std::str::FromStr>(text: &str) -> Result<Vec<T>, String> {
     text.split_whitespace().map(number).collect()
 }
 
-/// The bits of miles, which are said in decimal or, behind `0x`, by their bits.
+/// The bits of miles that are said in decimal.
 fn bits_of(word: &str) -> Result<u64, String> {
-    let bits = match word.strip_prefix("0x") {
-        Some(digits) => u64::from_str_radix(digits, 16).ok(),
-        None => word.parse().map(f64::to_bits).ok(),
-    };
-    bits.ok_or_else(|| format!("`{word}` stands where miles could, as 1.5, -0.0, NaN or 0x7ff8000000000001"))
+    let miles = word.parse().map(f64::to_bits);
+    miles.map_err(|_| format!("`{word}` stands where miles could, as 1.5, 5e-324, -0.0 or NaN"))
 }
 
-/// As few decimal digits as tell these miles from all others.
+/// As few decimal digits as tell these miles from all others, the sign of a zero too.
 fn miles(bits: u64) -> String {
-    let miles = f64::from_bits(bits);
-    match miles.is_nan() && bits != NAN {
-        true => format!("{bits:#018x}"),
-        false => format!("{miles:?}"),
-    }
+    format!("{:?}", f64::from_bits(bits))
 }
 
 // ---- one aircraft
@@ -236,10 +229,9 @@ fn index_text(index: &Index) -> String {
     let unused = index.0.iter().rev().take_while(|entry| **entry == Entry::default()).count();
     let used = &index.0[..index.0.len() - unused];
     let text: Vec<String> = used.iter().map(|e| format!("{} {} {}", e.number, e.zone, e.place)).collect();
-    if text.is_empty() {
-        String::from("none")
-    } else {
-        text.join(", ")
+    match used {
+        [] => String::from("none"),
+        _ => text.join(", "),
     }
 }
 
@@ -274,9 +266,11 @@ fn set_part(field: &mut Stored, text: &str) -> Result<(), String> {
             field.zones[at] = queue;
             field.index = own_index(field);
         }
-        ("index", "own") => field.index = own_index(field),
         ("index", text) => field.index = index_of(text)?,
-        _ => return Err(format!("`{text}` stands where legs, next, sequence, zone or index could")),
+        _ => {
+            let parts = "legs, next, sequence, zone or index could, or kept or count of a state";
+            return Err(format!("`{text}` stands where {parts}"));
+        }
     }
     Ok(())
 }
