@@ -177,8 +177,9 @@ fn keep_as(first: &Bytes, second: &mut Bytes) {
 }
 
 fn call_of(text: &str) -> Result<Call, String> {
-    let known = "start, ask, back, press or `hold down` with its numbers";
-    let other = || format!("`{text}` stands where a call could: {known}");
+    let known = "start, ask, back, press or `hold down`, with its numbers";
+    let other =
+        || format!("`{text}` stands where a call could ({known}), or from, save, set, twice, second or try");
     let mut words = text.split_whitespace();
     let name = words.next().ok_or_else(other)?;
     if text == "hold down" {
