@@ -132,17 +132,17 @@ built-within legs speed bytes =
 played-within : (h : History) (p : Proposal) → HistoryHeld h → withinBoundsHistory h ≡ true → withinBoundsHistory (playedKept h p .after) ≡ true
 played-within h Refused k w = w
 played-within h None k w = w
-played-within h (Play r) k w = step-within h w k r
+played-within h (Play r) k w = step-within h w (k .places) r
 
 left-within : (h : History) (c : HostCall) → HistoryHeld h → withinBoundsHistory h ≡ true → withinBoundsHistory (leftBy h c) ≡ true
 unfolding pressKept heldKept
 left-within h (start legs) k w =
     either-way (λ (g : History). withinBoundsHistory g ≡ true) (eqb (startNumber legs) 0) _ h
     (λ e. started-within legs (allowed legs (eqb-true (startNumber legs) 0 e))) (λ e. w)
-left-within h (ask r) k w = step-within h w k r
+left-within h (ask r) k w = step-within h w (k .places) r
 left-within h (back desk) k w = back-within h desk w
 left-within h press k w = played-within h (proposalKept h) k w
-left-within h holdDown k w = asked-within h k w (pressesKept mostPresses h)
+left-within h holdDown k w = asked-within h (k .places) w (pressesKept mostPresses h)
 left-within h (spaced n) k w = w
 left-within h listed k w = w
 left-within h (builtFrom legs speed bytes) k w =
