@@ -29,7 +29,7 @@ use Rattle.press.specs.declared.Proposal.{Proposal}
 use Rattle.press.specs.declared.Proposal.the-variants.{Refused, None, Play}
 use Rattle.press.specs.declared.Ending.{Ending}
 use Rattle.press.specs.declared.Ending.the-variants as ending
-use Rattle.press.specs.HeldDown.{thenPressed, heldRequests}
+use Rattle.press.specs.HeldDown.{thenPressed, heldRequests, endingNumber}
 use Rattle.press_kept.specs.PressKept.{proposalKept, playedKept, pressKept, pressesKept, heldKept}
 use Rattle.emptied.specs.Emptied.{ticksInARow, EmptiedOn}
 use Rattle.emptied.proofs.Emptying.{emptied}
@@ -47,7 +47,7 @@ use Rattle.taken_back.specs.TakenBack.{Follows}
 use Rattle.taken_back.proofs.Starts.{starts, start-at-start}
 use Rattle.taken_back.proofs.Calls.{bounded, taken-back, one-call}
 use Rattle.taken_back.proofs.Follows.{field-now}
-use Rattle.replies.specs.Replies.{endNumber}
+
 use Rattle.host.specs.Calls.{spacingsOf, listingOf}
 use Rattle.host.specs.Calls.{HostCall, start, ask, back, press, holdDown, spaced, listed, builtFrom}
 use Rattle.host.specs.Calls.{replyOf, leftBy}
@@ -87,7 +87,7 @@ all-calls h (c ∷ cs) t =
 
 -- ---- 25 never comes
 
-end-not-25 : (e : Ending) → endNumber e ≡ 25 → ⊥
+end-not-25 : (e : Ending) → endingNumber e ≡ 25 → ⊥
 end-not-25 ending.Refused e = omega (arith, e)
 end-not-25 ending.None e = omega (arith, e)
 end-not-25 ending.Spent e = omega (arith, e)
