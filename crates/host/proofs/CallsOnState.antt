@@ -17,7 +17,6 @@ use Rattle.press_kept.specs.declared.PressedKept.{PressedKept}
 use Rattle.press_kept.specs.declared.HeldKept.{HeldKept}
 use Rattle.press_kept.specs.PressKept.{pressKept, heldKept}
 use Rattle.host.specs.Calls.{start, startNumber, leftAsBytes}
-
 use Rattle.layout.specs.Read.{readHistory}
 use Rattle.layout.specs.Written.{historyBytes, stateAfter}
 use Rattle.press.specs.HeldDown.{endingNumber}

@@ -47,7 +47,6 @@ use Rattle.taken_back.specs.TakenBack.{Follows}
 use Rattle.taken_back.proofs.Starts.{starts, start-at-start}
 use Rattle.taken_back.proofs.Calls.{bounded, taken-back, one-call}
 use Rattle.taken_back.proofs.Follows.{field-now}
-
 use Rattle.host.specs.Calls.{spacingsOf, listingOf}
 use Rattle.host.specs.Calls.{HostCall, start, ask, back, press, holdDown, spaced, listed, builtFrom}
 use Rattle.host.specs.Calls.{replyOf, leftBy}

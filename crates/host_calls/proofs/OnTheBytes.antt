@@ -33,7 +33,6 @@ use Rattle.layout.specs.Held.{HistoryHeld}
 use Rattle.layout.proofs.PartSizes.{state-size}
 use Rattle.layout.proofs.HistoryReadBack.{state-read-back}
 use Rattle.layout.proofs.CallsReadBack.{start-held, legs-in-64ths-held}
-
 use Rattle.host.specs.Calls.{startNumber, replyOf, leftBy, replyOn, bytesLeft}
 use Rattle.host.specs.Calls.{HostCall, start, ask, back as stepBackBy, press, holdDown, spaced, listed, builtFrom}
 use Rattle.host_calls.specs.HostCalls.{repliesOf, leftByAll, repliesOn, bytesLeftByAll, OnTheBytes}

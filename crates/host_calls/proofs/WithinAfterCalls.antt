@@ -52,7 +52,6 @@ use Rattle.dialect.specs.Going.{inDialect, entriesOf, listOf}
 use Rattle.dialect_field.specs.Coming.{listAllowed, entriesIn, built, comingNumber, notBuilt, fieldOfList}
 use Rattle.layout.specs.Held.{HistoryHeld}
 use Rattle.layout.proofs.CallsReadBack.{start-held, legs-in-64ths-held}
-
 use Rattle.host.specs.Calls.{startNumber, spacingsOf, listingOf}
 use Rattle.host.specs.Calls.{HostCall, start, ask, back, press, holdDown, spaced, listed, builtFrom}
 use Rattle.host.specs.Calls.{replyOf, leftBy}

@@ -6,7 +6,7 @@ use Prim.Native.Nat.{ℕ, zero, suc}
 use native.Mathlib.Omega.{arith}
 use lib.Dec.{T, eqb, leb, le→leb}
 use lib.ListN.{length, getD, take, drop, replicate}
-use lib.Ieee.{ofInt, eq}
+use lib.Ieee.{ofInt, neg, eq}
 use lib.Ieee.Fits.{and-i, and-l, and-r}
 use borrow.Author.Tests.{eqb-true}
 use Rattle.field.specs.declared.Aircraft.{Aircraft}
@@ -20,7 +20,7 @@ use Rattle.field.proofs.TestLaws.{passed}
 use Rattle.bounds.specs.Bounds.{isNobody, zoneKept}
 use Rattle.fits.specs.Fits.{legalLegs}
 use Rattle.laws.proofs.SameQueues.{SameZone, Same, kept-empty}
-use Rattle.rules.specs.Start.{zoneAtStart, sequenceAtStart, emptyStart}
+use Rattle.rules.specs.Start.{zoneAtStart, sequenceAtStart, emptyStart, EmptyStarts, MinusZerosStart}
 
 -- ---- the parts of the test
 pub record Start (f : Field) : Type 0 where
@@ -129,7 +129,12 @@ start-same f t =
 pub start-legal : (f : Field) → T (emptyStart f) → T (legalLegs (f .legs))
 start-legal f t = start-parts f t .legal
 
--- The empty field with legal legs is one to start from.
-pub empty-starts : (legs : Legs) → T (legalLegs legs) → T (emptyStart (emptyField legs))
+-- The empty field with legal legs is one to start from, ..
+pub empty-starts : EmptyStarts
 unfolding emptyStart emptyField isNobody eq ofInt
 empty-starts legs l = l
+
+-- .. and so is the one with -0 at its places.
+pub minus-zeros-start : MinusZerosStart
+unfolding emptyStart isNobody eq neg ofInt
+minus-zeros-start legs l = l

@@ -37,8 +37,10 @@ returns-2 c =
     let none = no-lines (a .f) e in
     let l = ap length none in (
       held-refused (a .f) e,
-      (ap (λ (h : Held). endingNumber (h .ending)) (held-refused (a .f) e) ∙ held-number (a .f),
-      (subst⁻¹ (λ (bytes : List ℕ). Put (now (a .out)) 0 bytes (now (a .out)) 0) none (put-none (now (a .out)) 0), omega arith)),
+      (
+        ap (λ (h : Held). endingNumber (h .ending)) (held-refused (a .f) e) ∙ held-number (a .f),
+        (subst⁻¹ (λ (bytes : List ℕ). Put (now (a .out)) 0 bytes (now (a .out)) 0) none (put-none (now (a .out)) 0), omega arith),
+      ),
     )
 
 pub hold-down-spec : {M : Type 1} → statement M
