@@ -65,8 +65,8 @@ uint16_t baguymo_host_back(uint8_t *state, uint8_t desk);
 
 /* Presses the button: plays the one request that it proposes, as if it had been asked. Puts that request into `request` (desk, kind, side,
    number, amount) and its answer into `answer`. The button has no desk: it asks for each aircraft as its own desk, ticks as desk 1,
-   and shows whom it moves, whichever desk's. Where nobody is on the field it plays nothing, and all are zeros. 10 for a state that breaks
-   the bounds. */
+   and shows whom it moves, whichever desk's; the one that a hold moves along only where that one is of the same desk. Where nobody is on
+   the field it plays nothing, and all are zeros. 10 for a state that breaks the bounds. */
 uint16_t baguymo_host_press(uint8_t *state, size_t request[5], size_t answer[6]);
 
 /* Holds the button down until it says none, or until its presses are spent. Puts into `report` how many requests were played, and 1 where
