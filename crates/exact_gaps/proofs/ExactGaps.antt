@@ -78,12 +78,12 @@ module _ (w : WholeLegs) (rs : List Request) where
   abbrev f : Field
   f = reached w rs
 
-  reached-within : T (withinBounds f)
+  pub reached-within : T (withinBounds f)
   reached-within =
       let run = from-empty (inMiles w) (legs-legal w) rs in
       subst (λ (g : Field). T (withinBounds g)) (sym (run .stands)) (within-bounds (run .first-then) (run .line-then) (run .runway-then) (inMiles w) (run .orderly))
 
-  legs-are : f .legs ≡ inMiles w
+  pub legs-are : f .legs ≡ inMiles w
   unfolding fieldOf
   legs-are = ap (λ (g : Field). g .legs) (from-empty (inMiles w) (legs-legal w) rs .stands)
 
@@ -126,7 +126,7 @@ module _ (w : WholeLegs) (rs : List Request) where
         subst (λ (l : Legs). T (legFits l z (a .leg))) legs-are (fits-parts (f .legs) z a (every-at (fitsZone (f .legs) z) (inZone f z) (placeOf f n .place) fit (there .first) (there .last)) .own)
 
     -- its way is exact
-    way-is : Exactly (wayOf f n) (wayIn4096ths w rs n)
+    pub way-is : Exactly (wayOf f n) (wayIn4096ths w rs n)
     unfolding wayOf wayIn4096ths
     way-is =
         let s = flightAfter w n noFlight (played (emptyField (inMiles w)) rs) in
