@@ -7,12 +7,12 @@ use native.Mathlib.Omega.{arith}
 use native.Mathlib.Decide.{decLe}
 use lib.Dec.{T, lit<}
 use lib.IntN.{pos, negsuc, subℕ}
-use lib.Ieee.{Float, nan, inf, fin, binary64, down, add, sub}
+use lib.Ieee.{Float, nan, inf, fin, binary64, down, add, sub, div}
 use lib.Ieee.Exact.{HasValue}
 use lib.Ieee.Fits.{and-i, down-pos}
 use lib.Ieee.Positive.{positive-of-value, mul-at}
 use borrow.Author.Tests.{lt-ltb, le-ltb}
-use Rattle.limits.specs.Limits.{longestTick, fastest, mostWaited}
+use Rattle.limits.specs.Limits.{longestTick, fastest, longestOwnLegMiles, mostWaited}
 use Rattle.leg.specs.Progress.{whole, sixtyFourths, milesFlown, flownSum, beyond, pastEnd, waitedAfter}
 use Rattle.leg.specs.Ticks.{Between, Exactly, LegIn4096ths}
 use Rattle.leg.proofs.Grid.{parts, parts-value, whole-value, sixtyFourths-value, step-pos, step-small, sum-grid}
@@ -65,9 +65,13 @@ difference-exact x y m n h k fm fn =
 -- ---- whole numbers and their 64ths
 pub whole-64ths-exact : (n : ℕ) → n < 2 ^ 53 → T (exact64ths n)
 whole-64ths-exact n few =
-    and-i (standsFor (whole n) (over n 1)) (standsFor (sixtyFourths n) (over n 64))
-    (is-same (numberOf (whole n)) (over n 1) n 0 (n * 1) 0 1 (value-is (whole n) n 1 (whole-value n (le-of-lt few))) (is-over n 1 1 (lit< tt)) (lit< tt) (omega arith))
-    (is-same (numberOf (sixtyFourths n)) (over n 64) n 0 (n * 1) 0 64 (value-is (sixtyFourths n) n 64 (sixtyFourths-value n few)) (is-over n 64 1 (lit< tt)) (lit< tt) (omega arith))
+    and-i (standsFor (whole n) (over n 1)) _
+    (is-same (numberOf (whole n)) (over n 1) n 0 (n * 1) 0 1 (value-is (whole n) n 1 (whole-value n (le-of-lt few))) (is-over n 1 1 (lit< tt)) (lit< tt) (omega arith)) (by _ (omega arith))
+  where
+    by : (e : ℕ) → 64 ≡ e → T (standsFor (div binary64 (whole n) (whole e)) (over n e))
+    by e h =
+        subst (λ (e : ℕ). T (standsFor (div binary64 (whole n) (whole e)) (over n e))) h
+        (is-same (numberOf (sixtyFourths n)) (over n 64) n 0 (n * 1) 0 64 (value-is (sixtyFourths n) n 64 (sixtyFourths-value n few)) (is-over n 64 1 (lit< tt)) (lit< tt) (omega arith))
 
 -- ---- a tick
 module _ {speed amount : ℕ} (s : Between 1 fastest speed) (a : Between 1 longestTick amount) where
@@ -95,11 +99,12 @@ module _ {speed amount : ℕ} (s : Between 1 fastest speed) (a : Between 1 longe
 
   flown-exact : T (exactProduct (sixtyFourths speed) (sixtyFourths amount))
   flown-exact =
-      is-same (numberOf (milesFlown speed amount)) (productOf (numberOf (sixtyFourths speed)) (numberOf (sixtyFourths amount))) (speed * amount) 0 (speed * amount + 0 * 0) (speed * 0 + 0 * amount) 4096
-      (value-is (milesFlown speed amount) (speed * amount) 4096 flown-value) product-is (lit< tt) (omega arith)
+      is-same (numberOf (milesFlown speed amount)) (productOf (numberOf (sixtyFourths speed)) (numberOf (sixtyFourths amount))) (speed * amount) 0
+      (speed * amount + 0 * 0) (speed * 0 + 0 * amount) 4096 (value-is (milesFlown speed amount) (speed * amount) 4096 flown-value) product-is (lit< tt) (omega arith)
 
   -- from m / 4096 miles on a leg of k / 4096, with n / 4096 waited
-  module _ (miles leg waited : Float) (k m n : ℕ) (r : LegIn4096ths leg k) (h : Exactly miles m) (w : Exactly waited n) (low : m ≤ k) (short : k ≤ 4096 * 128) (less : n ≤ 4096 * mostWaited) where
+  module _ (miles leg waited : Float) (k m n : ℕ) (r : LegIn4096ths leg k) (h : Exactly miles m) (w : Exactly waited n)
+      (low : m ≤ k) (short : k ≤ 4096 * longestOwnLegMiles) (less : n ≤ 4096 * mostWaited) where
     abbrev d : ℕ
     d = m + speed * amount
 

@@ -8,7 +8,7 @@ use native.Mathlib.Omega.{arith}
 use lib.Dec.{T, leb, leb→le, le→leb, lit<, lit≤}
 use lib.Ieee.{Float}
 use lib.Ieee.Fits.{and-i, and-l, and-r}
-use Rattle.limits.specs.Limits.{longestOwnLegMiles}
+use Rattle.limits.specs.Limits.{longestTick, longestOwnLegMiles}
 use Rattle.leg.specs.Progress.{whole, sixtyFourths, legalLegAfterMiss}
 use Rattle.leg.specs.Ticks.{Between, Exactly, LegIn4096ths, FlownExactly}
 use Rattle.leg.specs.declared.Progress.{Progress}
@@ -91,7 +91,9 @@ module _ (w : WholeLegs) (f : Field) (bounded : T (withinBounds f)) (same-legs :
           let mf = w .missed-fits in
           let nf = w .intermediate-fits in
           let ff = w .final-fits in (
-            (λ amount fits. tick-exact (fit .speeds) fits miles (a .leg) (a .waited) k m n long h (c .waited) (omega arith) (omega arith) (omega arith)),
+            (λ amount fits.
+                let may : Between 1 longestTick amount = record { least = omega arith; most = omega arith } in
+                tick-exact (fit .speeds) may miles (a .leg) (a .waited) k m n long h (c .waited) (omega arith) (omega arith) (omega arith)),
             rest-exact (inMiles w) (64 * w .missed-leg) (64 * w .intermediate-leg) (64 * w .final-leg) (sixty-fourths-in-4096ths (w .missed-leg) mf .exact)
                 (sixty-fourths-in-4096ths (w .intermediate-leg) nf .exact) (sixty-fourths-in-4096ths (w .final-leg) ff .exact) miles (a .leg) k m (c .leg) h (omega arith) (omega arith) (omega arith),
           )
