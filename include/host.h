@@ -12,6 +12,13 @@
    step back the first 1,733 bytes are those before the request, and a kept field that no longer counts keeps its bytes. A call takes up to
    some 170 KB of the caller's stack, by its compiled frames.
 
+   The floating-point environment: a call computes in the processor's rounding direction, as every operation on doubles does, and leaves the
+   environment as it was. On a state that a start wrote, and that requests, steps back and the button have changed since, no result is ever
+   rounded. So a host may leave the processor rounding in any direction, and flushing denormals to 0, as graphics engines set it: every byte
+   is the same, and the processor's mark of an inexact result is not set. One sign differs: where the processor rounds down, a gap of 0 is
+   -0, which compares equal to 0. It matters on a state from elsewhere whose legs or miles are no whole 4096ths of a mile: for its answers to
+   be those of the rules a host has the processor round to the nearest and keep denormals, which is the default.
+
    Layout, numbers with the low byte first, floats as their 64 bits (IEEE 754 binary64):
      a field with its index, 1,733 bytes:
           0  zones 1 to 13, 128 bytes each: four aircraft, the head first, of 30 bytes each, and the queue's length, 8 bytes

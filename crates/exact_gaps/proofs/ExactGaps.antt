@@ -89,13 +89,13 @@ module _ (w : WholeLegs) (start : Field) (begins : T (emptyStart start)) (whole 
   same : Same f g
   same = after-same (subst (λ (legs : Legs). Same start (emptyField legs)) whole (start-same start begins)) rs
 
-  reached-within : T (withinBounds f)
+  pub reached-within : T (withinBounds f)
   reached-within =
       let run = from-empty (inMiles w) (legs-legal w) rs in
       within-same g f (same-sym same)
       (subst (λ (h : Field). T (withinBounds h)) (sym (run .stands)) (within-bounds (run .first-then) (run .line-then) (run .runway-then) (inMiles w) (run .orderly)))
 
-  legs-are : f .legs ≡ inMiles w
+  pub legs-are : f .legs ≡ inMiles w
   unfolding fieldOf
   legs-are = same .legs ∙ ap (λ (h : Field). h .legs) (from-empty (inMiles w) (legs-legal w) rs .stands)
 
@@ -138,7 +138,7 @@ module _ (w : WholeLegs) (start : Field) (begins : T (emptyStart start)) (whole 
         subst (λ (l : Legs). T (legFits l z (a .leg))) legs-are (fits-parts (f .legs) z a (every-at (fitsZone (f .legs) z) (inZone f z) (placeOf f n .place) fit (there .first) (there .last)) .own)
 
     -- its way is exact
-    way-is : Exactly (wayOf f n) (wayIn4096ths w start rs n)
+    pub way-is : Exactly (wayOf f n) (wayIn4096ths w start rs n)
     unfolding wayOf wayIn4096ths
     way-is =
         let s = flightAfter w n noFlight (played start rs) in
