@@ -11,7 +11,8 @@ REFUSED = [
     *[(words, program, (CASES / f"{name}.scap").read_bytes(), number)
       for words, program in ((["play"], "play"), (["debrief"], "play"), (["button"], "button"), (["spacing", "64"], "spacing"),
                              (["classroom", "list"], "classroom"))
-      for name, number in (("hand-file-25", 5), ("hand-file-26", 6), ("file-leg-0", 7), ("file-contents-before-legs", 6))],
+      for name, number in (("hand-file-25", 5), ("hand-file-26", 6), ("file-leg-0", 7), ("file-contents-before-legs", 6),
+                           ("file-letters", 5))],
     (["week"], "week", struct.pack("<H", 65) + bytes(600), 30),
     (["week"], "week", b"\0\0", 30),
     (["author"], "author", bytes(8), 7),
@@ -23,7 +24,7 @@ REFUSED = [
     (["author"], "author", LEGS + b"\3\0\7\0\1\0", 4),
     (["desks"], "desks", bytes(8), 7),
     (["desks"], "desks", LEGS + bytes(7), 5),
-    (["debrief"], "desks", LEGS + bytes(7), 5),
+    (["debrief"], "play", LEGS + bytes(7), 5),
     (["classroom", "field"], "classroom", LEGS, 4),
     (["classroom", "field"], "classroom", LEGS + struct.pack("<5H", 64, 7, 5, 1, 1), 29),
     (["classroom", "field"], "classroom", LEGS + struct.pack("<9H", 64, 7, 3, 1, 1, 8, 3, 2, 2), 25),
@@ -60,7 +61,7 @@ def refusals(folder):
         yield case(f"{' '.join(words)}, empty", [COMMAND, *words], folder, 1, b"", rb"baguymo: standard input: is empty; there could stand [^\n]+\n")
     yield case("play --plain, empty", [COMMAND, "play", "--plain"], folder, 1, b"file 5\n")
     yield case("classroom field, a practice file", [COMMAND, "classroom", "field", CASES / "worked.scap"], folder, 1, b"", rb"[^\n]+ is a practice file; [^\n]+\n")
-    yield case("lesson, a practice file", [COMMAND, "lesson", CASES / "worked.scap"], folder, 1, b"", rb"[^\n]+ is no text; [^\n]+`lesson --show`[^\n]+\n")
+    yield case("lesson, a practice file", [COMMAND, "lesson", CASES / "worked.scap"], folder, 1, b"", rb"[^\n]+ is a practice file, which `lesson --show` [^\n]+\n")
     yield case("author, a list of nobody", [COMMAND, "author"], folder, 1, b"", rb"baguymo: standard input: refused 7: [^\n]+\n")
 
 

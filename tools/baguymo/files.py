@@ -7,6 +7,7 @@ from .words import printable
 
 LONGEST_INPUT = 4 << 20  # bytes; more than any text of 4,096 requests needs, and than any program reads
 TEXT = frozenset(b"\t\n\r") | frozenset(range(32, 127)) | frozenset(range(128, 256))
+MARKS_16 = (b"\xff\xfe", b"\xfe\xff")  # of text in UTF-16
 PRACTICE, LESSON, BYTES = "a practice file", "text", "bytes"
 missing = set()  # which of the standard input, output and error output are not open
 
@@ -34,23 +35,23 @@ def tell(text):
         pass  # there is nobody to tell
 
 
-def sort_of(data, letters=False):
-    """What an input is, by its first four letters. Where `letters` is true the bytes begin with two legs, and no letters stand for them:
-    legs of 36 to 44 or 52 to 56 miles look like text, and then the rest decides, since bytes of calls have zeros."""
-    first = data[:4]
-    if first == LETTERS:
+def sort_of(data):
+    """What an input is: a practice file by its first four letters; text where over three quarters of its first 64 bytes are those of a text,
+    which is so of damaged text too, and not so of legs, calls, binders and damaged practice files, in which every other byte or more is a
+    zero or a small number; else bytes."""
+    if data[:4] == LETTERS:
         return PRACTICE
-    if not first or not TEXT.issuperset(first) and first[:2] not in (b"\xff\xfe", b"\xfe\xff"):
-        return BYTES
-    like_legs = letters and len(first) == 4 and first[1] in b"\t\n\r" and first[3] in b"\t\n\r"
-    return BYTES if like_legs and 0 in data else LESSON
+    first = data[:64]
+    if data[:2] in MARKS_16 or 4 * sum(byte in TEXT for byte in first) > 3 * len(first):
+        return LESSON
+    return BYTES
 
 
 def like_utf16(data):
     """Whether bytes begin like text in UTF-16: with its mark, or with a zero beside each of the first eight letters."""
     first = data[:16]
     zeros, letters = (first[0::2], first[1::2]) if first[:1] == b"\0" else (first[1::2], first[0::2])
-    return first[:2] in (b"\xff\xfe", b"\xfe\xff") or (len(first) == 16 and not any(zeros) and 0 not in letters and TEXT.issuperset(letters))
+    return first[:2] in MARKS_16 or (len(first) == 16 and not any(zeros) and 0 not in letters and TEXT.issuperset(letters))
 
 
 class Input:

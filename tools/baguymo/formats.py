@@ -1,7 +1,7 @@
 """The bytes that the programs read: practice files, binders, calls of two desks, classroom lists; and a lesson as text again."""
 from struct import iter_unpack, pack, unpack_from
 
-from .words import LEGS, MOST_REQUESTS, TICK, asked, exact
+from .words import LEGS, TICK, asked, exact
 
 LETTERS = b"SCAP"
 HEAD, OFFSET = 26, 34  # where the legs of a practice file begin, and its requests

@@ -1,4 +1,6 @@
 """How each verb is used: what `baguymo --help` and `baguymo VERB --help` print. tests/commands runs the examples."""
+import itertools
+import textwrap
 
 # Of each verb a line, how it is called, what it does, its own options, and an example.
 VERBS = {
@@ -60,11 +62,11 @@ no two neighbours of the landing sequence are on the approach"""),
 One request a line; # begins a comment. The first line has the legs, in miles or as four numbers of 64ths of a mile:
     legs base 1, intermediate 1, final 1, missed 2 miles
     7 vertical entry right, 60 knots
-    7 descend                        kinds with a number alone: descend, approach, merge, to final, land, taxi, exit, miss, hold
+    7 descend               so also approach, merge, to final, land, taxi, exit, miss and hold
     8 lateral entry left, 90 knots
-    tick 1 minute                    at most a minute; `tick 1 minute, 5 times` for longer, and so behind any line
-    desk 2: 9 descend                of desk 2; without a desk it is desk 1's
-    back                             takes the last accepted request back; also `desk 2: back`
+    tick 1 minute           at most a minute; `tick 1 minute, 5 times` for longer; so behind any line
+    desk 2: 9 descend       of desk 2; without a desk it is desk 1's
+    back                    takes the last accepted request back; also `desk 2: back`
 Miles, minutes and knots are taken where they are whole in the rules' units (64ths of a mile, of a minute, and of a mile a minute), as 1.5 miles,
 96/64 miles, 1 1/2 miles, 30 seconds, 1.5 miles a minute. A request may also be four numbers: kind, side, number, amount; requests in numbers
 that break the input rules are written as they stand, and a note says so. A line that is not understood is named, with what could stand there.""",
@@ -121,7 +123,7 @@ end 0 0 0 0 0"""),
 }
 PLAIN = ("--plain", "print the proved bytes of the report as they are and nothing else, also of what is refused")
 COMMON = [("-o OUT", "write to the file OUT, which is left alone where anything is refused"), ("-h, --help", "print this, and do nothing else")]
-ENDING = """FILE is text or bytes, told apart by the first four letters. Without FILE, or where FILE is -, standard input is read. -- ends the options.
+ENDING = """FILE is text or bytes, told apart by how it begins: a practice file by the letters SCAP. Without FILE, or where FILE is -, standard input is read. -- ends the options.
 The exit status is 0 where all went well, 2 for wrong use, and 1 for what is refused or cannot be read, built or written."""
 
 
@@ -132,12 +134,21 @@ def usage(verb):
     return f"usage: baguymo {verb}{given} [-o OUT] {words}"
 
 
+def filled(text):
+    """Text in lines of at most 100 characters; lines that are indented stay as they are."""
+    lines = []
+    for indented, group in itertools.groupby(text.split("\n"), lambda line: line.startswith(" ")):
+        lines += list(group) if indented else textwrap.wrap(" ".join(group), 100)
+    return lines
+
+
 def of_verb(verb):
     """Everything about a verb."""
     _, _, text, options, example = VERBS[verb]
-    lines = [usage(verb), "", text, ""]
-    lines += [f"  {option:<12}{words}" for option, words in (*options, PLAIN, *COMMON)]
-    lines += ["", ENDING, "", "Example:"] + ["    " + line for line in example.split("\n")]
+    lines = [usage(verb), "", *filled(text), ""]
+    for option, words in (*options, PLAIN, *COMMON):
+        lines += textwrap.wrap(words, 100, initial_indent=f"  {option:<12}", subsequent_indent=" " * 14)
+    lines += ["", *filled(ENDING), "", "Example:"] + ["    " + line for line in example.split("\n")]
     return "\n".join(line.rstrip() for line in lines) + "\n"
 
 

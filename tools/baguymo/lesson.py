@@ -2,6 +2,7 @@
 import re
 
 from .errors import Failure
+from .files import MARKS_16
 from .quantity import LEG, SPEED, TIME, Wrong, quantity, split, whole
 from .words import ENTRIES, KINDS, LEGS, MOST_REQUESTS, SIDES, TICK, input_number, listed, quoted
 
@@ -202,7 +203,7 @@ def understood(lines, read, name):
 
 def parse(data, name):
     """The lesson of a text."""
-    if data[:2] in (b"\xff\xfe", b"\xfe\xff"):
+    if data[:2] in MARKS_16:
         raise Failure(f"{name}: line 1: found UTF-16; a lesson is text in UTF-8, so it has to be saved as that")
     lesson, lines = Lesson(), lines_of(data)
     understood(lines, lambda text, line: read_line(lesson, text, line), name)

@@ -71,15 +71,19 @@ def report_of(program, words, data, sorts, name):
     return refused(run(ready(program)[0], words, data), sorts, name)
 
 
-def play(command):
+def play_report(command, given):
     """The report of a practice file."""
-    given = command.input()
     return report_of("play", [], practice(command, given), FILE_REFUSED, given.name)
+
+
+def play(command):
+    """What `play` prints."""
+    return play_report(command, command.input())
 
 
 def calls(command, given):
     """The bytes of an input of `desks`, from those, from a lesson or from a practice file, whose requests are desk 1's."""
-    sort = sort_of(given.data, letters=True)
+    sort = sort_of(given.data)
     if sort == PRACTICE:
         report_of("play", [], given.data, FILE_REFUSED, given.name)
         return desks_input(*requests_in(given.data))
@@ -93,16 +97,22 @@ def calls(command, given):
     return given.data
 
 
-def desks(command):
+def desks_report(command, given):
     """The report of calls by two desks."""
-    given = command.input()
     return report_of("desks", [], calls(command, given), {"refused": "calls"}, given.name)
 
 
+def desks(command):
+    """What `desks` prints."""
+    return desks_report(command, command.input())
+
+
 def is_for_desks(given):
-    """Whether an input is for two desks: a lesson with a desk or a step back, or bytes that are no practice file."""
-    sort = sort_of(given.data, letters=True)
-    return lesson_of(given).desks_line > 0 if sort == LESSON else sort == BYTES and given.data != b"" and not like_utf16(given.data)
+    """Whether an input is for two desks: a lesson with a desk or a step back, or bytes that are no practice file and that `desks` plays."""
+    sort = sort_of(given.data)
+    if sort == LESSON:
+        return lesson_of(given).desks_line > 0
+    return sort == BYTES and given.data != b"" and not run(ready("desks")[0], [], given.data).startswith(b"refused")
 
 
 def debrief(command):
@@ -110,16 +120,10 @@ def debrief(command):
     given = command.input()
     for_desks = is_for_desks(given)
     if command.plain:
-        return (report_of("desks", [], calls(command, given), {"refused": "calls"}, given.name) if for_desks
-                else report_of("play", [], practice(command, given), FILE_REFUSED, given.name))
+        return desks_report(command, given) if for_desks else play_report(command, given)
     from .debrief import words_of
     from .session import desks_played, played
-    try:
-        session = desks_played(calls(command, given), given.name) if for_desks else played(practice(command, given), given.name)
-    except Refused as reason:
-        if not for_desks or sort_of(given.data) != BYTES:
-            raise
-        raise Refused(reason.report, reason.lines[0] + "; nor is it a practice file, which begins with the letters SCAP")
+    session = desks_played(calls(command, given), given.name) if for_desks else played(practice(command, given), given.name)
     return words_of(session, "--field" in command.options).encode()
 
 
@@ -218,7 +222,7 @@ def classroom(command):
         refused(report, {"refused": "list"}, given.name)
         return in_words(command, refused(report, FILE_REFUSED, given.name), "classroom")
     data, wanted = given.data, None
-    sort = sort_of(data, letters=True)
+    sort = sort_of(data)
     if sort == PRACTICE and not command.plain:
         raise Failure(f"{given.name}: is a practice file; `classroom field` takes a list, and `classroom list` the file")
     if sort == LESSON or not data:
@@ -249,7 +253,7 @@ def written(command, name, legs, requests, breaking=()):
 def author(command):
     """The practice file of legs and requests in bytes, or of a lesson or a practice file."""
     given = command.input()
-    sort = sort_of(given.data, letters=True)
+    sort = sort_of(given.data)
     data = given.data
     if sort == PRACTICE:
         report_of("play", [], data, FILE_REFUSED, given.name)
@@ -265,7 +269,7 @@ def author(command):
 
 def shown(command, given):
     """A practice file or an input of `desks` as text."""
-    sort = sort_of(given.data, letters=True)
+    sort = sort_of(given.data)
     if sort == LESSON:
         lesson = lesson_of(given)
         check_legs(lesson, given.name)
@@ -287,10 +291,9 @@ def lesson(command):
     given = command.input()
     if "--show" in command.options:
         return shown(command, given).encode()
-    sort = sort_of(given.data, letters=True)
-    if sort != LESSON:
-        raise Failure(f"{given.name}: {'is empty' if not given.data else 'is no text'}; there could stand a lesson in words, which begins with its legs"
-                      + ("; `lesson --show` says a file in words" if given.data else ""))
+    if sort_of(given.data) == PRACTICE or not given.data:
+        what = "is a practice file, which `lesson --show` says in words" if given.data else "is empty"
+        raise Failure(f"{given.name}: {what}; there could stand a lesson in words, which begins with its legs")
     read = lesson_of(given)
     if not command.plain:
         check_legs(read, given.name)
