@@ -152,3 +152,16 @@ def system(folder):
         yield case(f"{name}, no output", ["sh", "-c", '"$0" "$@" >&-', *called, path], folder, 1, b"", rb"baguymo: standard output: could not be written: [^\n]+\n")
         yield case(f"{name}, no input", ["sh", "-c", '"$0" "$@" - <&-', *called], folder, 1, b"", rb"baguymo: standard input: could not be read: [^\n]+\n")
         yield case(f"{name}, no error output", ["sh", "-c", '"$0" "$@" missing 2>&-', *called], folder, 1)
+    yield "a disk that fills up", lambda: fills_up(folder)
+    (folder / "own.txt").write_bytes(PAIRS.read_bytes())
+    message = rb"baguymo: own.txt is read, and would be overwritten: [^\n]+\nbaguymo: usage: [^\n]+\n"
+    yield case("-o the standard input", ["sh", "-c", '"$0" lesson -o own.txt < own.txt', COMMAND], folder, 2, b"", message)
+    yield "-o leaves its source", lambda: None if (folder / "own.txt").read_bytes() == PAIRS.read_bytes() else "it does not"
+
+
+def fills_up(folder):
+    """What is wrong where an output file does not find room: nothing may be left of it."""
+    (folder / "room").mkdir()
+    words = ["bash", "-c", 'ulimit -f 1; exec "$0" debrief "$1" -o room/out', COMMAND, CASES / "refusals.scap"]
+    difference = wrong(run(words, folder), 1, b"", rb"baguymo: room/out: could not be written: [^\n]+\n")
+    return difference or (f"left over: {os.listdir(folder / 'room')}" if os.listdir(folder / "room") else None)

@@ -77,9 +77,10 @@ class Input:
 
 
 def same(path, other):
-    """Whether two paths lead to one file."""
+    """Whether two paths lead to one file; `-` is the standard input, which may be a file too."""
     try:
-        return os.path.samefile(path, other)
+        given = os.fstat(0) if other == "-" else os.stat(other)
+        return os.path.isfile(path) and os.path.samestat(os.stat(path), given)
     except (OSError, ValueError):
         return False
 

@@ -54,7 +54,7 @@ def command_of(verb, options, out, others):
         raise Misuse("--plain and --words exclude each other")
     if paths.count("-") > 1:
         raise Misuse("standard input, -, can be read once")
-    if out is not None and any(files.same(out, path) for path in paths):
+    if out is not None and any(files.same(out, path) for path in paths or ["-"]):
         raise Misuse(f"{out} is read, and would be overwritten: -o needs another name")
     if out is None and verb in MAKES_BYTES and "--show" not in options and os.isatty(1):
         raise Misuse("the output is bytes, which no terminal shows: -o OUT names a file for them")

@@ -34,14 +34,18 @@ class Step:
 
 
 class Branch:
-    """An accepted request in the tree of those that were: what was asked, the one before it, whether one follows it, the field after it, and
-    of everybody on that field the fix and the desk."""
+    """An accepted request in the tree of those that were: what was asked, the one before it, those that followed it, the first step that asked
+    it, the field after it, and of everybody on that field the fix and the desk."""
 
     def __init__(self, parent=None, call=None):
-        self.parent, self.call, self.step, self.followed = parent, call, None, False
+        self.parent, self.call, self.next, self.step = parent, call, {}, None
         self.field, self.fixes, self.desks = Field(), {}, {}
-        if parent:
-            parent.followed = True
+
+    def then(self, call):
+        """The request that follows this one; the same where it was asked here before and taken back."""
+        if call not in self.next:
+            self.next[call] = Branch(self, call)
+        return self.next[call]
 
     def path(self):
         """The accepted requests up to this one that no step back took back, this one last."""
@@ -84,12 +88,12 @@ def field_of(words):
     return Field(int(words[1]), [int(n) for n in words[3:start]], zones, waited)
 
 
-def fields_of(track, data, count):
-    """The field after each request of a practice file."""
-    fields = [field_of(words) for words in lines(run(track, [], data))]
-    if len(fields) != count:
+def fields_of(track, data, count, known=0):
+    """The field after each request of a practice file, but for the first ones, so many, that are known."""
+    told = run(track, [], data).decode("ascii").splitlines()
+    if len(told) != count:
         raise Failure("`track` did not print a line for each request")
-    return fields
+    return [field_of(line.split()) for line in told[known:]]
 
 
 def refused(report, sorts, name):
@@ -105,10 +109,9 @@ def grown(calls, answers):
     """The steps, over the tree of accepted requests."""
     now, steps = Branch(), []
     for call, answer in zip(calls, answers):
-        after = now if answer.number else now.parent if call[0] else Branch(now, call)
+        after = now if answer.number else now.parent if call[0] else now.then(call)
         steps.append(Step(call, answer, now, after))
-        if after.parent is now:
-            after.step = steps[-1]
+        after.step = after.step or steps[-1]
         now = after
     return steps
 
@@ -116,7 +119,7 @@ def grown(calls, answers):
 def know_all(steps, fields):
     """Takes the field after each step: what `track` says of it must be what the answer says of its aircraft."""
     for step, field in zip(steps, fields):
-        if step.after.step is step:
+        if step.after.step is step and step.after.parent:
             step.after.know(field, step.answer)
             if step.answer.aircraft and field.at.get(step.answer.aircraft, 0) != step.answer.zone:
                 raise Failure("`track` does not agree with the answers")
@@ -139,10 +142,11 @@ def desk_fields(legs, steps, track):
     """The field after each step of two desks: `track` plays a practice file for each accepted request that none follows."""
     found = {}
     for step in steps:
-        if step.after.step is step and not step.after.followed:
+        if step.after.step is step and not step.after.next:
             path = step.after.path()
-            fields = fields_of(track, practice_file(legs, [each.call for each in path]), len(path))
-            found.update(zip(path, fields))
+            known = next(place for place, each in enumerate(path) if each not in found)
+            fields = fields_of(track, practice_file(legs, [each.call for each in path]), len(path), known)
+            found.update(zip(path[known:], fields))
     return [found.get(step.after) for step in steps]
 
 
