@@ -22,23 +22,25 @@ use Rattle.request.specs.declared.Request.{Request}
 use Rattle.field.specs.declared.Aircraft.{Aircraft}
 use Rattle.field.specs.declared.Legs.{Legs}
 use Rattle.field.specs.declared.Field.{Field}
-use Rattle.field.specs.Airspace.{everywhere, isFlyingZone, isSide, inZone, emptyField}
+use Rattle.field.specs.Airspace.{everywhere, isFlyingZone, isSide, inZone}
 use Rattle.field.specs.Lists.{every, Each}
 use Rattle.fits.specs.Fits.{fitsZone, boundG, legalLegs}
 use Rattle.bounds.specs.Bounds.{withinBounds}
 use Rattle.laws.proofs.BoundLaws.{within-each}
 use Rattle.laws.proofs.Fits.{fits-parts, all-fit, own-legal}
+use Rattle.rules.specs.Start.{emptyStart}
 use Rattle.rules.specs.Play.{fieldAfter, played}
 use Rattle.demand.specs.Exact.{WholeLegs, inMiles, mostIn4096ths, pastIn, Flight, noFlight, flightAfter, Account}
 use Rattle.demand.proofs.Exact.{exactness}
-use Rattle.demand.proofs.Flights.{legs-legal}
 use Rattle.gaps.specs.Gaps.{onApproach, wayOf}
-use Rattle.exact_gaps.specs.ExactGaps.{reached, wayIn4096ths}
+use Rattle.exact_gaps.specs.ExactGaps.{wayIn4096ths}
 use Rattle.exact_gaps.proofs.ExactGaps.{reached-within, legs-are, way-is, way-few}
-use Rattle.history.specs.History.{startOf}
+use Rattle.history.specs.declared.History.{History}
+use Rattle.history.specs.History.{historyAtStart}
 use Rattle.taken_back.specs.Calls.{Call, afterCalls, historyOf}
 use Rattle.taken_back.proofs.Calls.{taken-back}
 use Rattle.taken_back.proofs.Follows.{field-now}
+use Rattle.taken_back.proofs.Starts.{starts}
 use Rattle.proof_rounding.specs.NothingRounded.{ExactFlight, ExactLegs, NothingRoundedOn, NothingRounded}
 use Rattle.proof_rounding.proofs.ExactOperations.{difference-exact, whole-64ths-exact, tick-exact, rest-exact}
 
@@ -118,16 +120,17 @@ module _ (w : WholeLegs) (f : Field) (bounded : T (withinBounds f)) (same-legs :
         }
 
 -- ---- every field that is reached
-after-requests : (w : WholeLegs) (rs : List Request) → NothingRoundedOn (fieldAfter (emptyField (inMiles w)) rs)
-after-requests w rs =
-    on-field w (reached w rs) (reached-within w rs) (legs-are w rs) (λ n. flightAfter w n noFlight (played (emptyField (inMiles w)) rs)) (exactness w rs)
-    (wayIn4096ths w rs) (way-is w rs) (way-few w rs)
+after-requests : (w : WholeLegs) (f : Field) → T (emptyStart f) → f .legs ≡ inMiles w → (rs : List Request) → NothingRoundedOn (fieldAfter f rs)
+after-requests w f t l rs =
+    on-field w (fieldAfter f rs) (reached-within w f t l rs) (legs-are w f t l rs) (λ n. flightAfter w n noFlight (played f rs)) (exactness w f t l rs)
+    (wayIn4096ths w f rs) (way-is w f t l rs) (way-few w f t l rs)
 
-after-calls : (w : WholeLegs) (cs : List Call) → NothingRoundedOn (afterCalls (startOf (inMiles w)) cs .now .field)
-after-calls w cs =
-    let legs = inMiles w in
-    let rs = historyOf legs cs in
-    subst⁻¹ NothingRoundedOn (field-now legs (afterCalls (startOf legs) cs) rs (taken-back legs (legs-legal w) cs .follows)) (after-requests w rs)
+after-calls : (w : WholeLegs) (start : History) → T (historyAtStart start) → start .now .field .legs ≡ inMiles w
+    → (cs : List Call) → NothingRoundedOn (afterCalls start cs .now .field)
+after-calls w start t l cs =
+    let f = start .now .field in
+    let rs = historyOf start cs in
+    subst⁻¹ NothingRoundedOn (field-now f (afterCalls start cs) rs (taken-back start t cs .follows)) (after-requests w f (starts start t .empty) l rs)
 
 pub nothing-rounded : NothingRounded
 nothing-rounded = record { legs = legs-exact; requests = after-requests; calls = after-calls }

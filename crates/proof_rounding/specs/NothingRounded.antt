@@ -17,12 +17,14 @@ use Rattle.request.specs.declared.Request.{Request}
 use Rattle.field.specs.declared.Aircraft.{Aircraft}
 use Rattle.field.specs.declared.Legs.{Legs}
 use Rattle.field.specs.declared.Field.{Field}
-use Rattle.field.specs.Airspace.{isFlyingZone, inZone, emptyField}
+use Rattle.field.specs.Airspace.{isFlyingZone, inZone}
 use Rattle.field.specs.Lists.{Each}
+use Rattle.rules.specs.Start.{emptyStart}
 use Rattle.rules.specs.Play.{fieldAfter}
 use Rattle.demand.specs.Exact.{WholeLegs, inMiles}
 use Rattle.gaps.specs.Gaps.{onApproach, wayOf, legalSpacing}
-use Rattle.history.specs.History.{startOf}
+use Rattle.history.specs.declared.History.{History}
+use Rattle.history.specs.History.{historyAtStart}
 use Rattle.taken_back.specs.Calls.{Call, afterCalls}
 use Rattle.proof_rounding.specs.Fractions.{over, smallerOf, sumOf, productOf, numberOf, standsFor, exactSum, exactDifference, exactProduct, exact64ths}
 
@@ -80,9 +82,11 @@ pub record ExactLegs (w : WholeLegs) : Type 0 where
   pub intermediate : T (exact64ths (w .intermediate-leg))
   pub final : T (exact64ths (w .final-leg))
 
--- Nothing is rounded from any start with legs in whole 64ths: of the legs, on the field after any list of requests from the empty one, and on the field after
+-- Nothing is rounded from any start with legs in whole 64ths: of the legs, on the field after any list of requests from an empty one, and on the field after
 -- any list of requests and steps back (02, 2.13).
 pub record NothingRounded : Type 0 where
   pub legs : (w : WholeLegs) → ExactLegs w
-  pub requests : (w : WholeLegs) (rs : List Request) → NothingRoundedOn (fieldAfter (emptyField (inMiles w)) rs)
-  pub calls : (w : WholeLegs) (cs : List Call) → NothingRoundedOn (afterCalls (startOf (inMiles w)) cs .now .field)
+  pub requests : (w : WholeLegs) (f : Field) → T (emptyStart f) → f .legs ≡ inMiles w → (rs : List Request) → NothingRoundedOn (fieldAfter f rs)
+  pub calls :
+    (w : WholeLegs) (start : History) → T (historyAtStart start) → start .now .field .legs ≡ inMiles w
+    → (cs : List Call) → NothingRoundedOn (afterCalls start cs .now .field)
