@@ -17,7 +17,8 @@
    rounded. So a host may leave the processor rounding in any direction, and flushing denormals to 0, as graphics engines set it: every byte
    is the same, and the processor's mark of an inexact result is not set. One sign differs: where the processor rounds down, a gap of 0 is
    -0, which compares equal to 0. It matters on a state from elsewhere whose legs or miles are no whole 4096ths of a mile: for its answers to
-   be those of the rules a host has the processor round to the nearest and keep denormals, which is the default.
+   be those of the rules a host has the processor round to the nearest and keep denormals, which is the default. Traps on floating-point
+   exceptions stay masked, also the default: compiled code may compare bits that it then does not use.
 
    Layout, numbers with the low byte first, floats as their 64 bits (IEEE 754 binary64):
      a field with its index, 1,733 bytes:

@@ -2,7 +2,7 @@
    zero, or flushing denormals to 0. On legs in whole 64ths nothing is ever rounded (docs/ASSURANCE.md), so every call must put out the same
    bytes in all five, and the processor must never say that a result was inexact. tests/rounding compiles this and runs it:
 
-     rounding same SEED COUNT FILE...   the practice files, and so many drawn sessions of 300 calls; files called *.calls hold calls of two desks
+     rounding same SEED COUNT FILE...   the practice files, files called *.calls, which hold calls of two desks, and so many drawn sessions
      rounding differ                    the example off the grid, in each environment */
 #include <fenv.h>
 #include <stdbool.h>
@@ -154,19 +154,15 @@ static void report_in_each(enum report report, const uint8_t *file, size_t lengt
     }
 }
 
-static unsigned number_at(const uint8_t *bytes) {
-    return bytes[0] | (unsigned)bytes[1] << 8;
-}
-
 static uint16_t number16(const uint8_t *bytes) {
-    return (uint16_t)number_at(bytes);
+    return (uint16_t)(bytes[0] | bytes[1] << 8);
 }
 
 static void start(const uint8_t *legs) {
     in_each((struct call){.what = START, .values = {number16(legs), number16(legs + 2), number16(legs + 4), number16(legs + 6)}});
 }
 
-/* Asks a request, or takes one back where `desk` has no kind, and then for the spacing. */
+/* Asks a request, and then for the spacing. */
 static void ask(uint8_t desk, const uint8_t *request, uint16_t spacing) {
     struct reply r = in_each((struct call){
         .what = ASK, .values = {desk, request[0], request[1], number16(request + 2), number16(request + 4)}});
@@ -174,6 +170,7 @@ static void ask(uint8_t desk, const uint8_t *request, uint16_t spacing) {
     in_each((struct call){.what = SPACING, .values = {spacing}});
 }
 
+/* Takes the last request back, and asks for the spacing. */
 static void back(uint8_t desk, uint16_t spacing) {
     counted.backs += in_each((struct call){.what = BACK, .values = {desk}}).number == 0;
     in_each((struct call){.what = SPACING, .values = {spacing}});
@@ -235,10 +232,11 @@ static uint16_t drawn_leg(void) {
     return (uint16_t)(1 + below(below(8) == 0 ? 4096 : 128));
 }
 
-/* A request of a number from 1 to 6; those with even numbers are desk 2's. Often the miss of the one who is on final, where that is not 0. Some kinds and amounts are
-   not allowed. */
+/* A request of a number from 1 to 6; those with even numbers are desk 2's. Often the miss of the one on final, where that is not 0. Some
+   kinds and amounts are not allowed. */
 static void drawn_request(uint16_t on_final, uint8_t *desk, uint8_t *request) {
-    static const uint8_t kinds[] = {12, 12, 12, 12, 12, 12, 12, 1, 1, 2, 3, 3, 4, 4, 4, 5, 5, 5, 6, 6, 6, 7, 8, 9, 10, 10, 10, 11, 11, 11, 0, 13};
+    static const uint8_t kinds[] = {12, 12, 12, 12, 12, 12, 12, 1, 1, 2,  3,  3,  4,  4,  4,  5,
+                                    5,  5,  6,  6,  6,  7,  8,  9, 10, 10, 10, 11, 11, 11, 0, 13};
     bool misses = on_final != 0 && below(4) == 0;
     uint8_t kind = misses ? 10 : kinds[below(sizeof kinds)];
     uint16_t number = misses ? on_final : (uint16_t)(1 + below(6));
@@ -250,8 +248,8 @@ static void drawn_request(uint16_t on_final, uint8_t *desk, uint8_t *request) {
     memcpy(request, (uint8_t[]){kind, side, (uint8_t)number, 0, (uint8_t)amount, (uint8_t)(amount >> 8)}, 6);
 }
 
-/* Draws a session call by call: requests of two desks, steps back and presses, and the spacing after each; at its end the list of the field, and
-   the button held down. */
+/* Draws a session call by call: requests of two desks, steps back and presses, with the spacing; at its end the list of the field, and at
+   times the button held down. */
 static void play_drawn(uint8_t *legs) {
     start(legs);
     for (int i = 0; i < CALLS; i++) {
@@ -272,7 +270,8 @@ static void play_drawn(uint8_t *legs) {
 
 /* The reports of a drawn practice file, and the field of a drawn list. */
 static void play_drawn_file(uint8_t *legs) {
-    static uint8_t file[BODY + 6 * CALLS] = {'S', 'C', 'A', 'P', 2, 0, 1, 0, HEAD, 0, 0, 0, 8, 0, 0, 0, 2, 0, BODY, 0, 0, 0, 6 * CALLS & 255, 6 * CALLS >> 8};
+    static uint8_t file[BODY + 6 * CALLS] = {'S', 'C',  'A', 'P', 2, 0, 1, 0, HEAD, 0, 0, 0, 8, 0, 0, 0, 2,
+                                             0,   BODY, 0,   0,   0, 6 * CALLS & 255, 6 * CALLS >> 8};
     memcpy(file + HEAD, legs, 8);
     for (int i = 0; i < CALLS; i++) {
         uint8_t desk;
@@ -281,7 +280,10 @@ static void play_drawn_file(uint8_t *legs) {
     for (enum report report = SESSION; report <= GAPS; report++)
         report_in_each(report, file, sizeof file);
     const uint8_t list[16] = {7, 0, 3, 0, 1, 0, 1, 0, 8, 0, 2, 0, 2, 0, 2, 0};
-    in_each((struct call){.what = FIELD, .values = {number16(legs), number16(legs + 2), number16(legs + 4), number16(legs + 6), 64}, .list = list, .length = 16});
+    in_each((struct call){.what = FIELD,
+                          .values = {number16(legs), number16(legs + 2), number16(legs + 4), number16(legs + 6), 64},
+                          .list = list,
+                          .length = sizeof list});
     for (int i = 0; i < 12; i++)
         in_each((struct call){.what = PRESS});
 }
@@ -304,8 +306,8 @@ static void draw(unsigned long count) {
     }
 }
 
-/* The example of crates/proof_rounding/specs/OffTheGrid.antt: legs of a mile, but final is the next float above it. 7 misses at the beginning of
-   final, and holds two minutes later. Prints its own leg after the miss, and what the hold is answered. */
+/* The example of crates/proof_rounding/specs/OffTheGrid.antt: legs of a mile, but final is the next float above it. 7 misses at the
+   beginning of final, and holds two minutes later. Prints its own leg after the miss, and what the hold is answered. */
 static void differ(int mode) {
     static const uint8_t requests[11][6] = {{1, 1, 7, 0, 64, 0}, {3, 0, 7, 0, 0, 0},   {4, 0, 7, 0, 0, 0},   {12, 0, 0, 0, 64, 0},
                                             {5, 0, 7, 0, 0, 0},  {12, 0, 0, 0, 64, 0}, {6, 0, 7, 0, 0, 0},   {10, 0, 7, 0, 0, 0},
@@ -341,7 +343,8 @@ int main(int argc, char **argv) {
     for (int i = 4; i < argc; i++)
         play_stored(argv[i]);
     draw(strtoul(argv[3], NULL, 10));
-    printf("%lu sessions, %lu calls in each of five environments, %lu accepted, %lu misses and %lu steps back among them, %lu bytes of reports; "
+    printf("%lu sessions, %lu calls in each of five environments, %lu accepted, %lu misses and %lu steps back among them, %lu bytes of "
+           "reports; "
            "every byte the same and nothing inexact; %lu times a gap of 0 was -0, rounded down\n",
            counted.sessions, counted.calls, counted.accepted, counted.misses, counted.backs, counted.bytes, counted.zeros);
     return counted.misses > strtoul(argv[3], NULL, 10) && counted.zeros > 0 ? 0 : 1;

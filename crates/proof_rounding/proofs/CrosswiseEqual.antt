@@ -1,6 +1,6 @@
 -- A fraction that is (p - q) / d: what the sum, the difference and the product of two such are, that two are the same number where the whole numbers say so,
 -- and which of two is the smaller. Nothing here is about floats. Assumes nothing.
-use mathlib.Core.Path.{_≡_, sym, ap, _∙_, subst}
+use mathlib.Core.Path.{_≡_, refl, sym, ap, _∙_, subst}
 use mathlib.Core.Bool.{true, false, _&&_}
 use Prim.Native.Nat.{ℕ, _+_, _*_, _≤_, _<_, min}
 use native.Mathlib.Nat.{mul-assoc, mul-comm, mul-left-comm, mul-pos, zero-mul, add-mul, eq-of-mul-eq-mul-right, lt-of-not-le, not-le-of-lt, mul-le-mul-right, mul-lt-mul-of-pos-right}
@@ -106,13 +106,13 @@ module _ (a b : Fraction) (p q r s d : ℕ) (h : Is a p q d) (k : Is b r s d) wh
       number c t = fail (ne-eqb (c .under) 0 (λ e. omega arith))
 
   -- which is the smaller
-  is-less : 0 < d → p + s < r + q → less a b ≡ true
+  pub is-less : 0 < d → p + s < r + q → less a b ≡ true
   is-less D e =
       let c = crosswise in
       let under : (p + s) * both < (q + r) * both = mul-lt-mul-of-pos-right (omega arith) (mul-pos (h .some) (k .some)) in
       lt-ltb left right (lt-of-not-le (λ (g : right ≤ left). let all = mul-le-mul-right d g in let none : ⊥ = omega arith in none))
 
-  not-less : 0 < d → r + q ≤ p + s → less a b ≡ false
+  pub not-less : 0 < d → r + q ≤ p + s → less a b ≡ false
   not-less D e =
       let c = crosswise in
       let over : (q + r) * both ≤ (p + s) * both = mul-le-mul-right both (omega arith) in
@@ -135,6 +135,9 @@ is-smaller a b m n d D h k = go (decLe n m)
         subst (λ (c : Fraction). Is c (min n m) 0 d) (sym (if-true a b (is-less a b m 0 n 0 d h k D (omega arith)))) (subst (λ (z : ℕ). Is a z 0 d) least h)
 
 -- ---- n / d itself, and in other parts
+pub is-itself : (n d : ℕ) → 0 < d → Is (over n d) n 0 d
+is-itself n d D = record { some = D; parts = refl }
+
 pub is-over : (n e d : ℕ) → 0 < e → Is (over n e) (n * d) 0 (e * d)
 is-over n e d E = record { some = E; parts = let h = sym (mul-assoc n e d) ∙ into-first n e d in let z = zero-mul e in let w = zero-mul (e * d) in omega arith }
 

@@ -1,29 +1,30 @@
 -- On the grid of the 4096ths of a mile every operation of a tick, of a miss and of the spacing is exact. Assumes nothing.
-use mathlib.Core.Path.{_≡_, sym, ap, subst}
-use mathlib.Core.Bool.{Bool, true, false, cond, true≢false}
+use mathlib.Core.Path.{_≡_, refl, sym, ap, _∙_, subst}
+use mathlib.Core.Bool.{Bool, true, false, cond, not, true≢false}
 use Prim.Native.Nat.{ℕ, suc, _+_, _-_, _*_, _^_, _≤_, _<_, min}
-use native.Mathlib.Nat.{zero-mul, lt-of-le-of-lt, lt-of-not-le, le-of-lt}
+use native.Mathlib.Nat.{zero-mul, mul-right-comm, eq-of-mul-eq-mul-right, lt-of-le-of-lt, lt-of-not-le, le-of-lt}
 use native.Mathlib.Omega.{arith}
 use native.Mathlib.Decide.{decLe}
-use lib.Dec.{T, lit<}
+use lib.Dec.{T, eqb, lit<}
 use lib.IntN.{pos, negsuc, subℕ}
-use lib.Ieee.{Float, nan, inf, fin, binary64, down, add, sub, div}
+use lib.Ieee.{Float, nan, inf, fin, binary64, up, down, add, sub, div, eq}
 use lib.Ieee.Exact.{HasValue}
-use lib.Ieee.Fits.{and-i, down-pos}
+use lib.Ieee.Fits.{and-i, eq→eqb, down-pos}
 use lib.Ieee.Positive.{positive-of-value, mul-at}
 use borrow.Author.Tests.{lt-ltb, le-ltb}
 use Rattle.limits.specs.Limits.{longestTick, fastest, longestOwnLegMiles, mostWaited}
-use Rattle.leg.specs.Progress.{whole, sixtyFourths, milesFlown, flownSum, beyond, pastEnd, waitedAfter}
+use Rattle.leg.specs.Progress.{whole, sixtyFourths, milesFlown, flownSum, beyond, advanced, pastEnd, waitedAfter}
 use Rattle.leg.specs.Ticks.{Between, Exactly, LegIn4096ths}
-use Rattle.leg.proofs.Grid.{parts, parts-value, whole-value, sixtyFourths-value, step-pos, step-small, sum-grid}
+use Rattle.leg.proofs.Grid.{parts, parts-value, whole-value, sixtyFourths-value, step-pos, step-small, sum-grid, grid-tick}
 use Rattle.leg.proofs.Missed.{ahead-grid, left-grid}
 use Rattle.leg.proofs.Waited.{beyond-grid, waited-grid}
 use Rattle.field.specs.declared.Legs.{Legs}
+use Rattle.field.proofs.TestLaws.{passed}
 use Rattle.exact_gaps.specs.ExactGaps.{ExactlySigned}
-use Rattle.exact_gaps.proofs.Signed.{signed-grid}
-use Rattle.proof_rounding.specs.Fractions.{over, smallerOf, sumOf, differenceOf, productOf, numberOf, standsFor, exactSum, exactDifference, exactProduct, exact64ths}
-use Rattle.proof_rounding.specs.NothingRounded.{ExactTick, ExactRest}
-use Rattle.proof_rounding.proofs.CrosswiseEqual.{Is, is-shifted, is-same, is-sum, is-difference, is-product, is-smaller, is-over}
+use Rattle.exact_gaps.proofs.Signed.{signed-grid, same-parts}
+use Rattle.proof_rounding.specs.Fractions.{over, less, smallerOf, sumOf, differenceOf, productOf, numberOf, standsFor, exactSum, exactDifference, exactProduct, exact64ths}
+use Rattle.proof_rounding.specs.NothingRounded.{flownInAll, ExactTick, ExactRest}
+use Rattle.proof_rounding.proofs.CrosswiseEqual.{Is, is-shifted, is-same, is-sum, is-difference, is-product, is-less, not-less, is-smaller, is-itself, is-over}
 
 -- ---- the fraction of a float that has a value
 pub value-is : (x : Float) (n d : ℕ) → HasValue x false n d → Is (numberOf x) n 0 d
@@ -61,6 +62,27 @@ pub difference-exact : (x y : Float) (m n : ℕ) → Exactly x m → Exactly y n
 difference-exact x y m n h k fm fn =
     is-same (numberOf (sub binary64 x y)) (differenceOf (numberOf x) (numberOf y)) m n (m + 0) (0 + n) 4096
     (signed-is (sub binary64 x y) m n (signed-grid x y m n h k fm fn)) (is-difference (numberOf x) (numberOf y) m 0 n 0 4096 (value-is x m 4096 h) (value-is y n 4096 k)) (lit< tt) (omega arith)
+
+-- ---- floats that are the same number compare equal
+equal-cross : (x p y q a c : ℕ) → 0 < c → x * c ≡ a * p → y * c ≡ a * q → x * q ≡ y * p
+equal-cross x p y q a c C h k =
+    eq-of-mul-eq-mul-right c C (x * q) (y * p)
+    (mul-right-comm x q c ∙ ap (λ (z : ℕ). z * q) h ∙ mul-right-comm a p q ∙ sym (mul-right-comm y p c ∙ ap (λ (z : ℕ). z * p) k))
+
+equal-values : (x y : Float) (a c : ℕ) → 0 < c → HasValue x false a c → HasValue y false a c → eq x y ≡ true
+unfolding eq
+equal-values nan y a c C p q = absurd p
+equal-values (inf s) y a c C p q = absurd p
+equal-values (fin true m e) y a c C p q = absurd (true≢false (p .0))
+equal-values (fin false m e) nan a c C p q = absurd q
+equal-values (fin false m e) (inf t) a c C p q = absurd q
+equal-values (fin false m e) (fin true n k) a c C p q = absurd (true≢false (q .0))
+equal-values (fin false m e) (fin false n k) a c C p q =
+    passed (and-i (eqb (m * up e * down k) (n * up k * down e)) true (eq→eqb (equal-cross (m * up e) (down e) (n * up k) (down k) a c C (p .1) (q .1))) tt)
+
+differ : (b : Bool) → (T b → ⊥) → b ≡ false
+differ true h = absurd (h tt)
+differ false h = refl
 
 -- ---- whole numbers and their 64ths
 pub whole-64ths-exact : (n : ℕ) → n < 2 ^ 53 → T (exact64ths n)
@@ -104,7 +126,7 @@ module _ {speed amount : ℕ} (s : Between 1 fastest speed) (a : Between 1 longe
 
   -- from m / 4096 miles on a leg of k / 4096, with n / 4096 waited
   module _ (miles leg waited : Float) (k m n : ℕ) (r : LegIn4096ths leg k) (h : Exactly miles m) (w : Exactly waited n)
-      (low : m ≤ k) (short : k ≤ 4096 * longestOwnLegMiles) (less : n ≤ 4096 * mostWaited) where
+      (low : m ≤ k) (short : k ≤ 4096 * longestOwnLegMiles) (few-waited : n ≤ 4096 * mostWaited) where
     abbrev d : ℕ
     d = m + speed * amount
 
@@ -113,6 +135,34 @@ module _ {speed amount : ℕ} (s : Between 1 fastest speed) (a : Between 1 longe
 
     sum-value : Exactly (flownSum miles speed amount) d
     sum-value = subst (λ (x : Float). Exactly x d) (sym (sum-grid s a miles m h)) (parts-value d (let small = d-few in omega arith))
+
+    -- the same with nothing rounded
+    in-all-is : Is (flownInAll miles speed amount) d 0 4096
+    in-all-is =
+        is-shifted (flownInAll miles speed amount) (m + (speed * amount + 0 * 0)) (0 + (speed * 0 + 0 * amount)) d 0 4096 (omega arith)
+        (is-sum (numberOf miles) (productOf (over speed 64) (over amount 64)) m 0 (speed * amount + 0 * 0) (speed * 0 + 0 * amount) 4096 (value-is miles m 4096 h)
+        (is-product (over speed 64) (over amount 64) speed 0 amount 0 64 64 (is-itself speed 64 (lit< tt)) (is-itself amount 64 (lit< tt))))
+
+    -- the miles after the tick
+    after-value : Exactly (advanced miles speed amount leg) (min k d)
+    after-value = grid-tick s a miles leg k m r h
+
+    -- the end of the leg
+    at-end : eq (advanced miles speed amount leg) leg ≡ not (less (flownInAll miles speed amount) (numberOf leg))
+    at-end = go (decLe k d)
+      where
+        x : Float
+        x = advanced miles speed amount leg
+
+        go : Dec (k ≤ d) → eq x leg ≡ not (less (flownInAll miles speed amount) (numberOf leg))
+        go (yes l) =
+            let all : min k d ≡ k = omega arith in
+            equal-values x leg k 4096 (lit< tt) (subst (Exactly x) all after-value) (r .exact)
+            ∙ sym (ap not (not-less (flownInAll miles speed amount) (numberOf leg) d 0 k 0 4096 in-all-is (value-is leg k 4096 (r .exact)) (lit< tt) (omega arith)))
+        go (no g) =
+            let l : d < k = lt-of-not-le g in
+            differ (eq x leg) (λ t. let e = same-parts x leg (min k d) k after-value (r .exact) t in omega arith)
+            ∙ sym (ap not (is-less (flownInAll miles speed amount) (numberOf leg) d 0 k 0 4096 in-all-is (value-is leg k 4096 (r .exact)) (lit< tt) (omega arith)))
 
     -- the miles past the end
     past-value : Exactly (pastEnd miles speed amount leg) (d - k)
@@ -144,9 +194,12 @@ module _ {speed amount : ℕ} (s : Between 1 fastest speed) (a : Between 1 longe
           product = flown-exact;
           sum = sum-exact miles (milesFlown speed amount) m (speed * amount) h flown-value (omega arith);
           fused =
-              is-same (numberOf (flownSum miles speed amount)) _ d 0 (m + (speed * amount + 0 * 0)) (0 + (speed * 0 + 0 * amount)) 4096 (value-is (flownSum miles speed amount) d 4096 sum-value)
-              (is-sum (numberOf miles) (productOf (numberOf (sixtyFourths speed)) (numberOf (sixtyFourths amount))) m 0 (speed * amount + 0 * 0) (speed * 0 + 0 * amount) 4096
-              (value-is miles m 4096 h) product-is) (lit< tt) (omega arith);
+              is-same (numberOf (flownSum miles speed amount)) (flownInAll miles speed amount) d 0 d 0 4096 (value-is (flownSum miles speed amount) d 4096 sum-value) in-all-is (lit< tt) (omega arith);
+          flown =
+              is-same (numberOf (advanced miles speed amount leg)) (smallerOf (flownInAll miles speed amount) (numberOf leg)) (min k d) 0 (min k d) 0 4096
+              (value-is (advanced miles speed amount leg) (min k d) 4096 after-value)
+              (is-smaller (flownInAll miles speed amount) (numberOf leg) d k 4096 (lit< tt) in-all-is (value-is leg k 4096 (r .exact))) (lit< tt) (omega arith);
+          arrived = at-end;
           past = difference-exact (flownSum miles speed amount) leg d k sum-value (r .exact) (omega arith) (omega arith);
           waited-sum = sum-exact waited P n (d - k) w past-value (omega arith);
           stopped = stops-at _ (omega arith);

@@ -4,12 +4,14 @@
 -- same in whichever direction it rounds, a fused multiply and add, which rounds once where the rules round twice, yields what the two yield, and since each
 -- number is 0 or 1/4096 at the least, nothing is so small that it could be flushed to 0. One sign is left to the direction: the difference of two equal
 -- numbers is -0 where a processor rounds down, and 0 else. No rule tells these two apart.
+use mathlib.Core.Path.{_≡_}
+use mathlib.Core.Bool.{not}
 use mathlib.Core.List.{List}
 use Prim.Native.Nat.{ℕ}
 use lib.Dec.{T}
 use lib.Ieee.{Float, binary64, add, sub}
 use Rattle.limits.specs.Limits.{longestTick, mostWaited}
-use Rattle.leg.specs.Progress.{sixtyFourths, milesFlown, flownSum, pastEnd, waitedAfter}
+use Rattle.leg.specs.Progress.{sixtyFourths, milesFlown, flownSum, advanced, pastEnd, waitedAfter, flownOut}
 use Rattle.leg.specs.Ticks.{Between}
 use Rattle.leg.specs.declared.Progress.{Progress}
 use Rattle.leg.specs.declared.Progress.the-variants.{Waiting, Flying}
@@ -26,9 +28,13 @@ use Rattle.gaps.specs.Gaps.{onApproach, wayOf, legalSpacing}
 use Rattle.history.specs.declared.History.{History}
 use Rattle.history.specs.History.{historyAtStart}
 use Rattle.taken_back.specs.Calls.{Call, afterCalls}
-use Rattle.proof_rounding.specs.Fractions.{over, smallerOf, sumOf, productOf, numberOf, standsFor, exactSum, exactDifference, exactProduct, exact64ths}
+use Rattle.proof_rounding.specs.Fractions.{Fraction, over, less, smallerOf, sumOf, productOf, numberOf, standsFor, exactSum, exactDifference, exactProduct, exact64ths}
 
 -- ---- one who flies
+
+-- the miles with those of a tick, speed / 64 times amount / 64, added: the number itself
+abbrev pub flownInAll : Float → ℕ → ℕ → Fraction
+flownInAll miles speed amount = sumOf (numberOf miles) (productOf (over speed 64) (over amount 64))
 
 -- a tick of the amount, of one with this speed who has flown these miles of its own leg and has waited so many
 pub record ExactTick (speed amount : ℕ) (miles leg waited : Float) : Type 0 where
@@ -37,9 +43,12 @@ pub record ExactTick (speed amount : ℕ) (miles leg waited : Float) : Type 0 wh
   pub amount-64ths : T (exact64ths amount)
   -- the miles that the tick flies, their product
   pub product : T (exactProduct (sixtyFourths speed) (sixtyFourths amount))
-  -- the miles with these added, as if the leg had no end; and the same in one, as a fused multiply and add has it
+  -- the miles with these added, as if the leg had no end; and the same as a fused multiply and add has it, with no product rounded on the way
   pub sum : T (exactSum miles (milesFlown speed amount))
-  pub fused : T (standsFor (flownSum miles speed amount) (sumOf (numberOf miles) (productOf (numberOf (sixtyFourths speed)) (numberOf (sixtyFourths amount)))))
+  pub fused : T (standsFor (flownSum miles speed amount) (flownInAll miles speed amount))
+  -- the miles after the tick, the smaller of that and the leg; and the leg is flown out exactly where that is no smaller than it
+  pub flown : T (standsFor (advanced miles speed amount leg) (smallerOf (flownInAll miles speed amount) (numberOf leg)))
+  pub arrived : flownOut (Flying (advanced miles speed amount leg)) leg ≡ not (less (flownInAll miles speed amount) (numberOf leg))
   -- the miles past the end (02, 2.2): what is computed where the sum exceeds the leg, and exact where it does not, too
   pub past : T (exactDifference (flownSum miles speed amount) leg)
   -- the miles waited with those past the end added, and where they stop, at 4,096 (02, 2.2)
