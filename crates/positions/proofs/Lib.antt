@@ -1,2 +1,4 @@
 pub mod QueueLines
 pub mod Fields
+pub mod LineSizes
+pub mod Printed

@@ -1,7 +1,8 @@
 -- What the program `track` prints: after each request of a practice file, who is where, in which order they land, and the miles that each has
 -- waited at the ends of its legs (02, 2.2). Definitions only.
-use Prim.Native.Nat.{ℕ, suc}
+use Prim.Native.Nat.{ℕ, suc, _^_, _≤_, _<_}
 use mathlib.Core.List.{List, [], _∷_, _++_}
+use lib.ListN.{length, getD}
 use Rattle.request.specs.declared.Request.{Request}
 use Rattle.practice.specs.Practice.{Practice, refused, holds, practiceOf}
 use Rattle.field.specs.declared.Aircraft.{Aircraft}
@@ -58,3 +59,17 @@ practicePositions (holds legs requests) = linesFrom 1 (emptyField (legsInMiles l
 -- of a file of these bytes
 unfoldable pub positionsOf : List ℕ → List ℕ
 positionsOf file = practicePositions (practiceOf file)
+
+-- ---- the caller's buffer
+
+-- how many bytes it has
+abbrev pub positionsRoom : ℕ
+positionsRoom = 1048576
+
+-- each of a list is a byte
+abbrev pub AreBytes : List ℕ → Type 0
+AreBytes xs = (i : ℕ) → getD xs i 0 < 2 ^ 8
+
+-- the report of every file fits it
+abbrev pub PositionsFit : Type 0
+PositionsFit = (file : List ℕ) → AreBytes file → length (positionsOf file) ≤ positionsRoom

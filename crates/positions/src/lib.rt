@@ -11,15 +11,17 @@ use practice::file_number;
 use practice::request_at;
 use session::lines::put_refused;
 use step::step;
+ghost use mathlib.Core.Path.{_≡_};
+ghost use mathlib.Core.List.{_++_};
 ghost use Prim.Native.Nat.{_≤_};
-ghost use lib.ListN.{length};
+ghost use lib.ListN.{length, drop};
 ghost use Rattle.limits.specs.Limits.{mostRequests};
 ghost use Rattle.practice.specs.Requests.{requestsOf};
 ghost use Rattle.field.specs.Airspace.{emptyField};
 ghost use Rattle.text.specs.Buffer.{Put};
 ghost use Rattle.positions.specs.Positions.{linesFrom, positionsOf};
 
-// The caller's buffer. A line has 168 bytes at the most where five are present, as many as the bounds allow, so that 4,096 lines fit.
+// The caller's buffer, long enough for the report of every file (`positions-fit` of proofs/LineSizes.antt).
 pub type PositionsBuffer = [u8; 1048576];
 
 // A line for each request of a body, played from the empty field, from the buffer's first byte on.
@@ -42,9 +44,10 @@ fn put_body(out: &mut [u8], body: &[u8], legs: Legs) -> usize
     at
 }
 
-// Puts the report of a practice file into the buffer, from its first byte on, and yields the place after it.
+// Writes the report of a practice file into the buffer, and yields its length.
 pub fn positions(file: &[u8], out: &mut PositionsBuffer) -> usize
-    ensures { λ r. ⌜ Put (now (out .entry)) 0 (positionsOf (now (file .entry))) (now (out .exit)) r ⌝ }
+    ensures { λ r. ⌜ r ≡ length (positionsOf (now (file .entry))) ⌝ }
+    ensures { λ r. ⌜ now (out .exit) ≡ positionsOf (now (file .entry)) ++ drop r (now (out .entry)) ⌝ }
     ensures { λ r. ⌜ r ≤ length (now (out .exit)) ⌝ }
 {
     let bytes: &mut [u8] = out;

@@ -1,6 +1,6 @@
 -- `positions::positions` meets its contract: the refusal of the file, or the lines of the requests that it holds. Assumes nothing.
 use mathlib.Core.Path.{_≡_, sym, ap, _∙_, subst}
-use mathlib.Core.List.{List}
+use mathlib.Core.List.{List, _++_}
 use Prim.Native.Nat.{ℕ, _-_, _≤_}
 use native.Mathlib.Omega.{arith}
 use lib.ListN.{length, take, drop}
@@ -12,17 +12,22 @@ use Rattle.practice.specs.Requests.{requestsOf}
 use Rattle.practice.proofs.Meaning.{Held, held}
 use Rattle.field.specs.Airspace.{emptyField}
 use Rattle.text.specs.Buffer.{Put}
+use Rattle.text.proofs.Texts.{put-whole}
 use Rattle.playing.specs.Playing.{legsInMiles}
 use Rattle.playing.proofs.PlayedFiles.{legsHeld, requestsInside, practice-holds, practice-refused}
 use Rattle.session.specs.Report.{refusedReport}
-use Rattle.positions.specs.Positions.{linesFrom, practicePositions, positionsOf}
+use Rattle.positions.specs.Positions.{linesFrom, practicePositions, positionsOf, positionsRoom, AreBytes}
 use Rattle.positions.proofs.Fields.{ends-within}
+use Rattle.positions.proofs.LineSizes.{positions-fit}
 use Rattle.positions.proofs.positions.Statement.{statement}
 use Rattle.positions.proofs.positions.Tie as tie
 
--- what is put is the report, where these are the same bytes; and it ends within the buffer
-ends : {before after bytes report : List ℕ} {n : ℕ} → Put before 0 bytes after n → bytes ≡ report → Put before 0 report after n × (n ≤ length after)
-ends {before} {after} {n = n} p e = (subst (λ (b : List ℕ). Put before 0 b after n) e p, ends-within p)
+-- what is put is the report, where these are the same bytes, and it fits the buffer
+ends : {before after bytes report : List ℕ} {n : ℕ} → Put before 0 bytes after n → bytes ≡ report → length before ≡ positionsRoom → length report ≤ positionsRoom
+    → (n ≡ length report) × ((after ≡ report ++ drop n before) × (n ≤ length after))
+ends {before} {after} {n = n} p e l h =
+    let w = put-whole positionsRoom (subst (λ (b : List ℕ). Put before 0 b after n) e p) l h in
+    (w .0, (w .1 .0, ends-within p))
 
 -- the report of a file that is refused, and of one that holds a session
 report-refused : (file : List ℕ) → (fileNumber file ≡ 0 → ⊥) → refusedReport (fileNumber file) ≡ positionsOf file
@@ -35,6 +40,13 @@ report-held file h = sym (ap practicePositions (practice-holds file h))
 
 abbrev file-of : tie.After-file-number → List ℕ
 file-of c = now (c .before .before .before .args .file)
+
+-- the buffer's length, and that the file's are bytes
+room-known : (c : tie.After-file-number) → length (now (c .before .before .before .args .out)) ≡ positionsRoom
+room-known c = c .before .bytes .given .0 .1
+
+bytes-known : (c : tie.After-file-number) → AreBytes (file-of c)
+bytes-known c i = omega (arith, c .before .before .shared-slice-known .given i)
 
 accepted : (c : tie.Else1) → fileNumber (file-of (c .before)) ≡ 0
 accepted c = sym (c .before .file-number .ensures) ∙ c .if1 .left
@@ -58,7 +70,7 @@ returns c =
     let k = c .before in
     let n = k .before .file-number .ensures in
     let file = file-of (k .before) in
-    ends (c .put-refused .ensures) (ap refusedReport n ∙ report-refused file (λ e. k .if1 .taken (n ∙ e)))
+    ends (c .put-refused .ensures) (ap refusedReport n ∙ report-refused file (λ e. k .if1 .taken (n ∙ e))) (room-known (k .before)) (positions-fit file (bytes-known (k .before)))
 
 sub-put-body : tie.Need-sub-put-body
 sub-put-body c = holding c .long
@@ -88,7 +100,7 @@ returns-2 c =
     let file = file-of (k .before) in
     let legs = l .legs-in-miles .ensures ∙ ap legsInMiles (l .before .file-legs .ensures ∙ holding k .legs-read) in
     let rs = requests-read file in
-    ends (c .put-body .ensures) ((λ i. linesFrom 1 (emptyField (legs i)) (rs i)) ∙ report-held file (accepted k))
+    ends (c .put-body .ensures) ((λ i. linesFrom 1 (emptyField (legs i)) (rs i)) ∙ report-held file (accepted k)) (room-known (k .before)) (positions-fit file (bytes-known (k .before)))
 
 pub positions-spec : {M : Type 1} → statement M
 positions-spec =

@@ -21,10 +21,10 @@ positions-requires : tie.Need-positions-requires
 positions-requires c κs = search needs
 
 array-share-prefix-out : tie.Need-array-share-prefix-out
-array-share-prefix-out c = c .positions .ensures .1
+array-share-prefix-out c = c .positions .ensures .1 .1
 
 slice-aggregate-write-all : tie.Need-slice-aggregate-write-all
-slice-aggregate-write-all c = let p = c .before .positions in sym (length-take-le (p .result) (p .last .1 .0) (p .ensures .1))
+slice-aggregate-write-all c = let p = c .before .positions in sym (length-take-le (p .result) (p .last .1 .0) (p .ensures .1 .1))
 
 write-all-requires : tie.Need-write-all-requires
 write-all-requires c κs = search needs
