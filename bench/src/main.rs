@@ -1,4 +1,4 @@
-//! The proved library and the reference, or two libraries, measured on one practice file.
+//! The proved library and the reference, plain C, or two libraries, measured on one practice file.
 //!
 //!   bench requests FILE                how many requests it has
 //!   bench presses FILE                 how many requests the button plays after it
@@ -6,21 +6,26 @@
 //!   bench count PROGRAM FILE N         plays the file N times, to be counted
 //!   bench same LIBRARY LIBRARY FILE    whether both write the same report
 //!   bench typical                      prints the typical session in readable form
+//!   bench plain SEED COUNT FILE...     tests plain C by these files and COUNT drawn ones of each kind
 //!
-//! A PROGRAM is library, library-judged, library-button, library-host, reference, reference-unjudged, reference-button, reference-host or a
-//! LIBRARY: the path of a shared one, NAME.so. Of those of a host each request is a call on a state with eight kept fields.
+//! A PROGRAM is library, library-judged, library-button, library-host, reference, reference-unjudged, reference-button, reference-host,
+//! plain, plain-button or a LIBRARY: the path of a shared one, NAME.so. Of those of a host each request is a call on a state with eight
+//! kept fields.
 
 mod loaded;
+mod plain;
 
 use comparison::dice::Dice;
 use comparison::host_library::{by_reference as asked_of_reference, call_on, Call, Reply};
 use comparison::library::{button_into, judged_report_into, report_into, ROOM};
 use comparison::sessions::typical;
 use loaded::loaded;
+use plain::{plain_button_into, plain_report_into};
 use reference::history::KEPT;
 use reference::state::{Bytes, STATE};
 use reference::{PracticeFile, Request};
 use std::hint::black_box;
+use std::process::ExitCode;
 use std::time::{Duration, Instant};
 use std::{env, fs};
 
@@ -43,12 +48,14 @@ fn program(name: &str) -> Program {
         "reference" => by_reference(reference::report),
         "reference-button" => by_reference(reference::button),
         "reference-unjudged" => by_reference(reference::report_unjudged),
+        "plain" => by_library(plain_report_into),
+        "plain-button" => by_library(plain_button_into),
         _ if name.ends_with(".so") => by_library(loaded(name)),
         _ => panic!("no program: {name}"),
     }
 }
 
-/// The library's buffer is lent as the play before left it.
+/// The buffer is lent as the play before left it.
 fn by_library<const N: usize>(play: impl Fn(&[u8], &mut [u8; N]) -> usize + 'static) -> Program {
     let mut out = Box::new([0; N]);
     Box::new(move |file| play(black_box(file), black_box(&mut out)))
@@ -133,7 +140,7 @@ fn presses(file: &[u8]) -> usize {
     number.parse().expect("a number")
 }
 
-fn main() {
+fn main() -> ExitCode {
     let words: Vec<String> = env::args().skip(1).collect();
     let words: Vec<&str> = words.iter().map(String::as_str).collect();
     let read = |path: &str| fs::read(path).expect("a practice file");
@@ -156,7 +163,29 @@ fn main() {
             println!("{}", if same { "the same report" } else { "different reports" });
         }
         ["typical"] => print_typical(),
+        ["plain", seed, count, ref paths @ ..] => {
+            let files: Vec<Vec<u8>> = paths.iter().copied().map(read).collect();
+            return tested(plain::test(
+                seed.parse().expect("a seed"),
+                count.parse().expect("how many"),
+                &files,
+            ));
+        }
         _ => panic!("see the head of src/main.rs"),
+    }
+    ExitCode::SUCCESS
+}
+
+fn tested(outcome: Result<String, String>) -> ExitCode {
+    match outcome {
+        Ok(compared) => {
+            println!("plain C: {compared}: every report the same");
+            ExitCode::SUCCESS
+        }
+        Err(fault) => {
+            println!("{fault}\nplain C: FAILED");
+            ExitCode::FAILURE
+        }
     }
 }
 
