@@ -14,6 +14,7 @@
 
 mod loaded;
 mod plain;
+mod processor;
 
 use comparison::dice::Dice;
 use comparison::host_library::{by_reference as asked_of_reference, call_on, Call, Reply};
@@ -21,12 +22,13 @@ use comparison::library::{button_into, judged_report_into, report_into, ROOM};
 use comparison::sessions::typical;
 use loaded::loaded;
 use plain::{plain_button_into, plain_report_into};
+use processor::used;
 use reference::history::KEPT;
 use reference::state::{Bytes, STATE};
 use reference::{PracticeFile, Request};
 use std::hint::black_box;
 use std::process::ExitCode;
-use std::time::{Duration, Instant};
+use std::time::Duration;
 use std::{env, fs};
 
 const ROUNDS: usize = 21;
@@ -95,13 +97,13 @@ fn report(library: &str, file: &[u8]) -> Vec<u8> {
     out[..length].to_vec()
 }
 
-/// Seconds that one play takes, over so many.
+/// Seconds of the processor that one play takes, over so many.
 fn seconds(plays: usize, mut play: impl FnMut() -> usize) -> f64 {
-    let start = Instant::now();
+    let start = used();
     for _ in 0..plays {
         black_box(play());
     }
-    start.elapsed().as_secs_f64() / plays as f64
+    (used() - start).as_secs_f64() / plays as f64
 }
 
 /// How many plays fill a round.
@@ -125,7 +127,7 @@ fn time(mut first: Program, mut second: Program, file: &[u8], number: f64) {
         by_second.push(number / seconds(second_plays, || second(file)));
         ratio.push(by_first[by_first.len() - 1] / by_second[by_second.len() - 1]);
     }
-    println!("{:.0} {:.0} {:.2}", median(by_first), median(by_second), median(ratio));
+    println!("{:.0} {:.0} {}", median(by_first), median(by_second), median(ratio));
 }
 
 /// How many requests a practice file has.

@@ -31,12 +31,28 @@ const A_DAMAGED: usize = 64;
 const A_PRESSED: usize = 4;
 const AN_EDGE: usize = 50;
 
+/// Of a longer file no requests are left out to show how it differs: that would take minutes.
+const SHORTENED: usize = 34 + 6 * 512;
+
 fn same_report(library: &mut Library, file: &[u8]) -> Result<Vec<u8>, String> {
     same(library, &REPORTS, file, reference::report(file))
 }
 
 fn same_button(library: &mut Library, file: &[u8]) -> Result<Vec<u8>, String> {
     same(library, &BUTTONS, file, reference::button(file))
+}
+
+/// How the programs differ on a file.
+fn difference(
+    library: &mut Library,
+    same: fn(&mut Library, &[u8]) -> Result<Vec<u8>, String>,
+    file: &[u8],
+) -> String {
+    if file.len() <= SHORTENED {
+        readable(library, same, file)
+    } else {
+        same(library, file).err().unwrap_or_default()
+    }
 }
 
 #[derive(Default)]
@@ -55,7 +71,7 @@ impl Test {
         for file in files {
             self.played += 1;
             let Ok(report) = same_report(&mut self.library, &file) else {
-                let how = readable(&mut self.library, same_report, &file);
+                let how = difference(&mut self.library, same_report, &file);
                 return Err(format!("{what}, file {}: {how}", self.played - before));
             };
             self.table.count(&file, &report);
@@ -70,7 +86,7 @@ impl Test {
         for file in files {
             self.pressed += 1;
             let Ok(report) = same_button(&mut self.library, &file) else {
-                let how = readable(&mut self.library, same_button, &file);
+                let how = difference(&mut self.library, same_button, &file);
                 return Err(format!("the button after {what}, file {}: {how}", self.pressed - before));
             };
             self.presses.count(&report);
