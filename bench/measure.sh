@@ -1,5 +1,5 @@
 # What bench/run and bench/against share, to be sourced from the root: what they need and build, and how two programs are measured on a
-# file. $made is a folder that is removed at the end, $bench the measuring program, $longest, $typical and $button three practice files.
+# file. $made is a folder that is removed at the end, $bench the measuring program; the practice files are those of bench/files.sh.
 set -e -o pipefail
 
 # Ends the script where one of these is not installed.
@@ -10,7 +10,7 @@ needs() {
     done
 }
 
-needs rt cargo python3 valgrind
+needs rt cargo cc ar python3 valgrind taskset
 made=$(mktemp -d)
 trap 'rm -rf "$made"' EXIT
 
@@ -29,11 +29,10 @@ staticlib . host
 staticlib . calls_report
 cargo build --quiet --release --offline --locked --manifest-path bench/Cargo.toml
 bench=bench/target/release/bench
-longest=crates/cases/data/longest.scap
-typical=$made/typical.scap
-bin/baguymo lesson bench/typical.txt -o "$typical"
-button=$made/button.scap
-bin/baguymo lesson bench/button.txt -o "$button"
+source bench/files.sh
+
+# One processor for both of two programs: the last that this script may use.
+core=$(taskset -cp $$ | grep -oE '[0-9]+$')
 
 # Instructions of so many plays of a file by one program, starting and reading included.
 instructions() {
@@ -67,8 +66,9 @@ take() {
 # The line of two programs on the file in hand, each after what it is called: beside NOTE NAME PROGRAM NAME PROGRAM
 beside() {
     local first second ratio fewer
-    read -r first second ratio < <("$bench" time "$3" "$5" "$file" "$number")
-    fewer=$(awk "BEGIN { printf \"%.2f\", ${counted[$5]} / ${counted[$3]} }")
+    read -r first second ratio < <(taskset -c "$core" "$bench" time "$3" "$5" "$file" "$number")
+    ratio=$(awk "BEGIN { printf \"%.3g\", $ratio }")
+    fewer=$(awk "BEGIN { printf \"%.3g\", ${counted[$5]} / ${counted[$3]} }")
     echo "$(basename "$file" .scap), $number ${plural[$each]}$1:" \
         "$2 $first a second, $4 $second, ratio $ratio;" \
         "instructions a $each: $2 ${counted[$3]}, $4 ${counted[$5]}, ratio $fewer"

@@ -1,4 +1,4 @@
-//! The proved library and the reference, or two libraries, measured on one practice file.
+//! The proved library and the reference, plain C, or two libraries, measured on one practice file.
 //!
 //!   bench requests FILE                how many requests it has
 //!   bench presses FILE                 how many requests the button plays after it
@@ -6,12 +6,15 @@
 //!   bench count PROGRAM FILE N         plays the file N times, to be counted
 //!   bench same LIBRARY LIBRARY FILE    whether both write the same report
 //!   bench typical                      prints the typical session in readable form
+//!   bench plain SEED COUNT FILE...     tests plain C by these files and COUNT drawn ones of each kind
 //!
 //! A PROGRAM is library, library-judged, library-button, library-host, library-spent, reference, reference-unjudged, reference-button,
-//! reference-host, reference-spent or a LIBRARY: the path of a shared one, NAME.so. Of those of a host each request is a call on a state with
-//! eight kept fields; those that are spent press the button 1000 times where nobody can move, whatever the file is.
+//! reference-host, reference-spent, plain, plain-button or a LIBRARY: the path of a shared one, NAME.so. Of those of a host each request is a
+//! call on a state with eight kept fields; those that are spent press the button 1000 times where nobody can move, whatever the file is.
 
 mod loaded;
+mod plain;
+mod processor;
 
 use comparison::dice::Dice;
 use comparison::host_calls::stuck;
@@ -19,11 +22,14 @@ use comparison::host_library::{by_reference as asked_of_reference, call_on, Call
 use comparison::library::{button_into, judged_report_into, report_into, ROOM};
 use comparison::sessions::typical;
 use loaded::loaded;
+use plain::{plain_button_into, plain_report_into};
+use processor::used;
 use reference::history::KEPT;
 use reference::state::{Bytes, STATE};
 use reference::{PracticeFile, Request};
 use std::hint::black_box;
-use std::time::{Duration, Instant};
+use std::process::ExitCode;
+use std::time::Duration;
 use std::{env, fs};
 
 const ROUNDS: usize = 21;
@@ -49,12 +55,14 @@ fn program(name: &str) -> Program {
         "reference" => by_reference(reference::report),
         "reference-button" => by_reference(reference::button),
         "reference-unjudged" => by_reference(reference::report_unjudged),
+        "plain" => by_library(plain_report_into),
+        "plain-button" => by_library(plain_button_into),
         _ if name.ends_with(".so") => by_library(loaded(name)),
         _ => panic!("no program: {name}"),
     }
 }
 
-/// The library's buffer is lent as the play before left it.
+/// The buffer is lent as the play before left it.
 fn by_library<const N: usize>(play: impl Fn(&[u8], &mut [u8; N]) -> usize + 'static) -> Program {
     let mut out = Box::new([0; N]);
     Box::new(move |file| play(black_box(file), black_box(&mut out)))
@@ -105,13 +113,13 @@ fn report(library: &str, file: &[u8]) -> Vec<u8> {
     out[..length].to_vec()
 }
 
-/// Seconds that one play takes, over so many.
+/// Seconds of the processor that one play takes, over so many.
 fn seconds(plays: usize, mut play: impl FnMut() -> usize) -> f64 {
-    let start = Instant::now();
+    let start = used();
     for _ in 0..plays {
         black_box(play());
     }
-    start.elapsed().as_secs_f64() / plays as f64
+    (used() - start).as_secs_f64() / plays as f64
 }
 
 /// How many plays fill a round.
@@ -135,7 +143,7 @@ fn time(mut first: Program, mut second: Program, file: &[u8], number: f64) {
         by_second.push(number / seconds(second_plays, || second(file)));
         ratio.push(by_first[by_first.len() - 1] / by_second[by_second.len() - 1]);
     }
-    println!("{:.0} {:.0} {:.2}", median(by_first), median(by_second), median(ratio));
+    println!("{:.0} {:.0} {}", median(by_first), median(by_second), median(ratio));
 }
 
 /// How many requests a practice file has.
@@ -150,7 +158,7 @@ fn presses(file: &[u8]) -> usize {
     number.parse().expect("a number")
 }
 
-fn main() {
+fn main() -> ExitCode {
     let words: Vec<String> = env::args().skip(1).collect();
     let words: Vec<&str> = words.iter().map(String::as_str).collect();
     let read = |path: &str| fs::read(path).expect("a practice file");
@@ -173,7 +181,29 @@ fn main() {
             println!("{}", if same { "the same report" } else { "different reports" });
         }
         ["typical"] => print_typical(),
+        ["plain", seed, count, ref paths @ ..] => {
+            let files: Vec<Vec<u8>> = paths.iter().copied().map(read).collect();
+            return tested(plain::test(
+                seed.parse().expect("a seed"),
+                count.parse().expect("how many"),
+                &files,
+            ));
+        }
         _ => panic!("see the head of src/main.rs"),
+    }
+    ExitCode::SUCCESS
+}
+
+fn tested(outcome: Result<String, String>) -> ExitCode {
+    match outcome {
+        Ok(compared) => {
+            println!("plain C: {compared}: every report the same");
+            ExitCode::SUCCESS
+        }
+        Err(fault) => {
+            println!("{fault}\nplain C: FAILED");
+            ExitCode::FAILURE
+        }
     }
 }
 

@@ -75,7 +75,8 @@ pub fn same_writing(library: &mut Library, lesson: &Lesson) -> Result<u16, Strin
     Ok(answered.0)
 }
 
-fn same<const N: usize>(
+/// What the reference gives of an input, where each of these programs gives the same bytes, or how one differs.
+pub fn same<const N: usize>(
     library: &mut Library,
     players: &[(&str, impl Fn(&[u8], &mut [u8; N]) -> usize)],
     input: &[u8],
