@@ -97,5 +97,5 @@ pub record NothingRounded : Type 0 where
   pub legs : (w : WholeLegs) → ExactLegs w
   pub requests : (w : WholeLegs) (f : Field) → T (emptyStart f) → f .legs ≡ inMiles w → (rs : List Request) → NothingRoundedOn (fieldAfter f rs)
   pub calls :
-    (w : WholeLegs) (start : History) → T (historyAtStart start) → start .now .field .legs ≡ inMiles w
-    → (cs : List Call) → NothingRoundedOn (afterCalls start cs .now .field)
+      (w : WholeLegs) (start : History) → T (historyAtStart start) → start .now .field .legs ≡ inMiles w
+      → (cs : List Call) → NothingRoundedOn (afterCalls start cs .now .field)
