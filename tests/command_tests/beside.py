@@ -9,7 +9,7 @@ import signal
 import subprocess
 import time
 
-from tried import COMMAND, ROOT, practice_file, run, without_rt, wrong
+from tried import CASES, COMMAND, ROOT, practice_file, run, without_rt, wrong
 from use import samples
 
 MAIN = "// Writes a line.\nuse libc::STDOUT_FILENO;\n\nfn main() {\n    io::write_all(STDOUT_FILENO, b\"%s\\n\");\n}\n"
@@ -164,8 +164,27 @@ def progress(folder):
     yield "the line of progress", None if lines == expected and done.returncode == 0 else f"{done.returncode}, {shown!r}"
 
 
+def processor_time(words, folder):
+    """The least time of the processor that a command takes in ten runs, its program included, in ms."""
+    least = 1e9
+    for _ in range(10):
+        child = subprocess.Popen([str(word) for word in words], cwd=folder, stdin=subprocess.DEVNULL, stdout=subprocess.DEVNULL)
+        used = os.wait4(child.pid, 0)[2]
+        child.returncode = 0
+        least = min(least, 1000 * (used.ru_utime + used.ru_stime))
+    return least
+
+
 def built_ones(folder):
-    """Ten commands of all verbs at a time, in the repository itself."""
+    """Built commands in the repository itself: their time, ten of all verbs at a time, and ten that write to one file."""
+    for words in (["play", CASES / "worked.scap"], ["debrief", CASES / "worked.txt"]):
+        took = processor_time([COMMAND, *words], folder)
+        yield f"{words[0]} takes under 50 ms", None if took < 50 else f"{took:.1f} ms"
+    with concurrent.futures.ThreadPoolExecutor(10) as pool:
+        results = [pool.submit(run, [COMMAND, "play", CASES / "worked.scap", "-o", "one"], folder) for _ in range(10)]
+    yield "ten that write to one file", next((wrong(result.result(), 0) for result in results if wrong(result.result(), 0)), None)
+    right = (folder / "one").read_bytes() == (CASES / "worked.expected").read_bytes() and os.listdir(folder) == ["one"]
+    yield "and what they leave", None if right else repr(os.listdir(folder))
     given = [(words, text, report) for words, text, _, report in samples()][:10]
     for number in range(3):
         with concurrent.futures.ThreadPoolExecutor(10) as pool:

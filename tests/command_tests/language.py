@@ -2,12 +2,10 @@
 import random
 import re
 import struct
-import sys
 
 from tried import CASES, COMMAND, ROOT, calls, case, numbers, practice_file, run, wrong
 
-sys.path.insert(0, str(ROOT / "tools"))
-from baguymo import formats, lesson, words
+from baguymo import formats, lesson
 from baguymo.errors import Failure
 
 LEGS = b"legs base 1, intermediate 1, final 1, missed 2 miles\n"
@@ -168,6 +166,46 @@ def encodings(folder):
         said = rb"baguymo: standard input: line 2: found a desk or a step back; `%s` takes [^\n]+\n" % words[0].encode()
         yield case(f"a step back, {words[0]}", [COMMAND, *words], folder, 1, b"", said, input=LEGS + b"back\n")
     yield case("--plain of a leg of 0", [COMMAND, "play", "--plain"], folder, 1, b"file 7\n", input=b"0 64 64 64\n")
+
+
+# A classroom list as text, and the report, or a part of what is said of it.
+LISTS = {
+    "": b"next 1\n",
+    "# nobody\n": b"next 1\n",
+    "nobody is on the field": b"next 1\n",
+    "7 3 1 1\n8 2 2 2\n": b"next 1\n7 3 1 1\n8 2 2 2\n",
+    "\ufeffLegs base 1, intermediate 1, final 1, missed 2 miles\r\nSpeed 90 knots\r\n7 in 2000 right, place 1, fix right # ü\r\n": b"next 2\n7 3 1 1\n",
+    "next 2\n7 3 1 1": b"next 2\n7 3 1 1\n",
+    "next fix left\n7 3 1 1": b"next 2\n7 3 1 1\n",
+    "next 1\n7 3 1 1": "the next fix of this list is left, and the text says right",
+    "7 3 1": 'line 1: found "7 3 1"; there could stand an entry, as `7 in 2000 right',
+    "7 3 1 1\n8 in 4000 left, place 2, fix left": 'line 2: found "8 in 4000 left, place 2, fix left"; there could stand an entry',
+    "7 3 1 65536": 'line 1: found "65536"; there could stand a fix, 0 to 65535',
+    "7 3 1 1\nspeed 60 knots": 'line 2: found "speed 60 knots"; there could stand an entry',
+    "speed 61 knots": 'line 1: found "61 knots"; there could stand a speed in whole 64ths of a mile a minute',
+    "next 3": 'line 1: found "3"; there could stand the next fix',
+    "legs base 1 mile": "the length of intermediate, final and missed too",
+    "7 on the runway, place 0, fix right": "refused 29: the list has over five entries",
+    "7 3 1 1\n8 3 2 2": "refused 25: the field of this list would break a bound",
+}
+
+
+def lists(folder):
+    """Classroom lists as text, and what `list` prints, which `field` takes."""
+    for text, expected in LISTS.items():
+        if isinstance(expected, bytes):
+            yield case(f"the list {text!r}", [COMMAND, "classroom", "field"], folder, 0, expected, input=text.encode())
+        else:
+            said = rb"baguymo: standard input: [^\n]*" + re.escape(expected).encode() + rb"[^\n]*\n"
+            yield case(f"the list {text!r}", [COMMAND, "classroom", "field"], folder, 1, b"", said, input=text.encode())
+    for name in ("holdings", "empty"):
+        path = ROOT / f"crates/classroom/data/{name}.txt" if name == "holdings" else folder / "empty.txt"
+        if name == "empty":
+            path.write_text("64 64 64 64\n")
+        listed = run([COMMAND, "classroom", "list", path], folder)[1]
+        for words in ([], ["--words"]):
+            called = f'"{COMMAND}" classroom list {" ".join(words)} "{path}" | "{COMMAND}" classroom field | tail -n +2'
+            yield case(f"the list of {name} as a field {words}", ["sh", "-c", called], folder, 0, listed)
 
 
 def stored(folder):

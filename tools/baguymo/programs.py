@@ -48,15 +48,16 @@ class Folder:
 
     def look(self, path):
         """Adds what stands in a folder, in order of name."""
-        self.newest = max(self.newest, os.stat(path).st_mtime_ns)
+        newest, start = os.stat(path).st_mtime_ns, len(ROOT)
         for entry in sorted(os.scandir(path), key=lambda entry: entry.name):
             if entry.is_dir():
                 self.look(entry.path)
                 continue
-            stat = entry.stat()
-            self.files.append(entry.path)
-            self.lines.append(f"{entry.path[len(ROOT):]} {stat.st_size} {stat.st_mtime_ns}")
-            self.newest = max(self.newest, stat.st_mtime_ns)
+            stat, below = entry.stat(), entry.path
+            self.files.append(below)
+            self.lines.append(f"{below[start:]} {stat.st_size} {stat.st_mtime_ns}")
+            newest = max(newest, stat.st_mtime_ns)
+        self.newest = max(self.newest, newest)
 
 
 class Source:
