@@ -78,7 +78,8 @@ NOT_UNDERSTOOD = {
     "tick 1/3 minutes": ('"1/3 minutes"', "0.328125 minutes and 0.34375 minutes"),
     "tick 1/0 minutes": ('"1/0"', "not 0"),
     "tick 0.00000000000000000000000000000001 minutes": ('"0.00000000000000000000000000000001"', "30 characters"),
-    "tick " + "9" * 5000 + " minutes": ('" and 4940 characters more', "30 characters"),
+    "tick " + "9" * 500 + " minutes": ('" and 440 characters more', "30 characters"),
+    "tick 1 minute" + "," * 100000: ('" and 99953 characters more', "a line of at most 1000 characters"),
     "1 1 7": ('"1 1 7"', "the four numbers"),
     "1 1 7 64 0": ('"1 1 7 64 0"', "the four numbers"),
     "256 1 7 64": ('"256"', "a kind, 0 to 255"),
@@ -133,8 +134,10 @@ def understood():
             said = message(before + line.encode() + b"\n") or ""
             right = said.startswith(f"x.txt: line {at}: found ") and found.replace("\\\\", "\\") in said and could in said.partition("there could stand")[2]
             yield f"{line[:80]!r} is not understood", None if right else f"it says {said!r}"
-    said = message(LEGS + b"\n".join(b"what" for _ in range(30))) or ""
-    yield "ten lines at the most", None if said.count("\n") == 10 and said.endswith("and 20 more lines are not understood") else said
+    for count, more, last in ((30, 20, 31), (1000000, 90, 101)):
+        said = message(LEGS + b"what\n" * count) or ""
+        right = said.count("\n") == 10 and said.endswith(f"x.txt: and {more} more lines up to line {last} are not understood")
+        yield f"ten of {count} lines", None if right else said[-200:]
 
 
 def encodings(folder):
@@ -148,11 +151,11 @@ def encodings(folder):
         yield case(name, [COMMAND, "lesson"], folder, 0, data, input=text)
     utf16 = rb"baguymo: standard input: line 1: found UTF-16; [^\n]+ UTF-8[^\n]+\n"
     for code in ("utf-16", "utf-16-le", "utf-16-be"):
-        yield case(code, [COMMAND, "play"], folder, 1, b"", utf16, input=b"\n".join(lines).decode().encode(code))
+        for words in (["play"], ["debrief"], ["lesson"], ["desks"], ["week"]):
+            yield case(f"{code}, {words[0]}", [COMMAND, *words], folder, 1, b"", utf16, input=b"\n".join(lines).decode().encode(code))
     yield case("another code", [COMMAND, "lesson"], folder, 1, b"", rb"[^\n]+ line 2: found [^\n]+ not UTF-8[^\n]+\n", input=LEGS + b"7 l\xe4nd\n")
     yield case("a zero", [COMMAND, "lesson"], folder, 1, b"", rb'[^\n]+ line 2: found "7 la\\x00nd"; [^\n]+\n', input=LEGS + b"7 la\0nd\n")
     yield case("numbers that look like legs", [COMMAND, "desks"], folder, 0, b"end 0 0\n", input=b"1\t2\t3\t4\n")
-    legs = b"1\t2\t3\t4\n" + bytes(7)
     legs = struct.pack("<4H", 0x0931, 0x0932, 0x0933, 0x0934)
     yield case("legs that look like numbers", [COMMAND, "desks"], folder, 0, b"0 0 0 0 0 0 0\nend 0 1\n", input=legs + struct.pack("<BBBBHH", 0, 1, 12, 0, 0, 64))
     note = rb"baguymo: standard input: line 2: breaks an input rule, and is written as it stands: it will be refused 2, [^\n]+\n"
