@@ -160,7 +160,7 @@ def progress(folder):
         pass  # the end of a terminal whose other side is closed
     os.close(ours)
     lines = [line for line in re.split(rb"[\r\n]|\x1b\[K", shown) if line]
-    expected = [b"baguymo: play: proved and built first, which takes some minutes", b"proving 1 of 2: first", b"proving 2 of 2: play"]
+    expected = [b"baguymo: play: proved and built first, which can take some minutes", b"proving 1 of 2: first", b"proving 2 of 2: play"]
     yield "the line of progress", None if lines == expected and done.returncode == 0 else f"{done.returncode}, {shown!r}"
 
 

@@ -71,7 +71,7 @@ def proved(names, lock):
     if shutil.which("rt") is None:
         raise Failure(f"{', '.join(names)}: has to be proved and built first, and `rt`, the Rattle toolchain, is not on the path")
     plan = plan_of({crate: needs for name in names for crate, needs in programs.made_of(name).items()})
-    say(f"{', '.join(names)}: proved and built first, which takes some minutes")
+    say(f"{', '.join(names)}: proved and built first, which can take some minutes")
     progress = Progress(plan)
     progress.show()
     with open(LOG, "wb") as log, open(LOG, encoding="utf-8", errors="backslashreplace") as said:
