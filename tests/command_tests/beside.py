@@ -9,15 +9,15 @@ import signal
 import subprocess
 import time
 
-from tried import COMMAND, ROOT, practice_file, run, without_rt, wrong
+from tried import CASES, COMMAND, ROOT, practice_file, run, without_rt, wrong
 from use import samples
 
 MAIN = "// Writes a line.\nuse libc::STDOUT_FILENO;\n\nfn main() {\n    io::write_all(STDOUT_FILENO, b\"%s\\n\");\n}\n"
 FILE = practice_file([[64] * 4])
-# An `rt` that notes when it begins and ends, and builds a program whose line the source has; its time is enough for others to come.
+# An `rt` that notes when it begins and ends, and builds a program whose line the source has; it goes on when it may.
 BUILDS = r"""#!/bin/sh
 echo begin >> "$NOTES"
-sleep 0.4
+while [ ! -e "$NOTES.go" ]; do sleep 0.05; done
 printf 'rt: first proved (1 s)\n'
 sleep 0.2
 mkdir -p target/bin target/stamp
@@ -45,6 +45,8 @@ class Sandbox:
         self.source("end 0 0 0 0 0")
         self.tools.mkdir()
         self.put_rt(rt)
+        self.go = folder / "notes.go"
+        self.go.touch()
         self.env = {**os.environ, "PATH": f"{self.tools}:{os.environ['PATH']}", "NOTES": str(self.notes)}
 
     def source(self, line):
@@ -86,8 +88,8 @@ def by_the_prover(folder):
     results = box.ten()
     yield "ten commands, nothing built", all_right(results, b"end 0 0 0 0 0")
     said = b"".join(result[2] for result in results)
-    right = said.count(b"proved and built first") == 1 and said.count(b"waits for it") == 9
-    yield "one builds, nine wait and say so", None if right else repr(said)
+    right = said.count(b"proved and built first") == 1 and said.count(b"waits for it") >= 1
+    yield "one builds, and who waits says so", None if right else repr(said)
     yield "it is built once", None if box.builds() == 1 else box.builds()
     (box.root / "target/stamp/play").unlink()
     build = subprocess.Popen([real, "check", "play"], cwd=box.root, stdout=subprocess.DEVNULL, stderr=subprocess.DEVNULL)
@@ -133,16 +135,22 @@ def when_to_build(folder):
 
 
 def killed(folder):
-    """A command that is killed while it builds: the next waits for its `rt`, and two never run at a time."""
+    """A command that is killed while it builds: the next waits for its `rt`, which goes on, and two never run at a time."""
     box = Sandbox(folder, "first:\nplay: first\n", BUILDS)
+    box.go.unlink()
     (folder / "file").write_bytes(FILE)
-    first = subprocess.Popen([box.root / "bin/baguymo", "play", folder / "file"], cwd=box.root, env=box.env, stderr=subprocess.DEVNULL)
+    words = [box.root / "bin/baguymo", "play", folder / "file"]
+    first = subprocess.Popen(words, cwd=box.root, env=box.env, stdout=subprocess.PIPE, stderr=subprocess.DEVNULL)
     until = time.monotonic() + 60
     while not box.notes.exists() and time.monotonic() < until:
         time.sleep(0.01)
     first.send_signal(signal.SIGKILL)
-    first.wait()
-    yield "after one that was killed", wrong(box.play(), 0, b"end 0 0 0 0 0\n", rb"baguymo: another command [^\n]+\n")
+    first.communicate()
+    second = subprocess.Popen(words, cwd=box.root, env=box.env, stdout=subprocess.PIPE, stderr=subprocess.PIPE)
+    said = second.stderr.readline()
+    box.go.touch()
+    output, messages = second.communicate(timeout=60)
+    yield "after one that was killed", wrong((second.returncode, output, said + messages), 0, b"end 0 0 0 0 0\n", rb"baguymo: another command [^\n]+ waits for it\n")
     yield "no two at a time", None if box.builds() == 1 else box.builds()
 
 
@@ -160,12 +168,31 @@ def progress(folder):
         pass  # the end of a terminal whose other side is closed
     os.close(ours)
     lines = [line for line in re.split(rb"[\r\n]|\x1b\[K", shown) if line]
-    expected = [b"baguymo: play: proved and built first, which takes some minutes", b"proving 1 of 2: first", b"proving 2 of 2: play"]
+    expected = [b"baguymo: play: proved and built first, which can take some minutes", b"proving 1 of 2: first", b"proving 2 of 2: play"]
     yield "the line of progress", None if lines == expected and done.returncode == 0 else f"{done.returncode}, {shown!r}"
 
 
+def processor_time(words, folder):
+    """The least time of the processor that a command takes in ten runs, its program included, in ms."""
+    least = 1e9
+    for _ in range(10):
+        child = subprocess.Popen([str(word) for word in words], cwd=folder, stdin=subprocess.DEVNULL, stdout=subprocess.DEVNULL)
+        used = os.wait4(child.pid, 0)[2]
+        child.returncode = 0
+        least = min(least, 1000 * (used.ru_utime + used.ru_stime))
+    return least
+
+
 def built_ones(folder):
-    """Ten commands of all verbs at a time, in the repository itself."""
+    """Built commands in the repository itself: their time, ten of all verbs at a time, and ten that write to one file."""
+    for words in (["play", CASES / "worked.scap"], ["debrief", CASES / "worked.txt"]):
+        took = processor_time([COMMAND, *words], folder)
+        yield f"{words[0]} takes under 50 ms", None if took < 50 else f"{took:.1f} ms"
+    with concurrent.futures.ThreadPoolExecutor(10) as pool:
+        results = [pool.submit(run, [COMMAND, "play", CASES / "worked.scap", "-o", "one"], folder) for _ in range(10)]
+    yield "ten that write to one file", next((wrong(result.result(), 0) for result in results if wrong(result.result(), 0)), None)
+    right = (folder / "one").read_bytes() == (CASES / "worked.expected").read_bytes() and os.listdir(folder) == ["one"]
+    yield "and what they leave", None if right else repr(os.listdir(folder))
     given = [(words, text, report) for words, text, _, report in samples()][:10]
     for number in range(3):
         with concurrent.futures.ThreadPoolExecutor(10) as pool:

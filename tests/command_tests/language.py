@@ -2,12 +2,10 @@
 import random
 import re
 import struct
-import sys
 
 from tried import CASES, COMMAND, ROOT, calls, case, numbers, practice_file, run, wrong
 
-sys.path.insert(0, str(ROOT / "tools"))
-from baguymo import formats, lesson, words
+from baguymo import formats, lesson
 from baguymo.errors import Failure
 
 LEGS = b"legs base 1, intermediate 1, final 1, missed 2 miles\n"
@@ -80,7 +78,8 @@ NOT_UNDERSTOOD = {
     "tick 1/3 minutes": ('"1/3 minutes"', "0.328125 minutes and 0.34375 minutes"),
     "tick 1/0 minutes": ('"1/0"', "not 0"),
     "tick 0.00000000000000000000000000000001 minutes": ('"0.00000000000000000000000000000001"', "30 characters"),
-    "tick " + "9" * 5000 + " minutes": ('" and 4940 characters more', "30 characters"),
+    "tick " + "9" * 500 + " minutes": ('" and 440 characters more', "30 characters"),
+    "tick 1 minute" + "," * 100000: ('" and 99953 characters more', "a line of at most 1000 characters"),
     "1 1 7": ('"1 1 7"', "the four numbers"),
     "1 1 7 64 0": ('"1 1 7 64 0"', "the four numbers"),
     "256 1 7 64": ('"256"', "a kind, 0 to 255"),
@@ -135,8 +134,10 @@ def understood():
             said = message(before + line.encode() + b"\n") or ""
             right = said.startswith(f"x.txt: line {at}: found ") and found.replace("\\\\", "\\") in said and could in said.partition("there could stand")[2]
             yield f"{line[:80]!r} is not understood", None if right else f"it says {said!r}"
-    said = message(LEGS + b"\n".join(b"what" for _ in range(30))) or ""
-    yield "ten lines at the most", None if said.count("\n") == 10 and said.endswith("and 20 more lines are not understood") else said
+    for count, more, last in ((30, 20, 31), (1000000, 90, 101)):
+        said = message(LEGS + b"what\n" * count) or ""
+        right = said.count("\n") == 10 and said.endswith(f"x.txt: and {more} more lines up to line {last} are not understood")
+        yield f"ten of {count} lines", None if right else said[-200:]
 
 
 def encodings(folder):
@@ -150,11 +151,11 @@ def encodings(folder):
         yield case(name, [COMMAND, "lesson"], folder, 0, data, input=text)
     utf16 = rb"baguymo: standard input: line 1: found UTF-16; [^\n]+ UTF-8[^\n]+\n"
     for code in ("utf-16", "utf-16-le", "utf-16-be"):
-        yield case(code, [COMMAND, "play"], folder, 1, b"", utf16, input=b"\n".join(lines).decode().encode(code))
+        for words in (["play"], ["debrief"], ["lesson"], ["desks"], ["week"]):
+            yield case(f"{code}, {words[0]}", [COMMAND, *words], folder, 1, b"", utf16, input=b"\n".join(lines).decode().encode(code))
     yield case("another code", [COMMAND, "lesson"], folder, 1, b"", rb"[^\n]+ line 2: found [^\n]+ not UTF-8[^\n]+\n", input=LEGS + b"7 l\xe4nd\n")
     yield case("a zero", [COMMAND, "lesson"], folder, 1, b"", rb'[^\n]+ line 2: found "7 la\\x00nd"; [^\n]+\n', input=LEGS + b"7 la\0nd\n")
     yield case("numbers that look like legs", [COMMAND, "desks"], folder, 0, b"end 0 0\n", input=b"1\t2\t3\t4\n")
-    legs = b"1\t2\t3\t4\n" + bytes(7)
     legs = struct.pack("<4H", 0x0931, 0x0932, 0x0933, 0x0934)
     yield case("legs that look like numbers", [COMMAND, "desks"], folder, 0, b"0 0 0 0 0 0 0\nend 0 1\n", input=legs + struct.pack("<BBBBHH", 0, 1, 12, 0, 0, 64))
     note = rb"baguymo: standard input: line 2: breaks an input rule, and is written as it stands: it will be refused 2, [^\n]+\n"
@@ -168,6 +169,46 @@ def encodings(folder):
         said = rb"baguymo: standard input: line 2: found a desk or a step back; `%s` takes [^\n]+\n" % words[0].encode()
         yield case(f"a step back, {words[0]}", [COMMAND, *words], folder, 1, b"", said, input=LEGS + b"back\n")
     yield case("--plain of a leg of 0", [COMMAND, "play", "--plain"], folder, 1, b"file 7\n", input=b"0 64 64 64\n")
+
+
+# A classroom list as text, and the report, or a part of what is said of it.
+LISTS = {
+    "": b"next 1\n",
+    "# nobody\n": b"next 1\n",
+    "nobody is on the field": b"next 1\n",
+    "7 3 1 1\n8 2 2 2\n": b"next 1\n7 3 1 1\n8 2 2 2\n",
+    "\ufeffLegs base 1, intermediate 1, final 1, missed 2 miles\r\nSpeed 90 knots\r\n7 in 2000 right, place 1, fix right # ü\r\n": b"next 2\n7 3 1 1\n",
+    "next 2\n7 3 1 1": b"next 2\n7 3 1 1\n",
+    "next fix left\n7 3 1 1": b"next 2\n7 3 1 1\n",
+    "next 1\n7 3 1 1": "the next fix of this list is left, and the text says right",
+    "7 3 1": 'line 1: found "7 3 1"; there could stand an entry, as `7 in 2000 right',
+    "7 3 1 1\n8 in 4000 left, place 2, fix left": 'line 2: found "8 in 4000 left, place 2, fix left"; there could stand an entry',
+    "7 3 1 65536": 'line 1: found "65536"; there could stand a fix, 0 to 65535',
+    "7 3 1 1\nspeed 60 knots": 'line 2: found "speed 60 knots"; there could stand an entry',
+    "speed 61 knots": 'line 1: found "61 knots"; there could stand a speed in whole 64ths of a mile a minute',
+    "next 3": 'line 1: found "3"; there could stand the next fix',
+    "legs base 1 mile": "the length of intermediate, final and missed too",
+    "7 on the runway, place 0, fix right": "refused 29: the list has over five entries",
+    "7 3 1 1\n8 3 2 2": "refused 25: the field of this list would break a bound",
+}
+
+
+def lists(folder):
+    """Classroom lists as text, and what `list` prints, which `field` takes."""
+    for text, expected in LISTS.items():
+        if isinstance(expected, bytes):
+            yield case(f"the list {text!r}", [COMMAND, "classroom", "field"], folder, 0, expected, input=text.encode())
+        else:
+            said = rb"baguymo: standard input: [^\n]*" + re.escape(expected).encode() + rb"[^\n]*\n"
+            yield case(f"the list {text!r}", [COMMAND, "classroom", "field"], folder, 1, b"", said, input=text.encode())
+    for name in ("holdings", "empty"):
+        path = ROOT / f"crates/classroom/data/{name}.txt" if name == "holdings" else folder / "empty.txt"
+        if name == "empty":
+            path.write_text("64 64 64 64\n")
+        listed = run([COMMAND, "classroom", "list", path], folder)[1]
+        for words in ([], ["--words"]):
+            called = f'"{COMMAND}" classroom list {" ".join(words)} "{path}" | "{COMMAND}" classroom field | tail -n +2'
+            yield case(f"the list of {name} as a field {words}", ["sh", "-c", called], folder, 0, listed)
 
 
 def stored(folder):

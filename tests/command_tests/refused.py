@@ -92,6 +92,8 @@ def too_many(folder):
     for words in (["binder", "-o", "65"], ["week"]):
         yield case(f"{words[0]} of 65", [COMMAND, *words, *["small.txt"] * 65], folder, 1, b"", rb"baguymo: 65 lessons; a binder has 1 to 64\n")
         yield case(f"{words[0]}, too long", [COMMAND, *words, *["full.txt"] * 3], folder, 1, b"", rb"baguymo: the 3 lessons make 73856 bytes; .+ 65536\n")
+        plain = [COMMAND, *words, "--plain", *["small.txt"] * 65]
+        yield case(f"{words[0]} of 65, --plain", plain, folder, 1, b"binder 30\n")
     noted = rb"baguymo: leg-0.scap: refused 7: [^\n]+; a week counts it as that\n"
     yield case("a binder with a refused file", [COMMAND, "binder", "small.txt", "leg-0.scap"], folder, 0, binder([small, LEG_0]), noted)
     yield case("the same, --plain", [COMMAND, "binder", "--plain", "small.txt", "leg-0.scap"], folder, 0, binder([small, LEG_0]))

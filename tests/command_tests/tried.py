@@ -5,12 +5,24 @@ import pathlib
 import re
 import struct
 import subprocess
+import sys
 
 ROOT = pathlib.Path(__file__).resolve().parent.parent.parent
+sys.path.insert(0, str(ROOT / "tools"))
+from baguymo import programs
+
 COMMAND = ROOT / "bin/baguymo"
 CASES = ROOT / "crates/cases/data"
 # What no command may ever say.
 FAULTS = (b"Traceback", b"a fault of the command")
+
+
+def built():
+    """Has all programs there, so that no command that is tried has to build one: what differs between a program and the copy that is run."""
+    names = ("author", "button", "classroom", "desks", "play", "spacing", "track", "week")
+    paths = programs.ready(*names)
+    return [f"{path} is not target/bin/{name}" for name, path in zip(names, paths)
+            if pathlib.Path(path).read_bytes() != (ROOT / "target/bin" / name).read_bytes()]
 
 
 def run(words, folder, **how):

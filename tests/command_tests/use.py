@@ -113,6 +113,7 @@ def wrong_use(folder):
         yield case(f"{name}, unknown option", [*called, "--no-such", "sample"], folder, 2, b"", rb"baguymo: unknown option: --no-such; .+" + use)
         yield case(f"{name}, a dash", [*called, "-dash"], folder, 2, b"", rb"baguymo: unknown option: -dash; .+" + use)
         yield case(f"{name}, -o alone", [*called, "sample", "-o"], folder, 2, b"", rb"baguymo: behind -o stands .+" + use)
+        yield case(f"{name}, -o nothing", [*called, "sample", "-o", ""], folder, 2, b"", rb"baguymo: behind -o stands .+" + use)
         yield case(f"{name}, -o twice", [*called, "sample", "-o", "a", "-o", "b"], folder, 2, b"", rb"baguymo: behind -o stands .+" + use)
         yield case(f"{name}, -o the input", [*called, "sample", "-o", "./sample"], folder, 2, b"", rb"baguymo: ./sample is read, .+" + use)
         if words[0] not in ("week", "binder"):
@@ -146,6 +147,7 @@ def system(folder):
         yield case(f"{name}, -o on a full disk", [*called, path, "-o", "/dev/full"], folder, 1, b"", rb"baguymo: /dev/full: could not be written: No space[^\n]+\n")
         yield case(f"{name}, -o in no folder", [*called, path, "-o", "none/out"], folder, 1, b"", one)
         yield case(f"{name}, -o a folder", [*called, path, "-o", "sub"], folder, 1, b"", one)
+        yield case(f"{name}, -o a folder that is not there", [*called, path, "-o", "none/"], folder, 1, b"", one)
         reader, writer = os.pipe()
         os.close(reader)
         yield case(f"{name}, a closed pipe", [*called, path], folder, 1, b"", rb"baguymo: standard output: could not be written: Broken pipe\n", stdout=writer)

@@ -71,7 +71,7 @@ def proved(names, lock):
     if shutil.which("rt") is None:
         raise Failure(f"{', '.join(names)}: has to be proved and built first, and `rt`, the Rattle toolchain, is not on the path")
     plan = plan_of({crate: needs for name in names for crate, needs in programs.made_of(name).items()})
-    say(f"{', '.join(names)}: proved and built first, which takes some minutes")
+    say(f"{', '.join(names)}: proved and built first, which can take some minutes")
     progress = Progress(plan)
     progress.show()
     with open(LOG, "wb") as log, open(LOG, encoding="utf-8", errors="backslashreplace") as said:
@@ -86,8 +86,9 @@ def proved(names, lock):
     progress.end()
     if rt.returncode:
         with open(LOG, encoding="utf-8", errors="backslashreplace") as log:
-            told = [line.rstrip() for line in log if line.startswith("rt: ") and ("NOT PROVED" in line or "FAILED" in line)]
-        raise Failure(*told[:10], f"{', '.join(names)}: the program could not be built; {os.path.relpath(LOG)} has all that `rt` said")
+            lines = [line.rstrip() for line in log]
+        told = [line for line in lines if line.startswith("rt: ") and ("NOT PROVED" in line or "FAILED" in line)]
+        raise Failure(*(told[:10] or lines[-3:]), f"{', '.join(names)}: the program could not be built; {os.path.relpath(LOG)} has all that `rt` said")
 
 
 def provide(names):
@@ -103,13 +104,15 @@ def provide(names):
         left, looked = [], {}
         for name in names:
             source = programs.Source(name, looked)
-            if not programs.is_own(name, source) and not (programs.is_built(name, source) and programs.taken(name, source)):
-                left.append((name, source))
+            if not programs.is_own(name, source):
+                made = (name, source, source.content())  # before it is built: what changes meanwhile is not in the program
+                if not (programs.is_built(name, source) and programs.taken(*made)):
+                    left.append(made)
         if left:
-            proved([name for name, _ in left], lock)
-        for name, source in left:
-            if not programs.taken(name, source):
-                raise Failure(f"{name}: was built again by another at the same time; try once more")
+            proved([made[0] for made in left], lock)
+        for made in left:
+            if not programs.taken(*made):
+                raise Failure(f"{made[0]}: was built again by another at the same time; try once more")
     except OSError as error:
         raise Failure(f"{error.filename or programs.OWN}: {reason(error)}; the program could not be built")
     finally:

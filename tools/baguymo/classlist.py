@@ -2,7 +2,7 @@
 import re
 
 from .errors import Failure
-from .files import MARKS_16
+from .files import like_utf16
 from .lesson import SIDE_NUMBERS, digits, legs_in_words, lines_of, understood
 from .quantity import SPEED, Wrong, quantity
 from .words import ZONES
@@ -59,7 +59,7 @@ def read_line(result, text):
 
 def parse(data, name):
     """The list of a text."""
-    if data[:2] in MARKS_16:
+    if like_utf16(data):
         raise Failure(f"{name}: line 1: found UTF-16; a list is text in UTF-8, so it has to be saved as that")
     result = Listed()
     understood(lines_of(data), lambda text, line: read_line(result, text), name)

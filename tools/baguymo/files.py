@@ -1,4 +1,4 @@
-"""What a command reads and writes: files and standard input, told apart by their first four letters, and the output."""
+"""What a command reads and writes: files and standard input, told apart by how they begin, and the output."""
 import os
 
 from .errors import Failure, reason
@@ -118,6 +118,8 @@ def write_file(data, path):
                 return write_all(file, data)
         finally:
             os.close(file)
+    elif path.endswith("/"):
+        raise OSError(0, "there is no such folder")
     path = os.path.realpath(path)
     mode = os.stat(path).st_mode & 0o777 if there else None
     put(path, data)

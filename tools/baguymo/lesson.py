@@ -2,7 +2,7 @@
 import re
 
 from .errors import Failure
-from .files import MARKS_16
+from .files import like_utf16
 from .quantity import LEG, SPEED, TIME, Wrong, quantity, split, whole
 from .words import ENTRIES, KINDS, LEGS, MOST_REQUESTS, SIDES, TICK, input_number, listed, quoted
 
@@ -13,7 +13,8 @@ COULD = ("a request, as `7 descend`, `7 vertical entry right, 60 knots` or `tick
 LEGS_COULD = "the legs, as `legs base 1, intermediate 1, final 1, missed 2 miles`, or four numbers in 64ths of a mile"
 OF_AIRCRAFT = listed([words for kind, words in KINDS.items() if kind != TICK], "or")
 PARTS = r"kind +([0-9]+) *, *side +([0-9]+) *, *number +([0-9]+) *, *amount +([0-9]+)"
-MOST_SHOWN = 10  # lines that are not understood, in one message
+MOST_SHOWN, MOST_FOUND = 10, 100  # lines that are not understood: so many are shown, and after so many no more are read
+LONGEST_LINE = 1000  # characters, comments apart; more say nothing that a lesson could mean
 SMALL = str.maketrans("ABCDEFGHIJKLMNOPQRSTUVWXYZ", "abcdefghijklmnopqrstuvwxyz")
 BLANKS = str.maketrans("\t\u00a0", "  ")
 
@@ -186,24 +187,28 @@ def understood(lines, read, name):
     for line, raw in lines:
         try:
             written = " ".join(word for word in raw.decode().translate(BLANKS).split(" ") if word)
+            if len(written) > LONGEST_LINE:
+                raise Wrong(written.translate(SMALL), f"a line of at most {LONGEST_LINE} characters, comments apart")
             if written:
                 read(written.translate(SMALL), line)
         except UnicodeDecodeError:
-            wrong.append(f"{name}: line {line}: found {quoted(raw.decode('latin-1'))}, which is not UTF-8; it has to be saved as that")
+            wrong.append((line, f"found {quoted(raw.decode('latin-1'))}, which is not UTF-8; it has to be saved as that"))
         except Wrong as error:
             at = written.translate(SMALL).find(error.found)
             found = error.found if at < 0 else quoted(written[at:at + len(error.found)])
-            wrong.append(f"{name}: line {line}: found {found}; there could stand {error.could}")
+            wrong.append((line, f"found {found}; there could stand {error.could}"))
             if isinstance(error, Last):
                 break
+        if len(wrong) == MOST_FOUND:
+            break
     if wrong:
-        more = len(wrong) - MOST_SHOWN
-        raise Failure(*wrong[:MOST_SHOWN], *([f"{name}: and {more} more lines are not understood"] if more > 0 else []))
+        more = [f"{name}: and {len(wrong) - MOST_SHOWN} more lines up to line {wrong[-1][0]} are not understood"][:len(wrong) > MOST_SHOWN]
+        raise Failure(*[f"{name}: line {line}: {what}" for line, what in wrong[:MOST_SHOWN]], *more)
 
 
 def parse(data, name):
     """The lesson of a text."""
-    if data[:2] in MARKS_16:
+    if like_utf16(data):
         raise Failure(f"{name}: line 1: found UTF-16; a lesson is text in UTF-8, so it has to be saved as that")
     lesson, lines = Lesson(), lines_of(data)
     understood(lines, lambda text, line: read_line(lesson, text, line), name)

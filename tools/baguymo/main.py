@@ -23,7 +23,7 @@ def split(verb, words):
             others += words
             break
         if word == "-o":
-            if not words or out is not None:
+            if not words or not words[0] or out is not None:
                 raise Misuse("behind -o stands the name of the output, once")
             out = words.pop(0)
         elif word in ("-h", "--help"):

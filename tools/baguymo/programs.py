@@ -48,15 +48,16 @@ class Folder:
 
     def look(self, path):
         """Adds what stands in a folder, in order of name."""
-        self.newest = max(self.newest, os.stat(path).st_mtime_ns)
+        newest, start = os.stat(path).st_mtime_ns, len(ROOT)
         for entry in sorted(os.scandir(path), key=lambda entry: entry.name):
             if entry.is_dir():
                 self.look(entry.path)
                 continue
-            stat = entry.stat()
-            self.files.append(entry.path)
-            self.lines.append(f"{entry.path[len(ROOT):]} {stat.st_size} {stat.st_mtime_ns}")
-            self.newest = max(self.newest, stat.st_mtime_ns)
+            stat, below = entry.stat(), entry.path
+            self.files.append(below)
+            self.lines.append(f"{below[start:]} {stat.st_size} {stat.st_mtime_ns}")
+            newest = max(newest, stat.st_mtime_ns)
+        self.newest = max(self.newest, newest)
 
 
 class Source:
@@ -120,8 +121,8 @@ def put(path, data, mode=0o666):
         raise
 
 
-def taken(name, source):
-    """Takes a copy of a program that was built; its bytes as they were while nobody wrote them, or none."""
+def taken(name, source, content):
+    """Takes a copy of a program that was built from a source with this content; none where somebody wrote it meanwhile."""
     path = os.path.join(BUILT, name)
     before = os.stat(path)
     with open(path, "rb") as file:
@@ -130,17 +131,17 @@ def taken(name, source):
     if (before.st_mtime_ns, before.st_size, before.st_ino) != (after.st_mtime_ns, after.st_size, after.st_ino) or len(data) != after.st_size:
         return False
     os.makedirs(OWN, exist_ok=True)
-    content = source.content()
     put(os.path.join(OWN, name), data, 0o777)
     put(os.path.join(OWN, name + ".made"), (content + "\n" + source.times).encode())
     return True
 
 
 def is_built(name, source):
-    """Whether the proved program is there, no older than what it is made of, and its proof was ended."""
+    """Whether the proved program is there, no older than what it is made of, which is still as it was looked at, and its proof was ended."""
     try:
         os.stat(os.path.join(ROOT, "target/stamp", name))
-        return os.stat(os.path.join(BUILT, name)).st_mtime_ns >= source.newest
+        newer = os.stat(os.path.join(BUILT, name)).st_mtime_ns >= source.newest
+        return newer and Source(name, {}).times == source.times
     except FileNotFoundError:
         return False
 

@@ -1,7 +1,6 @@
 """The reports of `week`, `button`, `spacing` and `classroom` in words, for people."""
-from .quantity import SPACING
 from .session import lines
-from .words import KINDS, SIDES, WORDS, ZONES, counted, listed, minutes, refusal
+from .words import KINDS, SIDES, WORDS, ZONES, counted, exact, listed, minutes, refusal
 
 
 def text(rows):
@@ -52,7 +51,7 @@ def button(report):
 
 def spacing(report, spacing):
     """The spacing in words."""
-    yield f"close is under {SPACING.said(spacing, 3840, 'miles')}"
+    yield f"close is under {counted(exact(spacing, 64), 'mile')}"
     rows = lines(report)
     for leader, follower, word, gap in rows:
         behind = f"{gap} miles behind {leader}"

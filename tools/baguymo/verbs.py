@@ -51,18 +51,21 @@ def without_desks(command, lesson, name):
                       "and `desks` and `debrief` take both")
 
 
+def is_text(command, given):
+    """Whether an input is to be read as text; ends where it is empty. With --plain bytes are left to the program, also such as these."""
+    if not command.plain and not given.data:
+        raise Failure(f"{given.name}: {EMPTY}")
+    return sort_of(given.data) == LESSON or (not command.plain and like_utf16(given.data))
+
+
 def practice(command, given):
     """The bytes of a practice file, from those or from a lesson."""
-    if sort_of(given.data) == LESSON:
+    if is_text(command, given):
         lesson = lesson_of(given)
         without_desks(command, lesson, given.name)
         if not command.plain:
             check_legs(lesson, given.name)
         return practice_file(lesson.legs, lesson.calls)
-    if not command.plain and not given.data:
-        raise Failure(f"{given.name}: {EMPTY}")
-    if not command.plain and like_utf16(given.data):
-        raise Failure(f"{given.name}: line 1: found UTF-16; a lesson is text in UTF-8, so it has to be saved as that")
     return given.data
 
 
@@ -83,17 +86,14 @@ def play(command):
 
 def calls(command, given):
     """The bytes of an input of `desks`, from those, from a lesson or from a practice file, whose requests are desk 1's."""
-    sort = sort_of(given.data)
-    if sort == PRACTICE:
+    if sort_of(given.data) == PRACTICE:
         report_of("play", [], given.data, FILE_REFUSED, given.name)
         return desks_input(*requests_in(given.data))
-    if sort == LESSON:
+    if is_text(command, given):
         lesson = lesson_of(given)
         if not command.plain:
             check_legs(lesson, given.name)
         return desks_input(lesson.legs, lesson.calls)
-    if not command.plain and not given.data:
-        raise Failure(f"{given.name}: {EMPTY}")
     return given.data
 
 
@@ -107,18 +107,17 @@ def desks(command):
     return desks_report(command, command.input())
 
 
-def is_for_desks(given):
+def is_for_desks(command, given):
     """Whether an input is for two desks: a lesson with a desk or a step back, or bytes that are no practice file and that `desks` plays."""
-    sort = sort_of(given.data)
-    if sort == LESSON:
+    if is_text(command, given):
         return lesson_of(given).desks_line > 0
-    return sort == BYTES and given.data != b"" and not run(ready("desks")[0], [], given.data).startswith(b"refused")
+    return sort_of(given.data) == BYTES and given.data != b"" and not run(ready("desks")[0], [], given.data).startswith(b"refused")
 
 
 def debrief(command):
     """The debrief, or with --plain the report that it is made from."""
     given = command.input()
-    for_desks = is_for_desks(given)
+    for_desks = is_for_desks(command, given)
     if command.plain:
         return desks_report(command, given) if for_desks else play_report(command, given)
     from .debrief import words_of
@@ -173,12 +172,12 @@ def practice_bytes(command, path):
 
 
 def bound(command):
-    """The binder of the files that are named, as `week` takes it."""
-    if len(command.paths) > MOST_FILES:
+    """The binder of the files that are named, as `week` takes it; with --plain `week` itself says what it refuses."""
+    if len(command.paths) > (65535 if command.plain else MOST_FILES):
         raise Failure(f"{len(command.paths)} lessons; a binder has 1 to {MOST_FILES}")
     made = [practice_bytes(command, path) for path in command.paths]
     data = binder(made)
-    if len(data) > LONGEST_BINDER:
+    if len(data) > LONGEST_BINDER and not command.plain:
         raise Failure(f"the {len(made)} lessons make {len(data)} bytes; a binder has at most {LONGEST_BINDER}")
     return made, data
 
@@ -207,10 +206,8 @@ def week(command):
     else:
         given = command.input()
         data, name = given.data, given.name
-        if sort_of(data) != BYTES:
+        if is_text(command, given) or sort_of(data) == PRACTICE:
             data = binder([practice(command, given)])
-        elif not data and not command.plain:
-            raise Failure(f"{name}: is empty; there could stand a binder, a lesson in words or a practice file")
     return in_words(command, report_of("week", [], data, {"binder": "binder"}, name), "week")
 
 
@@ -235,7 +232,13 @@ def classroom(command):
     return in_words(command, report, "classroom")
 
 
-def written(command, name, legs, requests, breaking=()):
+def note_breaking(command, name, breaking):
+    """Notes each line whose requests break the input rules."""
+    for line, number, kind in breaking:
+        command.note(f"{name}: line {line}: breaks an input rule, and is written as it stands: it will be refused {number}, {refusal(number, kind)}")
+
+
+def written(command, name, legs, requests, breaking):
     """A practice file by the proved writer. Requests that it refuses are written as they stand, which is said."""
     given = author_input(legs, requests)
     report = run(ready("author")[0], [], given)
@@ -245,8 +248,7 @@ def written(command, name, legs, requests, breaking=()):
         return report
     if not breaking or command.plain:
         return refused(report, {"refused": "writing"}, name)
-    for line, number, kind in breaking:
-        command.note(f"{name}: line {line}: breaks an input rule, and is written as it stands: it will be refused {number}, {refusal(number, kind)}")
+    note_breaking(command, name, breaking)
     return practice_file(legs, requests)
 
 
@@ -299,6 +301,5 @@ def lesson(command):
         check_legs(read, given.name)
     if not read.desks_line:
         return written(command, given.name, read.legs, read.calls, read.breaking)
-    for line, number, kind in read.breaking:
-        command.note(f"{given.name}: line {line}: breaks an input rule, and is written as it stands: it will be refused {number}, {refusal(number, kind)}")
+    note_breaking(command, given.name, read.breaking)
     return desks_input(read.legs, read.calls)
