@@ -1,12 +1,12 @@
--- `host::baguymo_host_ask` meets its contract: the answer and the state of the step on the history that the bytes are read as. Assumes nothing.
+-- `host::ask` meets its contract: the answer and the state of the step on the history that the bytes are read as. Assumes nothing.
 use mathlib.Core.Path.{ap, _∙_}
 use denote.Ref.{now}
 use borrow.Author.Needs.{needs}
 use Rattle.history.specs.declared.SteppedHistory.{SteppedHistory}
 use Rattle.replies.specs.Replies.{answerNumbers}
 use Rattle.host.proofs.CallsOnState.{asked, after-step}
-use Rattle.host.proofs.baguymo_host_ask.Statement.{statement}
-use Rattle.host.proofs.baguymo_host_ask.Tie as tie
+use Rattle.host.proofs.ask.Statement.{statement}
+use Rattle.host.proofs.ask.Tie as tie
 
 read-history-requires : tie.Need-read-history-requires
 read-history-requires c κs = search needs
@@ -30,8 +30,8 @@ returns c =
       (n .answer-numbers .ensures ∙ ap (λ (s : SteppedHistory). answerNumbers (s .answer)) e, c .store-after .ensures ∙ after-step state e),
     )
 
-pub baguymo-host-ask-spec : {M : Type 1} → statement M
-baguymo-host-ask-spec =
+pub ask-spec : {M : Type 1} → statement M
+ask-spec =
     tie.close
     (tie.spec
     read-history-requires

@@ -1,12 +1,12 @@
--- `host::baguymo_host_start` meets its contract: 7, or the state of the start. Assumes nothing.
+-- `host::start` meets its contract: 7, or the state of the start. Assumes nothing.
 use mathlib.Core.Path.{ap, _∙_}
 use borrow.Author.Needs.{needs}
 use Rattle.field.proofs.TestParts.{holds, fails}
 use Rattle.history.specs.History.{startOf}
 use Rattle.layout.specs.Written.{historyBytes}
 use Rattle.host.proofs.CallsOnState.{start-refused, start-stored}
-use Rattle.host.proofs.baguymo_host_start.Statement.{statement}
-use Rattle.host.proofs.baguymo_host_start.Tie as tie
+use Rattle.host.proofs.start.Statement.{statement}
+use Rattle.host.proofs.start.Tie as tie
 
 legs-allowed-requires : tie.Need-legs-allowed-requires
 legs-allowed-requires c κs = search needs
@@ -30,8 +30,8 @@ returns-2 c =
     let t = start-stored _ _ (holds (k .before .before .before .legs-allowed .ensures) (k .before .before .if1 .left)) in
     (t .0, c .store .ensures ∙ ap historyBytes e ∙ t .1)
 
-pub baguymo-host-start-spec : {M : Type 1} → statement M
-baguymo-host-start-spec =
+pub start-spec : {M : Type 1} → statement M
+start-spec =
     tie.close
     (tie.spec
     legs-allowed-requires

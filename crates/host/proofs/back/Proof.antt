@@ -1,11 +1,11 @@
--- `host::baguymo_host_back` meets its contract: the number and the state of the step back on the history that the bytes are read as. Assumes nothing.
+-- `host::back` meets its contract: the number and the state of the step back on the history that the bytes are read as. Assumes nothing.
 use mathlib.Core.Path.{ap, _∙_}
 use denote.Ref.{now}
 use borrow.Author.Needs.{needs}
 use Rattle.history.specs.declared.SteppedHistory.{SteppedHistory}
 use Rattle.host.proofs.CallsOnState.{stepped-back, after-step}
-use Rattle.host.proofs.baguymo_host_back.Statement.{statement}
-use Rattle.host.proofs.baguymo_host_back.Tie as tie
+use Rattle.host.proofs.back.Statement.{statement}
+use Rattle.host.proofs.back.Tie as tie
 
 read-history-requires : tie.Need-read-history-requires
 read-history-requires c κs = search needs
@@ -23,6 +23,6 @@ returns c =
     let e = stepped-back state _ (k .step-back .ensures) (k .before .read-history .ensures) in
     (ap (λ (s : SteppedHistory). s .answer .number) e, c .store-after .ensures ∙ after-step state e)
 
-pub baguymo-host-back-spec : {M : Type 1} → statement M
-baguymo-host-back-spec =
+pub back-spec : {M : Type 1} → statement M
+back-spec =
     tie.close (tie.spec read-history-requires step-back-requires store-after-requires returns)

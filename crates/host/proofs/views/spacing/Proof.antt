@@ -1,4 +1,4 @@
--- `host::views::baguymo_host_spacing` meets its contract: the spacing of the history that the bytes are read as. Assumes nothing.
+-- `host::views::spacing` meets its contract: the spacing of the history that the bytes are read as. Assumes nothing.
 use mathlib.Core.Path.{_≡_, ap, _∙_}
 use Prim.Native.Nat.{ℕ}
 use borrow.Author.Needs.{needs}
@@ -6,8 +6,8 @@ use Rattle.history.specs.declared.History.{History}
 use Rattle.gaps.specs.declared.Spacings.{Spacings}
 use Rattle.replies.specs.Replies.{spacingNumbers, pairGaps}
 use Rattle.host.specs.Calls.{spacingsOf}
-use Rattle.host.proofs.views.baguymo_host_spacing.Statement.{statement}
-use Rattle.host.proofs.views.baguymo_host_spacing.Tie as tie
+use Rattle.host.proofs.views.spacing.Statement.{statement}
+use Rattle.host.proofs.views.spacing.Tie as tie
 
 spacings-on : (spacing : ℕ) {h g : History} {s : Spacings} → s ≡ spacingsOf h spacing → h ≡ g → s ≡ spacingsOf g spacing
 spacings-on spacing e f = e ∙ ap (λ (x : History). spacingsOf x spacing) f
@@ -32,8 +32,8 @@ returns c =
       (c .before .spacing-numbers .ensures ∙ ap spacingNumbers e, c .pair-gaps .ensures ∙ ap (λ (s : Spacings). pairGaps (s .pairs)) e),
     )
 
-pub baguymo-host-spacing-spec : {M : Type 1} → statement M
-baguymo-host-spacing-spec =
+pub spacing-spec : {M : Type 1} → statement M
+spacing-spec =
     tie.close
     (tie.spec
     read-history-requires

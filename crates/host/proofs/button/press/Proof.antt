@@ -1,4 +1,4 @@
--- `host::button::baguymo_host_press` meets its contract: what a press does on the history that the bytes are read as. Assumes nothing.
+-- `host::button::press` meets its contract: what a press does on the history that the bytes are read as. Assumes nothing.
 use mathlib.Core.Path.{ap, _∙_}
 use denote.Ref.{now}
 use borrow.Author.Needs.{needs}
@@ -6,8 +6,8 @@ use Rattle.press_kept.specs.declared.PressedKept.{PressedKept}
 use Rattle.replies.specs.Replies.{answerNumbers, requestNumbers}
 use Rattle.layout.specs.Written.{stateAfter}
 use Rattle.host.proofs.CallsOnState.{pressed}
-use Rattle.host.proofs.button.baguymo_host_press.Statement.{statement}
-use Rattle.host.proofs.button.baguymo_host_press.Tie as tie
+use Rattle.host.proofs.button.press.Statement.{statement}
+use Rattle.host.proofs.button.press.Tie as tie
 
 read-history-requires : tie.Need-read-history-requires
 read-history-requires c κs = search needs
@@ -41,8 +41,8 @@ returns c =
       ),
     )
 
-pub baguymo-host-press-spec : {M : Type 1} → statement M
-baguymo-host-press-spec =
+pub press-spec : {M : Type 1} → statement M
+press-spec =
     tie.close
     (tie.spec
     read-history-requires

@@ -1,11 +1,11 @@
--- `host::views::baguymo_host_list` meets its contract: the list of the history that the bytes are read as. Assumes nothing.
+-- `host::views::list` meets its contract: the list of the history that the bytes are read as. Assumes nothing.
 use mathlib.Core.Path.{ap, _∙_}
 use borrow.Author.Needs.{needs}
 use Rattle.dialect.specs.declared.Listing.{Listing}
 use Rattle.replies.specs.Replies.{listingNumbers}
 use Rattle.host.specs.Calls.{listingOf}
-use Rattle.host.proofs.views.baguymo_host_list.Statement.{statement}
-use Rattle.host.proofs.views.baguymo_host_list.Tie as tie
+use Rattle.host.proofs.views.list.Statement.{statement}
+use Rattle.host.proofs.views.list.Tie as tie
 
 read-history-requires : tie.Need-read-history-requires
 read-history-requires c κs = search needs
@@ -22,6 +22,6 @@ returns c =
     let e = k .listing-of .ensures ∙ ap listingOf (k .before .read-history .ensures) in
     (ap (λ (l : Listing). l .number) e, c .listing-numbers .ensures ∙ ap listingNumbers e)
 
-pub baguymo-host-list-spec : {M : Type 1} → statement M
-baguymo-host-list-spec =
+pub list-spec : {M : Type 1} → statement M
+list-spec =
     tie.close (tie.spec read-history-requires listing-of-requires listing-numbers-requires returns)

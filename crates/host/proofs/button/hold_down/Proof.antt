@@ -1,12 +1,12 @@
--- `host::button::baguymo_host_hold_down` meets its contract: what the button reports on the history that the bytes are read as. Assumes nothing.
+-- `host::button::hold_down` meets its contract: what the button reports on the history that the bytes are read as. Assumes nothing.
 use mathlib.Core.Path.{ap, _∙_}
 use denote.Ref.{now}
 use borrow.Author.Needs.{needs}
 use Rattle.press_kept.specs.declared.HeldKept.{HeldKept}
 use Rattle.replies.specs.Replies.{endNumber, heldNumbers}
 use Rattle.host.proofs.CallsOnState.{held, after-held}
-use Rattle.host.proofs.button.baguymo_host_hold_down.Statement.{statement}
-use Rattle.host.proofs.button.baguymo_host_hold_down.Tie as tie
+use Rattle.host.proofs.button.hold_down.Statement.{statement}
+use Rattle.host.proofs.button.hold_down.Tie as tie
 
 read-history-requires : tie.Need-read-history-requires
 read-history-requires c κs = search needs
@@ -33,8 +33,8 @@ returns c =
       (n .before .held-numbers .ensures ∙ ap (λ (h : HeldKept). heldNumbers (h .played) (h .ending)) e, c .store-after .ensures ∙ after-held state (n .end-number .ensures) e),
     )
 
-pub baguymo-host-hold-down-spec : {M : Type 1} → statement M
-baguymo-host-hold-down-spec =
+pub hold-down-spec : {M : Type 1} → statement M
+hold-down-spec =
     tie.close
     (tie.spec
     read-history-requires

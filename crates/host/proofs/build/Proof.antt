@@ -1,11 +1,11 @@
--- `host::baguymo_host_field` meets its contract: the number and the state of the field that was built. Assumes nothing.
+-- `host::build` meets its contract: the number and the state of the field that was built. Assumes nothing.
 use mathlib.Core.Path.{ap, _∙_}
 use denote.Ref.{now}
 use borrow.Author.Needs.{needs}
 use Rattle.dialect_field.specs.declared.Built.{Built}
 use Rattle.host.proofs.CallsOnState.{built-stored}
-use Rattle.host.proofs.baguymo_host_field.Statement.{statement}
-use Rattle.host.proofs.baguymo_host_field.Tie as tie
+use Rattle.host.proofs.build.Statement.{statement}
+use Rattle.host.proofs.build.Tie as tie
 
 field-of-list-requires : tie.Need-field-of-list-requires
 field-of-list-requires c κs = search needs
@@ -25,6 +25,6 @@ returns c =
       c .store-after .ensures ∙ built-stored state (c .before .start-with .ensures) e,
     )
 
-pub baguymo-host-field-spec : {M : Type 1} → statement M
-baguymo-host-field-spec =
+pub build-spec : {M : Type 1} → statement M
+build-spec =
     tie.close (tie.spec field-of-list-requires start-with-requires store-after-requires returns)
