@@ -31,9 +31,9 @@ cargo build --quiet --release --offline --locked --manifest-path bench/Cargo.tom
 bench=bench/target/release/bench
 longest=crates/cases/data/longest.scap
 typical=$made/typical.scap
-python3 tools/sessions.py bytes bench/typical.txt "$typical"
+bin/baguymo lesson bench/typical.txt -o "$typical"
 button=$made/button.scap
-python3 tools/sessions.py bytes bench/button.txt "$button"
+bin/baguymo lesson bench/button.txt -o "$button"
 
 # Instructions of so many plays of a file by one program, starting and reading included.
 instructions() {

@@ -12,6 +12,13 @@
    step back the first 1,733 bytes are those before the request, and a kept field that no longer counts keeps its bytes. A call takes up to
    some 170 KB of the caller's stack, by its compiled frames.
 
+   The floating-point environment: a call computes in the processor's rounding direction, as every operation on doubles does, and leaves the
+   environment as it was. On a state that a start wrote, and that requests, steps back and the button have changed since, no result is ever
+   rounded. So a host may leave the processor rounding in any direction, and flushing denormals to 0, as graphics engines set it: every byte
+   is the same, and the processor's mark of an inexact result is not set. One sign differs: where the processor rounds down, a gap of 0 is
+   -0, which compares equal to 0. It matters on a state from elsewhere whose legs or miles are no whole 4096ths of a mile: for its answers to
+   be those of the rules a host has the processor round to the nearest and keep denormals, which is the default.
+
    Layout, numbers with the low byte first, floats as their 64 bits (IEEE 754 binary64):
      a field with its index, 1,733 bytes:
           0  zones 1 to 13, 128 bytes each: four aircraft, the head first, of 30 bytes each, and the queue's length, 8 bytes
@@ -65,8 +72,8 @@ uint16_t baguymo_host_back(uint8_t *state, uint8_t desk);
 
 /* Presses the button: plays the one request that it proposes, as if it had been asked. Puts that request into `request` (desk, kind, side,
    number, amount) and its answer into `answer`. The button has no desk: it asks for each aircraft as its own desk, ticks as desk 1,
-   and shows whom it moves, whichever desk's. Where nobody is on the field it plays nothing, and all are zeros. 10 for a state that breaks
-   the bounds. */
+   and shows whom it moves, whichever desk's; the one that a hold moves along only where that one is of the same desk. Where nobody is on
+   the field it plays nothing, and all are zeros. 10 for a state that breaks the bounds. */
 uint16_t baguymo_host_press(uint8_t *state, size_t request[5], size_t answer[6]);
 
 /* Holds the button down until it says none, or until its presses are spent. Puts into `report` how many requests were played, and 1 where

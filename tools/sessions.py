@@ -1,89 +1,42 @@
 #!/usr/bin/env python3
-"""Practice files, readable and as bytes.
+"""The stored sessions of tests: readable ones (NAME.txt) are lessons in the language of bin/baguymo, mostly in numbers; a comment that starts
+with `# =` says what the next request answers. A file that is no practice file stands as its bytes in hexadecimal (NAME.hex).
 
-A readable session (NAME.txt) has the four legs `base intermediate final
-missed` in 64ths of a mile on its first line, then one request a line: `kind
-side number amount`. Lines that start with # are comments; one that starts with
-`# =` says what the next request answers. A file that is no practice file is
-written as its bytes in hexadecimal instead (NAME.hex).
+  sessions.py cases CRATE                 of the sessions in CRATE/data: their bytes beside them as NAME.scap, their names in CRATE/args,
+                                          and the expected outputs under their names in CRATE/stdout
+  sessions.py expect SESSIONS PROGRAM     plays every session by a program and writes NAME.expected
+  sessions.py check SESSIONS PROGRAM      plays them and compares
+  sessions.py hex FILE                    any file in hexadecimal
 
-  sessions.py bytes NAME.txt|NAME.hex [OUT]   the bytes, to OUT or standard output
-  sessions.py text FILE [OUT]                 a practice file in readable form
-  sessions.py hex FILE [OUT]                  any file in hexadecimal
-  sessions.py binder FILE...                  the binder of these files, in their order,
-                                              to standard output; NAME.txt and NAME.hex
-                                              are packed as their bytes
-  sessions.py cases CRATE                     of the sessions in CRATE/data: their
-                                              bytes beside them as NAME.scap, their
-                                              names in CRATE/args, and the expected
-                                              outputs under their names in CRATE/stdout
-  sessions.py expect SESSIONS PROGRAM         plays every session by a program
-                                              and writes NAME.expected
-  sessions.py check SESSIONS PROGRAM          plays them and compares
-
-FILE may be - for standard input. Legs, requests and files are written as given,
-also where the rules would refuse them.
+Legs, requests and files are written as given, also where the rules refuse them, which bin/baguymo does not.
 """
 import os
-import struct
 import subprocess
 import sys
 
-HEADER = 26
-LEGS = 8
-REQUEST = 6
-OFFSET = HEADER + LEGS
+sys.dont_write_bytecode = True  # nothing is written beside the tools
+from baguymo.errors import Failure
+from baguymo.formats import practice_file
+from baguymo.lesson import parse
 
 
-def content(text):
-    """The lines that are neither comments nor blank."""
-    return [line for line in text.splitlines() if line.strip() and not line.startswith('#')]
+def read(path):
+    with open(path, 'rb') as file:
+        return file.read()
 
 
-def numbers(line, most):
-    fields = [int(word) for word in line.split()]
-    if len(fields) != len(most) or any(not 0 <= f <= m for f, m in zip(fields, most)):
-        raise SystemExit('sessions.py: not as described: ' + line)
-    return fields
-
-
-def text_to_bytes(text):
-    lines = content(text)
-    if not lines:
-        raise SystemExit('sessions.py: no legs')
-    legs = numbers(lines[0], (0xffff,) * 4)
-    requests = [numbers(line, (0xff, 0xff, 0xffff, 0xffff)) for line in lines[1:]]
-    header = b'SCAP' + struct.pack('<H', 2)
-    header += struct.pack('<HII', 1, HEADER, LEGS)
-    header += struct.pack('<HII', 2, OFFSET, len(requests) * REQUEST)
-    return header + struct.pack('<4H', *legs) + b''.join(struct.pack('<BBHH', *r) for r in requests)
-
-
-def bytes_to_text(data):
-    lines = []
-    if len(data) >= OFFSET and (len(data) - OFFSET) % REQUEST == 0:
-        lines.append(' '.join(str(leg) for leg in struct.unpack_from('<4H', data, HEADER)))
-        for at in range(OFFSET, len(data), REQUEST):
-            lines.append(' '.join(str(f) for f in struct.unpack_from('<BBHH', data, at)))
-    text = '\n'.join(lines) + '\n'
-    if not lines or text_to_bytes(text) != data:
-        raise SystemExit('sessions.py: no practice file; try hex')
-    return text
-
-
-def hex_to_bytes(text):
-    return bytes.fromhex(' '.join(content(text)))
-
-
-def bytes_to_hex(data):
-    rows = [data[at:at + 16].hex(' ') for at in range(0, len(data), 16)]
-    return ''.join(row + '\n' for row in rows)
+def write(data, path):
+    with open(path, 'wb') as file:
+        file.write(data)
 
 
 def session_bytes(path):
-    with open(path, encoding='ascii') as file:
-        text = file.read()
-    return hex_to_bytes(text) if path.endswith('.hex') else text_to_bytes(text)
+    """The bytes of a stored session."""
+    data = read(path)
+    if path.endswith('.hex'):
+        return bytes.fromhex(' '.join(line for line in data.decode('ascii').splitlines() if not line.startswith('#')))
+    lesson = parse(data, path)
+    return practice_file(lesson.legs, lesson.calls)
 
 
 def all_sessions(directory):
@@ -94,40 +47,12 @@ def all_sessions(directory):
             yield stem, session_bytes(os.path.join(directory, name))
 
 
-def binder(files):
-    """A count, a table of offsets and lengths, and the files back to back."""
-    table, offset = struct.pack('<H', len(files)), 2 + 8 * len(files)
-    for data in files:
-        table += struct.pack('<II', offset, len(data))
-        offset += len(data)
-    return table + b''.join(files)
-
-
-def packed(path):
-    """The bytes of a file that goes into a binder."""
-    return session_bytes(path) if path.endswith(('.txt', '.hex')) else read(path)
-
-
 def played(program, data):
     return subprocess.run([program], input=data, stdout=subprocess.PIPE, check=True).stdout
 
 
-def read(path):
-    if path == '-':
-        return sys.stdin.buffer.read()
-    with open(path, 'rb') as file:
-        return file.read()
-
-
-def write(data, path):
-    if path is None:
-        sys.stdout.buffer.write(data)
-    else:
-        with open(path, 'wb') as file:
-            file.write(data)
-
-
 def write_cases(crate):
+    """What the program of a crate is run on, and what it is to print."""
     folder = os.path.join(crate, 'data')
     names, output = [], []
     for stem, data in all_sessions(folder):
@@ -140,32 +65,31 @@ def write_cases(crate):
 
 
 def main(args):
-    if len(args) > 1 and args[0] == 'binder':
-        write(binder([packed(path) for path in args[1:]]), None)
-        return
-    if len(args) not in (2, 3):
-        raise SystemExit(__doc__)
-    command, source = args[:2]
-    target = args[2] if len(args) == 3 else None
-    if command == 'bytes':
-        write(session_bytes(source), target)
-    elif command == 'text':
-        write(bytes_to_text(read(source)).encode('ascii'), target)
-    elif command == 'hex':
-        write(bytes_to_hex(read(source)).encode('ascii'), target)
-    elif command == 'cases' and target is None:
-        write_cases(source)
-    elif command == 'expect' and target is not None:
-        for stem, data in all_sessions(source):
-            write(played(target, data), os.path.join(source, stem + '.expected'))
-    elif command == 'check' and target is not None:
-        different = [stem for stem, data in all_sessions(source)
-                     if played(target, data) != read(os.path.join(source, stem + '.expected'))]
+    command, *words = args or ['']
+    if (command, len(words)) == ('cases', 1):
+        write_cases(*words)
+    elif (command, len(words)) == ('expect', 2):
+        for stem, data in all_sessions(words[0]):
+            write(played(words[1], data), os.path.join(words[0], stem + '.expected'))
+    elif (command, len(words)) == ('check', 2):
+        different = [stem for stem, data in all_sessions(words[0])
+                     if played(words[1], data) != read(os.path.join(words[0], stem + '.expected'))]
         if different:
-            raise SystemExit('sessions.py: different: ' + ' '.join(different))
+            raise Failure('different: ' + ' '.join(different))
+    elif (command, len(words)) == ('hex', 1):
+        data = read(*words)
+        print(''.join(data[at:at + 16].hex(' ') + '\n' for at in range(0, len(data), 16)), end='', flush=True)
     else:
-        raise SystemExit(__doc__)
+        sys.stderr.write(__doc__)
+        return 2
+    return 0
 
 
 if __name__ == '__main__':
-    main(sys.argv[1:])
+    try:
+        status = main(sys.argv[1:])
+    except (Failure, OSError, ValueError, subprocess.SubprocessError) as error:
+        print(f'sessions.py: {error}', file=sys.stderr)
+        status = 1
+    sys.stdout = None  # what could not be written is said above
+    sys.exit(status)

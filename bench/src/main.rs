@@ -7,12 +7,14 @@
 //!   bench same LIBRARY LIBRARY FILE    whether both write the same report
 //!   bench typical                      prints the typical session in readable form
 //!
-//! A PROGRAM is library, library-judged, library-button, library-host, reference, reference-unjudged, reference-button, reference-host or a
-//! LIBRARY: the path of a shared one, NAME.so. Of those of a host each request is a call on a state with eight kept fields.
+//! A PROGRAM is library, library-judged, library-button, library-host, library-spent, reference, reference-unjudged, reference-button,
+//! reference-host, reference-spent or a LIBRARY: the path of a shared one, NAME.so. Of those of a host each request is a call on a state with
+//! eight kept fields; those that are spent press the button 1000 times where nobody can move, whatever the file is.
 
 mod loaded;
 
 use comparison::dice::Dice;
+use comparison::host_calls::stuck;
 use comparison::host_library::{by_reference as asked_of_reference, call_on, Call, Reply};
 use comparison::library::{button_into, judged_report_into, report_into, ROOM};
 use comparison::sessions::typical;
@@ -29,6 +31,8 @@ const ROUNDS: usize = 21;
 const ROUND: Duration = Duration::from_millis(250);
 const TYPICAL_SEED: u64 = 300;
 const TYPICAL_REQUESTS: usize = 300;
+/// Presses of a play where nobody can move.
+const PRESSES: usize = 1000;
 
 /// A way to play a file: it yields the length of the report.
 type Program = Box<dyn FnMut(&[u8]) -> usize>;
@@ -39,7 +43,9 @@ fn program(name: &str) -> Program {
         "library-judged" => by_library(judged_report_into),
         "library-button" => by_library(button_into),
         "library-host" => by_host(call_on),
+        "library-spent" => by_presses(call_on),
         "reference-host" => by_host(asked_of_reference),
+        "reference-spent" => by_presses(asked_of_reference),
         "reference" => by_reference(reference::report),
         "reference-button" => by_reference(reference::button),
         "reference-unjudged" => by_reference(reference::report_unjudged),
@@ -79,6 +85,17 @@ fn with_eight_kept(file: &[u8]) -> (Box<Bytes>, Vec<Call>) {
         assert_eq!(asked_of_reference(&mut state, call).number, 0);
     }
     (state, requests.into_iter().map(Call::Ask).collect())
+}
+
+/// Presses of the button on a field on which nobody can move, each a call of its own. Yields how many were accepted.
+fn by_presses(call: fn(&mut Bytes, &Call) -> Reply) -> Program {
+    let mut start = Box::new([0; STATE]);
+    assert_eq!(asked_of_reference(&mut start, &stuck()).number, 0);
+    let mut state = start.clone();
+    Box::new(move |_| {
+        *state = *start;
+        (0..PRESSES).filter(|_| black_box(call(black_box(&mut state), &Call::Press)).number == 0).count()
+    })
 }
 
 /// The report of a file by a shared library.

@@ -321,13 +321,3 @@ fn a_practice_file() {
     let request = Request::new(1, 2, 300, 64);
     assert_eq!((request.desk, Request::from_bytes(request.by(2).to_bytes())), (1, request));
 }
-
-#[path = "../examples/desk_cases.rs"]
-mod desk_cases;
-
-/// The stored output of the program `desk_cases`, which plays by the proved crates, is what this crate prints.
-#[test]
-fn stored_output_of_desk_cases() {
-    let stored = concat!(env!("CARGO_MANIFEST_DIR"), "/../crates/desk_cases/stdout");
-    assert_eq!(std::fs::read_to_string(stored).expect("stdout"), desk_cases::output());
-}

@@ -316,17 +316,7 @@ fn counts_of_both_and_of_each() {
     }
 }
 
-#[path = "../examples/history_cases.rs"]
-mod history_cases;
-
-/// The stored output of the program `history_cases`, which plays by the proved crates, is what this crate prints.
-#[test]
-fn stored_output_of_history_cases() {
-    let stored = concat!(env!("CARGO_MANIFEST_DIR"), "/../crates/history_cases/stdout");
-    assert_eq!(std::fs::read_to_string(stored).expect("stdout"), history_cases::output());
-}
-
-/// So is that of the program `desks` for its stored input.
+/// The stored output of the program `desks` is what this crate gives for its stored input.
 #[test]
 fn stored_output_of_desks() {
     let stored =

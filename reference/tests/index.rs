@@ -239,13 +239,3 @@ fn a_field_that_breaks_a_bound_by_itself() {
     assert_eq!(indexed.step(&tick()), Err(Refusal::FieldBreaksBound));
     assert_eq!(indexed, before);
 }
-
-#[path = "../examples/index_cases.rs"]
-mod index_cases;
-
-/// The stored output of the program `index_cases`, which plays by the proved crates, is what this crate prints.
-#[test]
-fn stored_output_of_index_cases() {
-    let stored = concat!(env!("CARGO_MANIFEST_DIR"), "/../crates/index_cases/stdout");
-    assert_eq!(std::fs::read_to_string(stored).expect("stdout"), index_cases::output());
-}

@@ -21,10 +21,10 @@ use Rattle.playing.proofs.Logs.{here-in, log-length}
 use Rattle.playing.proofs.PlayedFiles.{answers-count}
 use Rattle.contents.specs.Contents.{fileCount, fileAt, filesFrom, filesOf}
 use Rattle.binder.specs.declared.counts.Counts.{Counts}
-use Rattle.binder.specs.Counting.{columns}
+use Rattle.binder.specs.Counting.{columns, listed}
 use Rattle.week_table.specs.Table.{cellOf}
 use Rattle.binder.specs.Counts.{Small, Columned, isColumn, emptyCounts, withAnswer, withNumber, countedTo, withFile, withFiles, countsOf}
-use Rattle.binder.proofs.CountedOnce.{listed, Headed}
+use Rattle.binder.proofs.CountedOnce.{Headed}
 use Rattle.week_table.proofs.KindRows.{one-low, of-few}
 use Rattle.binder.proofs.Cells.{cell-low}
 

@@ -11,9 +11,8 @@ use Rattle.field.specs.Lists.{every}
 use Rattle.field.proofs.TestLaws.{every-from}
 use Rattle.week_table.specs.Table.{columnPlace, cellOf}
 use Rattle.week_table.proofs.KindRows.{row-low}
-use Rattle.binder.specs.Counting.{columns}
+use Rattle.binder.specs.Counting.{columns, listed}
 use Rattle.binder.specs.Counts.{isColumn}
-use Rattle.binder.proofs.CountedOnce.{listed}
 
 -- a listed number is no higher than the highest
 pub listed-low : (ns : List ℕ) (most m : ℕ) → T (every (λ n. leb n most) ns) → listed ns m ≡ 1 → m ≤ most

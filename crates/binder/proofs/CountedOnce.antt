@@ -11,13 +11,14 @@ use lib.Ieee.Fits.{and-l, and-r}
 use borrow.Author.Tests.{eqb-true}
 use Rattle.request.specs.Input.{fromDesk, within, firstRefused, inputNumber}
 use Rattle.request.specs.declared.Request.{Request}
+use Rattle.request.proofs.InputTests.{both-left, both-right}
 use Rattle.practice.specs.File.{opens, contentsAllowed, legsOf, legsBody, requestsBody, legsAllowed, fileNumber}
 use Rattle.practice.specs.Practice.{Practice, refused, holds, practiceOf}
 use Rattle.practice.specs.Requests.{requestsOf}
 use Rattle.field.specs.declared.Field.{Field}
 use Rattle.field.specs.Airspace.{emptyField}
 use Rattle.field.specs.Lists.{Each}
-use Rattle.field.proofs.TestLaws.{pass, passed, decided, either-way, every-from}
+use Rattle.field.proofs.TestLaws.{pass, passed, decided, either-way, every-from, same}
 use Rattle.questions.specs.Counts.{total}
 use Rattle.bounds.specs.Bounds.{withinBounds}
 use Rattle.rules.specs.declared.Answer.{Answer}
@@ -31,7 +32,7 @@ use Rattle.rules.proofs.StepLaws.{number-is}
 use Rattle.line.proofs.CountedOnLine.{total-add, total-none}
 use Rattle.playing.specs.Playing.{legsInMiles, answersFrom, requestsOfPractice, answersOfPractice, requestsOfFile, answersOf}
 use Rattle.playing.proofs.Playing.{length-answers}
-use Rattle.binder.specs.Counting.{requestsIn, answersIn, rowOf, rows, columns, isAnswered, answered, tableSum, filesNumbered, CountedOnce}
+use Rattle.binder.specs.Counting.{requestsIn, answersIn, rowOf, rows, columns, isAnswered, answered, tableSum, filesNumbered, listed, InOnePlace, CountedOnceOf, CountedOnce}
 
 -- ---- sums over the table
 
@@ -48,10 +49,6 @@ table-add : (g h : ℕ → ℕ → ℕ) → tableOf (λ row number. g row number
 table-add g h =
     total-each (λ row. total (λ number. g row number + h row number) columns) (λ row. total (g row) columns + total (h row) columns) rows (λ row. total-add (g row) (h row) columns)
     ∙ total-add (λ row. total (g row) columns) (λ row. total (h row) columns) rows
-
--- how often a number is listed
-abbrev pub listed : List ℕ → ℕ → ℕ
-listed ns m = total (λ n. cond (eqb m n) 1 0) ns
 
 -- in a row that is the one or not
 in-row : (b : Bool) (m : ℕ) (ns : List ℕ) → total (λ n. cond (b && eqb m n) 1 0) ns ≡ cond b (listed ns m) 0
@@ -199,5 +196,28 @@ files-whole : (files : List (List ℕ)) → filesNumbered 0 files + filesNumbere
 files-whole [] = refl
 files-whole (file ∷ files) = let here = one-number file in let rest = files-whole files in omega arith
 
-pub counted-once : (files : List (List ℕ)) → CountedOnce files
-counted-once files = record { answers = table-sum (answersIn files) (headed-in files); requests = length-in files; whole = files-whole files }
+-- ---- each answer has one place
+one-place : (p : Request × Answer) → listed columns (p .1 .number) ≡ 1 → InOnePlace p
+one-place p column =
+    let kind = rowOf (p .0 .kind) in
+    let answer = p .1 .number in
+    record {
+      one-row = row-once (p .0 .kind);
+      one-column = column;
+      there = ap (λ (b : Bool). b && eqb answer answer) (same kind) ∙ same answer;
+      no-other-row = λ row number e. sym (eqb-true kind row (both-left (eqb kind row) (eqb answer number) e));
+      no-other-column = λ row number e. sym (eqb-true answer number (both-right (eqb kind row) (eqb answer number) e));
+    }
+
+all-placed : (ps : List (Request × Answer)) → Headed ps → Each InOnePlace ps
+all-placed [] h = tt
+all-placed (p ∷ ps) h = (one-place p (h .0), all-placed ps (h .1))
+
+pub counted-once : CountedOnce
+counted-once files =
+    record {
+      one-place = all-placed (answersIn files) (headed-in files);
+      answers = table-sum (answersIn files) (headed-in files);
+      requests = length-in files;
+      whole = files-whole files;
+    }

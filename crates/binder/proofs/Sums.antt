@@ -21,10 +21,10 @@ use Rattle.playing.specs.Playing.{answersOf}
 use Rattle.playing.specs.Log.{logOf, numberAt}
 use Rattle.playing.proofs.Logs.{here-in, kind-here}
 use Rattle.binder.specs.declared.counts.Counts.{Counts}
-use Rattle.binder.specs.Counting.{answersIn, rowOf, rows, columns, isAnswered, answered, landings, filesNumbered}
+use Rattle.binder.specs.Counting.{answersIn, rowOf, rows, columns, isAnswered, answered, landings, filesNumbered, listed}
 use Rattle.week_table.specs.Table.{rowPlace, columnPlace, cellOf}
 use Rattle.binder.specs.Counts.{rowAt, emptyCounts, withAnswer, withNumber, countedTo, withFile, withFiles, countsOf}
-use Rattle.binder.proofs.CountedOnce.{listed, Headed, headed-file}
+use Rattle.binder.proofs.CountedOnce.{Headed, headed-file}
 use Rattle.binder.proofs.Cells.{listed-low, column-low}
 
 -- ---- which place a row and a column have

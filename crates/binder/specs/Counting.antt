@@ -3,12 +3,13 @@
 use Prim.Native.Nat.{ℕ, _+_}
 use mathlib.Core.Path.{_≡_}
 use mathlib.Core.List.{List, [], _∷_, _++_}
-use mathlib.Core.Bool.{Bool, cond, _&&_}
+use mathlib.Core.Bool.{Bool, true, cond, _&&_}
 use lib.Dec.{eqb}
 use lib.ListN.{length}
 use Rattle.request.specs.Input.{within}
 use Rattle.request.specs.declared.Request.{Request}
 use Rattle.practice.specs.File.{fileNumber}
+use Rattle.field.specs.Lists.{Each}
 use Rattle.questions.specs.Counts.{total}
 use Rattle.rules.specs.declared.Answer.{Answer}
 use Rattle.rules.specs.Play.{accepted}
@@ -65,10 +66,30 @@ abbrev pub filesNumbered : ℕ → List (List ℕ) → ℕ
 filesNumbered number [] = 0
 filesNumbered number (file ∷ files) = cond (eqb (fileNumber file) number) 1 0 + filesNumbered number files
 
--- every answer of the files that play is counted exactly once, and so is every file (02, 2.1)
-pub record CountedOnce (files : List (List ℕ)) : Type 0 where
+-- ---- each once
+
+-- how often a number is listed
+abbrev pub listed : List ℕ → ℕ → ℕ
+listed ns m = total (λ n. cond (eqb m n) 1 0) ns
+
+-- the place of an answer is the row of its kind and the column of its number: the table has each of the two once, the answer is counted there, and nowhere else
+pub record InOnePlace (p : Request × Answer) : Type 0 where
+  pub one-row : listed rows (rowOf (p .0 .kind)) ≡ 1
+  pub one-column : listed columns (p .1 .number) ≡ 1
+  pub there : isAnswered (rowOf (p .0 .kind)) (p .1 .number) p ≡ true
+  pub no-other-row : (row number : ℕ) → isAnswered row number p ≡ true → row ≡ rowOf (p .0 .kind)
+  pub no-other-column : (row number : ℕ) → isAnswered row number p ≡ true → number ≡ p .1 .number
+
+-- of some files: every answer of those that play is counted exactly once, and so is every file (02, 2.1)
+pub record CountedOnceOf (files : List (List ℕ)) : Type 0 where
+  -- each answer has one place in the table
+  pub one-place : Each InOnePlace (answersIn files)
   -- the table's entries add up to the answers, one for each request of the files that play
   pub answers : tableSum (answersIn files) ≡ length (answersIn files)
   pub requests : length (answersIn files) ≡ length (requestsIn files)
   -- the files that play and those refused 5, 6 and 7 are all files
   pub whole : filesNumbered 0 files + filesNumbered 5 files + filesNumbered 6 files + filesNumbered 7 files ≡ length files
+
+-- that is so of any files
+abbrev pub CountedOnce : Type 0
+CountedOnce = (files : List (List ℕ)) → CountedOnceOf files

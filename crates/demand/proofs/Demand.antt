@@ -1,4 +1,4 @@
--- Demand 3 holds of every list of requests from an empty field with legal legs. Assumes nothing.
+-- Demand 3 holds of every list of requests from every empty field that a list may start from. Assumes nothing.
 use mathlib.Core.Path.{_≡_, refl, sym, ap, _∙_, subst}
 use mathlib.Core.Bool.{Bool, true, cond, _&&_}
 use mathlib.Core.List.{List, [], _∷_}
@@ -13,8 +13,8 @@ use Rattle.request.specs.declared.Request.{Request}
 use Rattle.field.specs.declared.Aircraft.{Aircraft}
 use Rattle.field.specs.declared.Legs.{Legs}
 use Rattle.field.specs.declared.Field.{Field}
-use Rattle.field.specs.Airspace.{emptyField, zonesFrom, inZone, operation}
-use Rattle.questions.specs.Counts.{howMany, presentOn, presentFor, ownedBy, inOperation, inArea, perFix}
+use Rattle.field.specs.Airspace.{emptyField, zonesFrom, inZone, area, operation, everywhere, legFlownOut}
+use Rattle.questions.specs.Counts.{total, howMany, presentOn, presentFor, ownedBy, inOperation, inArea, perFix}
 use Rattle.field.specs.Lists.{every}
 use Rattle.bounds.specs.Bounds.{boundA, boundB, boundC, boundD, lateralRule}
 use Rattle.fits.specs.Fits.{legalLegs}
@@ -23,8 +23,11 @@ use Rattle.order.specs.Model.{Side, rightSide}
 use Rattle.order.proofs.Facts.{okay-empty, okay-zones, weight-small}
 use Rattle.rules.specs.Play.{fieldAfter, played, ofDesk, letIn, taxiedOff, exitedFrom, accepted, moves, addsMoves}
 use Rattle.rules.specs.declared.Answer.{Answer}
-use Rattle.demand.specs.Demand.{allFlownOut, MovesOn, Demand3}
+use Rattle.demand.specs.Demand.{allFlownOut, MovesOn, Demand3Of, Demand3}
 use Rattle.field.proofs.TestLaws.{every-from}
+use Rattle.laws.proofs.SameQueues.{Same, queues-same}
+use Rattle.rules.proofs.SameStep.{many, with-fix, present-same, answer-same, played-same, after-same}
+use Rattle.rules.proofs.Starts.{start-same, start-legal}
 use Rattle.line.proofs.Line.{Placed, zonesIn, inside, fieldOf, empty-is}
 use Rattle.line.proofs.CountedOnLine.{total-same, in-line, on-runway, in-operation, all-counted, how-many-runway}
 use Rattle.line.proofs.Orderly.{Orderly, length-zones}
@@ -129,8 +132,9 @@ module _ (legs : Legs) (l : T (legalLegs legs)) (rs : List Request) where
       let x = ap exitedFrom asked in
       omega arith
 
-  pub demand-3 : Demand3 legs rs
-  demand-3 =
+  -- demand 3 from the empty field with these legs
+  demand-empty : Demand3Of (played (emptyField legs) rs) (fieldAfter (emptyField legs) rs)
+  demand-empty =
       let f = from-empty .first-then in
       let line = from-empty .line-then in
       let runway = from-empty .runway-then in
@@ -158,3 +162,41 @@ module _ (legs : Legs) (l : T (legalLegs legs)) (rs : List Request) where
             let most = light f line runway legs o in
             omega arith;
       }
+
+-- ---- from every empty field
+
+-- what holds of the answers and of a field holds of the answers and of a field with the same queues
+module _ {f g : Field} (s : Same f g) where
+  demand-same : (answers : List (Request × Answer)) → Demand3Of answers g → Demand3Of answers f
+  unfolding presentFor inOperation inArea perFix allFlownOut
+  demand-same answers d =
+      let counts = sym (many s) in
+      let queues = sym (queues-same f g s) in
+      let fixes = sym (with-fix s) in
+      record {
+        no-10 = d .no-10;
+        no-25 = d .no-25;
+        operation = subst (λ (h : ℕ → ℕ). total h operation ≤ 4) counts (d .operation);
+        areas = λ side t. subst (λ (h : ℕ → ℕ). total h (area side) ≤ 2) counts (d .areas side t);
+        fixes = λ side t. subst (λ (h : ℕ → ℕ → ℕ). total (h side) operation ≤ 2) fixes (d .fixes side t);
+        holdings = λ zone t. subst (λ (h : ℕ → ℕ). h zone ≤ 1) counts (d .holdings zone t);
+        balance = d .balance ∙ ap (λ (n : ℕ). taxiedOff answers + exitedFrom answers + n) (sym (present-same s));
+        balance-each =
+            λ desk.
+            d .balance-each desk
+            ∙ ap (λ (h : ℕ → List Aircraft). taxiedOff (ofDesk desk answers) + exitedFrom (ofDesk desk answers) + total (λ z. ownedBy desk (h z)) everywhere) queues;
+        never-stuck =
+            λ p t.
+            let m = d .never-stuck (subst (λ (n : ℕ). 0 < n) (present-same s) p)
+            (subst (λ (h : ℕ → List Aircraft). T (every (λ z. every legFlownOut (h z)) (zonesFrom 7 6))) (sym queues) t) in
+            record { request = m .request; kind = m .kind; accepted = ap (λ (a : Answer). a .number) (answer-same s (m .request)) ∙ m .accepted };
+        few-moves =
+            λ more.
+            subst (λ (ps : List (Request × Answer)). accepted addsMoves ps ≡ 0 → moves ps ≤ mostMoves) (sym (played-same s more)) (d .few-moves more);
+      }
+
+pub demand-3 : Demand3
+demand-3 f t rs =
+    let s = start-same f t in
+    demand-same (after-same s rs) (played f rs)
+    (subst (λ (ps : List (Request × Answer)). Demand3Of ps (fieldAfter (emptyField (f .legs)) rs)) (sym (played-same s rs)) (demand-empty (f .legs) (start-legal f t) rs))

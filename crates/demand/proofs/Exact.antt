@@ -1,4 +1,4 @@
--- Exactness holds after every list of requests from an empty field with legs in whole 64ths. Assumes nothing.
+-- Exactness holds after every list of requests from every empty field that a list may start from, with legs in whole 64ths. Assumes nothing.
 use mathlib.Core.Path.{_≡_, refl, sym, ap, _∙_, subst, subst⁻¹}
 use mathlib.Core.Logic.{_⊎_, inl, inr}
 use mathlib.Core.Bool.{Bool, true, false, cond, _&&_}
@@ -10,7 +10,7 @@ use lib.Ieee.Fits.{and-l, and-r}
 use borrow.Author.Tests.{eqb-true, eqb-false, eq-eqb, ne-eqb}
 use Rattle.limits.specs.Limits.{longestTick}
 use Rattle.leg.specs.Ticks.{Between}
-use Rattle.request.specs.Input.{isEntry, isTick}
+use Rattle.request.specs.Input.{within, isEntry, isTick}
 use Rattle.request.specs.declared.Request.{Request}
 use Rattle.request.proofs.ByKind.{tick-known}
 use Rattle.field.specs.declared.Aircraft.{Aircraft}
@@ -22,11 +22,15 @@ use Rattle.questions.specs.declared.Place.{Place}
 use Rattle.questions.specs.Find.{placeOf}
 use Rattle.order.specs.Model.{Side, rightSide}
 use Rattle.rules.specs.Step.{numberOf, stepOf}
+use Rattle.rules.specs.declared.Answer.{Answer}
 use Rattle.rules.specs.Play.{fieldAfter, played}
-use Rattle.demand.specs.Exact.{WholeLegs, inMiles, Flight, noFlight, ticking, entry, onward, afterMiss, flightWith, flightAfter, Account, Exact}
+use Rattle.demand.specs.Exact.{WholeLegs, inMiles, Flight, noFlight, ticking, entry, onward, afterMiss, flightWith, flightAfter, Account, ExactOf, Exact}
 use Rattle.field.proofs.TestLaws.{decided, if-true, if-false}
 use Rattle.field.proofs.NumberLists.{or-false-left, or-false-right, alone}
 use Rattle.laws.proofs.TickLaws.{number-kept}
+use Rattle.laws.proofs.SameQueues.{Same, queues-same}
+use Rattle.rules.proofs.SameStep.{played-same, after-same}
+use Rattle.rules.proofs.Starts.{start-same}
 use Rattle.line.proofs.Line.{Placed, numbersOf, inside, fieldOf, empty-is}
 use Rattle.line.proofs.CountedOnLine.{in-line, on-runway}
 use Rattle.line.proofs.Located.{zone-split, located, located-runway}
@@ -259,8 +263,9 @@ module _ (w : WholeLegs) (s : ℕ → Flight) where
   runway-each [] p = tt
   runway-each (x ∷ runway) p = (p .0 .account, runway-each runway (p .1))
 
-pub exactness : (w : WholeLegs) (rs : List Request) → Exact w rs
-exactness w rs =
+-- from the empty field with these legs, ..
+exact-empty : (w : WholeLegs) (rs : List Request) → ExactOf w (played (emptyField (inMiles w)) rs) (fieldAfter (emptyField (inMiles w)) rs)
+exact-empty w rs =
     let g = emptyField (inMiles w) in
     let start : KnownOn w (λ n. noFlight) g =
     record { first = rightSide; line = []; runway = []; stands = empty-is (inMiles w); known = record { orderly = empty-orderly (inMiles w) (legs-legal w); known-line = tt; known-runway = tt } } in
@@ -272,3 +277,13 @@ exactness w rs =
     (runway-each w s (k .runway) (k .known .known-runway)))
     (λ z t. subst (Each (AccountIn w s z)) (sym (ap (λ (h : Field). inZone h z) (k .stands) ∙ in-line (k .first) (k .line) (k .runway) (inMiles w) z t))
     (inside-each w s z (k .line) (k .known .known-line)))
+
+-- .. and from every empty field that has them
+pub exactness : Exact
+exactness w f t l rs =
+    let s : Same f (emptyField (inMiles w)) = subst (λ (legs : Legs). Same f (emptyField legs)) l (start-same f t) in
+    let after = after-same s rs in
+    let answers = played f rs in
+    let AllAt : (ℕ → List Aircraft) → Type 0 = λ h. (zone : ℕ) → T (within 1 13 zone) → Each (λ a. Account (flightAfter w (a .number) noFlight answers) zone a) (h zone) in
+    subst AllAt (sym (queues-same (fieldAfter f rs) (fieldAfter (emptyField (inMiles w)) rs) after))
+    (subst (λ (ps : List (Request × Answer)). ExactOf w ps (fieldAfter (emptyField (inMiles w)) rs)) (sym (played-same s rs)) (exact-empty w rs))

@@ -122,10 +122,9 @@ past-waiting z k n e = if-false (n - k) 0 e
 past-none : (z k : ℕ) → pastIn z k 0 ≡ 0
 past-none z k = either-way (λ (n : ℕ). n ≡ 0) (isFlyingZone z) (0 - k) 0 (λ e. let h : 0 - k ≡ 0 = omega arith in h) (λ e. refl)
 
--- ---- what is kept of an aircraft in zone z: its account, its speed, its leg, and a zone of its flight that is flown in where z is
+-- ---- what is kept of an aircraft in zone z: its account, its leg, and a zone of its flight that is flown in where z is
 pub record Known (w : WholeLegs) (s : Flight) (z : ℕ) (a : Aircraft) : Type 0 where
   pub account : Account s z a
-  pub same-speed : a .speed ≡ s .speed
   pub own-leg : LegKnown w z (s .leg)
   pub same-flown : isFlyingZone (s .zone) ≡ isFlyingZone z
 
@@ -150,13 +149,13 @@ pub known-waiting : {w : WholeLegs} {s : Flight} {z : ℕ} {a : Aircraft} (amoun
 known-waiting {s = s} {z} {a} amount e p =
     record {
       account = record {
+        speed = p .account .speed;
         leg = p .account .leg;
         miles = λ u. absurd (false≢true (sym e ∙ passed {b = isFlyingZone z} u));
         waited =
             subst (λ (n : ℕ). Exactly (a .waited) (min mostIn4096ths (s .before + n)))
             (past-waiting z (s .leg) (a .speed * s .ticks) e ∙ sym (past-waiting z (s .leg) (a .speed * (s .ticks + amount)) e)) (p .account .waited);
       };
-      same-speed = p .same-speed;
       own-leg = p .own-leg;
       same-flown = p .same-flown;
     }
@@ -193,7 +192,7 @@ module _ {w : WholeLegs} {amount : ℕ} {s : Flight} {z : ℕ} {a : Aircraft} (f
     -- so its account is kept
     flies : Known w (ticking s amount) z (tickedAircraft amount a)
     unfolding tickedAircraft
-    flies = record { account = record { leg = p .account .leg; miles = λ u. miles-more; waited = waited-more }; same-speed = p .same-speed; own-leg = p .own-leg; same-flown = p .same-flown }
+    flies = record { account = record { speed = p .account .speed; leg = p .account .leg; miles = λ u. miles-more; waited = waited-more }; own-leg = p .own-leg; same-flown = p .same-flown }
 
   -- in its zone after a tick
   pub known-ticked : Known w (ticking s amount) z (tickedAt amount z a)
@@ -221,7 +220,7 @@ module _ {w : WholeLegs} {s : Flight} {e g : Placed} (p : Known w s (e .zone) (e
   so-far : s .before + pastIn (e .zone) (s .leg) (e .aircraft .speed * s .ticks) ≡ pastSoFar s
   so-far =
       ap (λ (b : Bool). s .before + cond b (e .aircraft .speed * s .ticks - s .leg) 0) (sym (p .same-flown))
-      ∙ ap (λ (v : ℕ). s .before + pastIn (s .zone) (s .leg) (v * s .ticks)) (p .same-speed)
+      ∙ ap (λ (v : ℕ). s .before + pastIn (s .zone) (s .leg) (v * s .ticks)) (p .account .speed)
 
   -- with a leg of k / 4096 miles that begins: what its leg before gave is added up
   known-into : {zone k : ℕ} → zone ≡ g .zone → Exactly (g .aircraft .leg) k → LegKnown w (g .zone) k
@@ -229,13 +228,13 @@ module _ {w : WholeLegs} {s : Flight} {e g : Placed} (p : Known w s (e .zone) (e
   known-into {zone} {k} there exact own =
       record {
         account = record {
+          speed = i .speed ∙ p .account .speed;
           leg = exact;
           miles = λ u. begun k (g .zone) (g .aircraft) (i .begins) u;
           waited =
               subst (λ (x : Float). Exactly x (min mostIn4096ths (pastSoFar s + pastIn (g .zone) k (g .aircraft .speed * 0)))) (sym (i .waited))
               (subst (λ (n : ℕ). Exactly (e .aircraft .waited) (min mostIn4096ths n)) (so-far ∙ none-yet (g .zone) k (g .aircraft .speed) (pastSoFar s)) (p .account .waited));
         };
-        same-speed = i .speed ∙ p .same-speed;
         own-leg = own;
         same-flown = ap isFlyingZone there;
       }
@@ -267,7 +266,7 @@ module _ {w : WholeLegs} {s : Flight} {e g : Placed} (p : Known w s (e .zone) (e
       let ahead : Exactly (legAfterMiss (sixtyFourths (w .missed-leg)) (e .aircraft .progress) (e .aircraft .leg)) (j + (k - min k (v * s .ticks))) =
       leg-after-miss-exact (sixtyFourths (w .missed-leg)) (e .aircraft .leg) (e .aircraft .progress) j k (min k (v * s .ticks)) (sixty-fourths-in-4096ths (w .missed-leg) (w .missed-fits) .exact)
       (p .account .leg) (p .account .miles (flown-final (e .zone) (on .from-final))) (omega arith) (omega arith) in
-      subst (Exactly (g .aircraft .leg)) (left-of j k (v * s .ticks) ∙ ap (λ (x : ℕ). j + (k - x * s .ticks)) (p .same-speed))
+      subst (Exactly (g .aircraft .leg)) (left-of j k (v * s .ticks) ∙ ap (λ (x : ℕ). j + (k - x * s .ticks)) (p .account .speed))
       (subst (λ (x : Float). Exactly x (j + (k - min k (v * s .ticks)))) (sym (on .leg-ahead)) ahead)
 
   -- .. within the range of an own leg.
@@ -295,13 +294,13 @@ known-along {w} {s} {r} {e} {g} p along =
     let none : s .leg ≡ 0 = p .own-leg .none i in
     record {
       account = record {
+        speed = on .same-speed ∙ p .account .speed;
         leg = subst (λ (x : Float). Exactly x (s .leg)) (sym (on .leg-is ∙ leg-not-flown (inMiles w) (g .zone) j)) (subst (Exactly (whole 0)) (sym none) (refl, refl));
         miles = λ u. absurd (false≢true (sym j ∙ passed {b = isFlyingZone (g .zone)} u));
         waited =
             subst (λ (x : Float). Exactly x (min mostIn4096ths (s .before + pastIn (g .zone) (s .leg) (g .aircraft .speed * s .ticks))))
             (sym (on .same-waited)) (subst (λ (n : ℕ). Exactly (e .aircraft .waited) (min mostIn4096ths (s .before + n))) same (p .account .waited));
       };
-      same-speed = on .same-speed ∙ p .same-speed;
       own-leg = record { range = λ u. absurd (false≢true (sym j ∙ passed {b = isFlyingZone (g .zone)} u)); none = λ z. none; all-of-final = λ z. absurd (final-flown z) };
       same-flown = p .same-flown ∙ i ∙ sym j;
     }
@@ -315,13 +314,13 @@ unfolding ofInt
 known-entry {z = z} {a} v x l j h =
     record {
       account = record {
+        speed = v;
         leg = subst (λ (y : Float). Exactly y 0) (sym l) (refl, refl);
         miles = λ u. absurd (false≢true (sym j ∙ passed {b = isFlyingZone z} u));
         waited =
             subst (λ (y : Float). Exactly y (min mostIn4096ths (0 + pastIn z 0 (a .speed * 0)))) (sym x)
             (subst (λ (n : ℕ). Exactly (whole 0) (min mostIn4096ths n)) (none-yet z 0 (a .speed) 0) (refl, refl));
       };
-      same-speed = v;
       own-leg =
           record {
             range = λ u. absurd (false≢true (sym j ∙ passed {b = isFlyingZone z} u));

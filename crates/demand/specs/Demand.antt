@@ -7,13 +7,13 @@ use lib.Dec.{T, eqb}
 use Rattle.limits.specs.Limits.{mostMoves}
 use Rattle.request.specs.Input.{within}
 use Rattle.request.specs.declared.Request.{Request}
-use Rattle.field.specs.declared.Legs.{Legs}
 use Rattle.field.specs.declared.Field.{Field}
-use Rattle.field.specs.Airspace.{emptyField, inZone, legFlownOut, zonesFrom}
+use Rattle.field.specs.Airspace.{inZone, legFlownOut, zonesFrom}
 use Rattle.questions.specs.Counts.{howMany, presentOn, presentFor, inOperation, inArea, perFix}
 use Rattle.field.specs.Lists.{every}
 use Rattle.rules.specs.declared.Answer.{Answer}
 use Rattle.rules.specs.Step.{stepOf}
+use Rattle.rules.specs.Start.{emptyStart}
 use Rattle.rules.specs.Play.{fieldAfter, played, ofDesk, accepted, addsMoves, letIn, taxiedOff, exitedFrom, moves}
 
 -- no answer in the list has the number
@@ -57,6 +57,6 @@ pub record Demand3Of (answers : List (Request × Answer)) (f : Field) : Type 0 w
   -- until somebody enters or misses there are at most 27 moves (02, 2.14; 01, "Any list of requests", has 29)
   pub few-moves : AtMostMoves mostMoves f
 
--- that, after a list of requests from the empty field with these legs
-abbrev pub Demand3 : Legs → List Request → Type 0
-Demand3 legs rs = Demand3Of (played (emptyField legs) rs) (fieldAfter (emptyField legs) rs)
+-- demand 3: that holds of every list of requests, from every empty field that a list may start from
+abbrev pub Demand3 : Type 0
+Demand3 = (f : Field) → T (emptyStart f) → (rs : List Request) → Demand3Of (played f rs) (fieldAfter f rs)

@@ -1,5 +1,6 @@
 -- Exactness, of demand 2 (01, "The requests"): with legs in whole 64ths of a mile, the miles of everyone who flies are a whole number of 4096ths, which its
 -- speed, its leg and the ticks since that began tell. So are the miles waited (02, 2.2) and an aircraft's own leg (02, 2.7).
+use mathlib.Core.Path.{_≡_}
 use mathlib.Core.Bool.{cond, _&&_, _||_}
 use mathlib.Core.List.{List, [], _∷_}
 use Prim.Native.Nat.{ℕ, _+_, _-_, _*_, min}
@@ -11,9 +12,10 @@ use Rattle.request.specs.declared.Request.{Request}
 use Rattle.field.specs.declared.Aircraft.{Aircraft}
 use Rattle.field.specs.declared.Legs.{Legs}
 use Rattle.field.specs.declared.Field.{Field}
-use Rattle.field.specs.Airspace.{missed, base, intermediate, right, left, isFlyingZone, inZone, legsIn64ths, emptyField}
+use Rattle.field.specs.Airspace.{missed, base, intermediate, right, left, isFlyingZone, inZone, legsIn64ths}
 use Rattle.field.specs.Lists.{Each}
 use Rattle.rules.specs.declared.Answer.{Answer}
+use Rattle.rules.specs.Start.{emptyStart}
 use Rattle.rules.specs.Play.{fieldAfter, played, isAccepted}
 
 -- four legs in whole 64ths of a mile, 1 to 4096 each
@@ -99,6 +101,8 @@ flightAfter w number s (p ∷ ps) = flightAfter w number (flightWith w number s 
 
 -- what is exact of an aircraft in zone z with this flight
 pub record Account (s : Flight) (z : ℕ) (a : Aircraft) : Type 0 where
+  -- its speed is that of its flight, the amount of the entry that let it in
+  pub speed : a .speed ≡ s .speed
   -- in every zone its own leg is that of its flight, in 4096ths (02, 2.7)
   pub leg : Exactly (a .leg) (s .leg)
   -- where it flies, its miles in 4096ths are its speed times its ticks, or that leg where it is shorter
@@ -106,12 +110,12 @@ pub record Account (s : Flight) (z : ℕ) (a : Aircraft) : Type 0 where
   -- in every zone its miles waited, in 4096ths, are what it flew past the ends of its legs, this one included, and no more than 4096 miles (02, 2.2)
   pub waited : Exactly (a .waited) (min mostIn4096ths (s .before + pastIn z (s .leg) (a .speed * s .ticks)))
 
--- that is so of everyone on the field f after a list of requests with these answers, ..
+-- that is so of everyone on the field f after a list of requests with these answers
 abbrev pub ExactOf : WholeLegs → List (Request × Answer) → Field → Type 0
 ExactOf w answers f =
     (zone : ℕ) → T (within 1 13 zone)
     → Each (λ a. Account (flightAfter w (a .number) noFlight answers) zone a) (inZone f zone)
 
--- .. played from the empty field
-abbrev pub Exact : WholeLegs → List Request → Type 0
-Exact w rs = ExactOf w (played (emptyField (inMiles w)) rs) (fieldAfter (emptyField (inMiles w)) rs)
+-- exactness: that is so after every list of requests, from every empty field that a list may start from whose legs are whole 64ths
+abbrev pub Exact : Type 0
+Exact = (w : WholeLegs) (f : Field) → T (emptyStart f) → f .legs ≡ inMiles w → (rs : List Request) → ExactOf w (played f rs) (fieldAfter f rs)

@@ -8,7 +8,9 @@ use Rattle.limits.specs.Limits.{mostMoves}
 use Rattle.practice.specs.File.{legsOf, legsBody, fileNumber}
 use Rattle.practice.proofs.Meaning.{held}
 use Rattle.field.specs.declared.Field.{Field}
+use Rattle.field.specs.Airspace.{emptyField}
 use Rattle.rules.specs.Play.{played, moves}
+use Rattle.rules.proofs.Starts.{empty-starts}
 use Rattle.text.specs.Text.{lineOf}
 use Rattle.text.proofs.Texts.{line-length}
 use Rattle.playing.specs.declared.Played.{Played}
@@ -39,7 +41,7 @@ module _ (file : List ℕ) where
         let h = held file (legsOf (legsBody file)) (requestsInside file) (practice-holds file e) in
         let legal = file-legs-legal (legsOf (legsBody file)) (h .legs-legal) in
         subst (λ (f : Field). moves (played f (heldRequests f)) ≤ mostMoves) (sym (ap (λ (p : Played). p .field) (played-held file e)))
-        (emptied (legsHeld file) legal (requestsInside file) .few-moves)
+        (emptied (emptyField (legsHeld file)) (empty-starts (legsHeld file) legal) (requestsInside file) .few-moves)
 
 -- the last line, with a count of 64 bits
 word-length : (e : Ending) → length (endWord e) ≤ 8

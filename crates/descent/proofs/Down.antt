@@ -22,7 +22,7 @@ use Rattle.field.proofs.ArrivalLaws.{into-arrived}
 use Rattle.field.proofs.TestLaws.{if-true}
 use Rattle.field.proofs.Shapes.{one-of-two}
 use Rattle.field.proofs.NumberLists.{area-different}
-use Rattle.laws.proofs.EditLaws.{Shaped, shaped-without-head, shaped-with-zone, zone-kept, each-zone-with, queue-replaced, queue-kept, queue-taken, queue-put}
+use Rattle.laws.proofs.EditLaws.{Shaped, shaped-without-head, shaped-with-tail, shaped-with-zone, zone-kept, each-zone-with, queue-replaced, queue-kept, queue-taken, queue-put}
 use Rattle.laws.proofs.CountLaws.{sum-with}
 
 -- what is taken off a sum for one zone is added for another
@@ -81,6 +81,10 @@ module _ {f : Field} {side : ℕ} (a : AloneAbove f side) where
 
   shaped₁ : Shaped f₁
   shaped₁ = shaped-with-zone f side (withoutHead (zoneOf f side)) from-zone (a .shaped .zones) (a .shaped) (shaped-without-head (zoneOf f side) (a .shaped .zone side))
+
+  -- the field has its shape then
+  pub shaped-down : Shaped down
+  shaped-down = shaped-with-zone f₁ w q₂ to-zone (shaped₁ .zones) shaped₁ (shaped-with-tail (zoneOf f₁ w) lower (shaped₁ .zone w))
 
   -- ---- every queue
   taken : inZone f₁ side ≡ []

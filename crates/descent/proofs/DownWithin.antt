@@ -39,7 +39,7 @@ use Rattle.descent.proofs.Down.{in-operation, in-everywhere, operation-
 -- ---- lists with each number as often
 module _ (xs ys : List ℕ) (e : (n : ℕ) → count xs n ≡ count ys n) where
   -- who is in one is in the other
-  in-same : (n : ℕ) → isIn n xs ≡ isIn n ys
+  pub in-same : (n : ℕ) → isIn n xs ≡ isIn n ys
   in-same n =
       elim (decided (isIn n xs)) [
         | inl i ↦ i ∙ sym (elim (decided (isIn n ys)) [ inl j ↦ j | inr j ↦ absurd (true≢false (sym i ∙ absent-count xs n (e n ∙ count-absent ys n j))) ])
@@ -58,14 +58,14 @@ every-some p (x ∷ xs) ys h t =
     or-true false = refl
 
 -- the one with a number stands at a place of zone z, ..
-record StandsAt (f : Field) (n z place : ℕ) : Type 0 where
-  zone : Between 1 13 z
-  first : 1 ≤ place
-  last : place ≤ howMany f z
-  has : aircraftAt f z place .number ≡ n
+pub record StandsAt (f : Field) (n z place : ℕ) : Type 0 where
+  pub zone : Between 1 13 z
+  pub first : 1 ≤ place
+  pub last : place ≤ howMany f z
+  pub has : aircraftAt f z place .number ≡ n
 
 -- .. and where numbers differ the fix of that one is the number's
-fix-at : {f : Field} {n z place : ℕ} → T (allDifferent (numbersIn f everywhere)) → StandsAt f n z place → fixOf f n ≡ aircraftAt f z place .fix
+pub fix-at : {f : Field} {n z place : ℕ} → T (allDifferent (numbersIn f everywhere)) → StandsAt f n z place → fixOf f n ≡ aircraftAt f z place .fix
 unfolding fixOf
 fix-at {f} {n} {z} {place} d s = ap (λ (p : Place). aircraftAt f (p .zone) (p .place) .fix) (ap (placeOf f) (sym (s .has)) ∙ own-place f z place d (s .zone) (s .first) (s .last))
 

@@ -1,16 +1,16 @@
--- Held down, the button empties every field that requests reach: after at most so many ticks somebody moves, and every move makes the order
+-- Held down, the button empties every field that requests reach: after at most so many ticks in a row somebody moves, and every move makes the order
 -- lighter. Assumes nothing.
 use mathlib.Core.Path.{_≡_, refl, sym, ap, _∙_, subst, subst⁻¹}
 use mathlib.Core.Logic.{_⊎_, inl, inr}
 use mathlib.Core.Bool.{Bool, true, false, cond, not, _&&_}
-use mathlib.Core.List.{List}
+use mathlib.Core.List.{List, _∷_}
 use Prim.Native.Nat.{ℕ, zero, suc, _+_, _*_, _≤_, _<_}
 use native.Mathlib.Nat.{pos-of-ne-zero, le-trans, le-of-eq}
 use native.Mathlib.Omega.{arith}
-use lib.Dec.{T, eqb, leb, le→leb}
+use lib.Dec.{T, eqb, leb, ltb, le→leb}
 use lib.Ieee.Fits.{and-i}
 use lib.ListN.{length}
-use borrow.Author.Tests.{eq-eqb, eqb-true, eqb-false}
+use borrow.Author.Tests.{eq-eqb, ne-eqb, eqb-true, eqb-false}
 use Rattle.limits.specs.Limits.{longestTick, mostMoves, mostTicks, mostPresses}
 use Rattle.request.specs.Input.{within, isEntry}
 use Rattle.request.specs.declared.Request.{Request}
@@ -19,7 +19,7 @@ use Rattle.field.specs.declared.Aircraft.{Aircraft}
 use Rattle.field.specs.declared.Legs.{Legs}
 use Rattle.field.specs.declared.Field.{Field}
 use Rattle.field.specs.Airspace.{emptyField}
-use Rattle.field.proofs.TestLaws.{decided, failed, zones-imply}
+use Rattle.field.proofs.TestLaws.{decided, failed, zones-imply, if-false, either-way}
 use Rattle.questions.specs.Counts.{presentOn}
 use Rattle.bounds.specs.Bounds.{withinBounds}
 use Rattle.fits.specs.Fits.{legalLegs}
@@ -30,6 +30,8 @@ use Rattle.rules.specs.Play.{fieldAfter, played, accepted, addsMoves}
 use Rattle.rules.proofs.Checks.{effect-at}
 use Rattle.rules.proofs.Refusals.{accepted-within}
 use Rattle.rules.proofs.StepLaws.{number-is, field-accepted}
+use Rattle.rules.proofs.SameStep.{after-same}
+use Rattle.rules.proofs.Starts.{start-same, start-legal, empty-starts}
 use Rattle.line.proofs.Line.{Placed, fieldOf}
 use Rattle.line.proofs.Orderly.{Orderly}
 use Rattle.line.proofs.LineWithin.{within-bounds}
@@ -46,7 +48,8 @@ use Rattle.press.specs.Press.{longTick, proposalOf}
 use Rattle.press.specs.HeldDown.{thenPressed, presses, heldRequests, heldOf}
 use Rattle.press.proofs.Proposals.{Proposed, proposed, proposal-is, tick-accepted, button-kind-moves}
 use Rattle.press.proofs.Pressing.{presses-none, presses-more, presses-play, presses-end, held-is}
-use Rattle.emptied.specs.Emptied.{Emptied}
+use Rattle.emptied.specs.Emptied.{leadingTicks, ticksInARow, EmptiedOn, Emptied}
+use Rattle.emptied.proofs.SamePresses.{emptied-same}
 use Rattle.emptied.proofs.OnePress.{pressed-on}
 use Rattle.emptied.proofs.Arriving.{FlownAfter, all-arrive, after-tick, all-flown}
 
@@ -116,6 +119,15 @@ no-more-moves k t =
 
 one-move : (k : ℕ) → T (movesOn k) → one (within 3 11 k) ≡ 1
 one-move k t = ap one (button-kind-moves k t)
+
+-- what is proposed is no entry and no miss
+no-adding : (r : Request) → (r ≡ longTick) ⊎ T (movesOn (r .kind)) → addsMoves (r .kind) ≡ false
+no-adding r (inl e) = ap (λ (q : Request). addsMoves (q .kind)) e
+no-adding r (inr m) = no-more-moves (r .kind) m
+
+-- a move is no tick
+no-tick : (r : Request) (rs : List Request) → T (movesOn (r .kind)) → leadingTicks (r ∷ rs) ≡ 0
+no-tick r rs t = let h = within-high 3 11 (r .kind) (button-kind-moves (r .kind) t) in if-false (suc (leadingTicks rs)) 0 (ne-eqb (r .kind) 12 (λ e. omega (arith, h, e)))
 
 module _ (legs : Legs) where
   -- after the longest tick
@@ -191,6 +203,52 @@ module _ (legs : Legs) where
   empties (suc v) g s zero room = absurd (omega arith)
   empties (suc v) g s (suc n) room = until-move v (empties v) mostTicks g s (all-arrive g (bounded s) mostTicks (omega arith)) n (omega arith)
 
+  -- ---- no more than k ticks stand in a row where after k of them every leg is flown out
+  row-by : {w : ℕ} (g : Field) → Stands legs g w → (n k : ℕ) → (proposalOf g ≡ Play longTick → leadingTicks (presses (suc n) g) ≤ k) → leadingTicks (presses (suc n) g) ≤ k
+  row-by g s n k tick = by (proposalOf g) refl (subst⁻¹ (Proposed g) (proposal-is g (bounded s)) (proposed g (bounded s)))
+    where
+      by : (p : Proposal) → proposalOf g ≡ p → Proposed g p → leadingTicks (presses (suc n) g) ≤ k
+      by Refused e q = absurd q
+      by None e q = let h = ap leadingTicks (presses-end (suc n) g e) in omega (arith, h)
+      by (Play r) e q = elim (q .1) [
+        | inl t ↦ tick (e ∙ ap Play t)
+        | inr t ↦ (let h = ap leadingTicks (presses-play n g r e) ∙ no-tick r (presses n (stepOf g r .field)) t in omega (arith, h))
+      ]
+
+  row : {w : ℕ} (n k : ℕ) (g : Field) → Stands legs g w → FlownAfter k g → leadingTicks (presses n g) ≤ k
+  row zero k g s h = let e = ap leadingTicks (presses-none g) in omega (arith, e)
+  row (suc n) zero g s h =
+      row-by g s n 0
+      (λ e.
+      elim (decided (eqb (presentOn g) 0)) [
+        | inl y ↦ (let h = ap leadingTicks (presses-end (suc n) g (pressed-on g (bounded s) .nobody-then-none (eqb-true (presentOn g) 0 y))) in omega (arith, h))
+        | inr y ↦ (let m = moves-on s (pos-of-ne-zero (eqb-false (presentOn g) 0 y)) (all-flown g h) in absurd (pressed-on g (bounded s) .no-move e (m .request) (m .kind) (m .accepted)))
+      ])
+  row (suc n) (suc k) g s h =
+      row-by g s n (suc k)
+      (λ e.
+      let rest = row n k (stepOf g longTick .field) (tick-stands s) (tick-flown s k h) in
+      let here = ap leadingTicks (presses-play n g longTick e) in
+      omega (arith, rest, here))
+
+  rows : {w : ℕ} (n : ℕ) (g : Field) → Stands legs g w → ticksInARow (presses n g) ≤ mostTicks
+  rows zero g s = let e = ap ticksInARow (presses-none g) in omega (arith, e)
+  rows {w} (suc n) g s =
+      by (λ f h. rows {w = w} n f h) (row (suc n) mostTicks g s (all-arrive g (bounded s) mostTicks (omega arith))) (proposalOf g) refl
+      (subst⁻¹ (Proposed g) (proposal-is g (bounded s)) (proposed g (bounded s)))
+    where
+      by : ((f : Field) → Stands legs f w → ticksInARow (presses n f) ≤ mostTicks) → leadingTicks (presses (suc n) g) ≤ mostTicks
+          → (p : Proposal) → proposalOf g ≡ p → Proposed g p → ticksInARow (presses (suc n) g) ≤ mostTicks
+      by rest first Refused e q = absurd q
+      by rest first None e q = let h = ap ticksInARow (presses-end (suc n) g e) in omega (arith, h)
+      by rest first (Play r) e q =
+          let others = presses n (stepOf g r .field) in
+          let is = presses-play n g r e in
+          subst⁻¹ (λ (rs : List Request). ticksInARow rs ≤ mostTicks) is
+          (either-way (λ (m : ℕ). m ≤ mostTicks) (ltb (ticksInARow others) (leadingTicks (r ∷ others))) (leadingTicks (r ∷ others)) (ticksInARow others)
+          (λ b. subst (λ (rs : List Request). leadingTicks rs ≤ mostTicks) is first)
+          (λ b. rest (stepOf g r .field) (stands-after s r (q .0) (no-adding r (q .1)) w (omega arith))))
+
 -- ---- every field that requests reach
 pub presses-few : (n : ℕ) (g : Field) → length (presses n g) ≤ n
 presses-few zero g = let e = ap length (presses-none g) in omega arith
@@ -209,10 +267,6 @@ no-adds : (n : ℕ) (g : Field) → T (withinBounds g) → accepted addsMoves (p
 no-adds zero g t = ap (λ (rs : List Request). accepted addsMoves (played g rs)) (presses-none g)
 no-adds (suc n) g t = by (λ f u. no-adds n f u) (proposalOf g) refl (subst⁻¹ (Proposed g) (proposal-is g t) (proposed g t))
   where
-    none : (r : Request) → (r ≡ longTick) ⊎ T (movesOn (r .kind)) → addsMoves (r .kind) ≡ false
-    none r (inl e) = ap (λ (q : Request). addsMoves (q .kind)) e
-    none r (inr m) = no-more-moves (r .kind) m
-
     counts : (r : Request) → addsMoves (r .kind) ≡ false → (b : Bool) → _≡_ {A = ℕ} (cond (b && addsMoves (r .kind)) 1 0) 0
     counts r e true = ap (λ (b : Bool). cond b 1 0) e
     counts r e false = refl
@@ -221,10 +275,11 @@ no-adds (suc n) g t = by (λ f u. no-adds n f u) (proposalOf g) refl (subst⁻¹
     by rest Refused e q = absurd q
     by rest None e q = ap (λ (rs : List Request). accepted addsMoves (played g rs)) (presses-end (suc n) g e)
     by rest (Play r) e q =
-        let first = counts r (none r (q .1)) (eqb (stepOf g r .answer .number) 0) in
+        let first = counts r (no-adding r (q .1)) (eqb (stepOf g r .answer .number) 0) in
         let others = rest (stepOf g r .field) (accepted-within g r (number-is g r ∙ q .0)) in
         ap (λ (rs : List Request). accepted addsMoves (played g rs)) (presses-play n g r e) ∙ sums first others
 
+-- from the empty field with legal legs, ..
 module _ (legs : Legs) (l : T (legalLegs legs)) (rs : List Request) where
   abbrev reached : Field
   reached = fieldAfter (emptyField legs) rs
@@ -241,9 +296,9 @@ module _ (legs : Legs) (l : T (legalLegs legs)) (rs : List Request) where
         light = light (run .first-then) (run .line-then) (run .runway-then) legs (run .orderly);
       }
 
-  pub emptied : Emptied reached
+  emptied-from-empty : EmptiedOn reached
   unfolding heldRequests
-  emptied =
+  emptied-from-empty =
       let none : presentOn (fieldAfter reached (heldRequests reached)) ≡ 0 = empties legs mostMoves reached reached-stands mostPresses (omega arith) in
       let ends = ap (λ (b : Bool). cond b ending.None ending.Spent) (eq-eqb (presentOn (fieldAfter reached (heldRequests reached))) 0 none) in
       let held : _≡_ {A = Held} (record { ending = ending.None; played = length (heldRequests reached); field = fieldAfter reached (heldRequests reached) }) (heldOf reached) =
@@ -251,6 +306,11 @@ module _ (legs : Legs) (l : T (legalLegs legs)) (rs : List Request) where
       record {
         ending = sym (ap (λ (h : Held). h .ending) held);
         nobody = sym (ap (λ (h : Held). presentOn (h .field)) held) ∙ none;
-        few-moves = demand-3 legs l rs .few-moves (heldRequests reached) (no-adds mostPresses reached (bounded reached-stands));
+        few-moves = demand-3 (emptyField legs) (empty-starts legs l) rs .few-moves (heldRequests reached) (no-adds mostPresses reached (bounded reached-stands));
+        few-ticks = rows legs mostPresses reached reached-stands;
         few = le-trans (le-of-eq (sym (ap (λ (h : Held). h .played) held))) (presses-few mostPresses reached);
       }
+
+-- .. and from every empty field that a list may start from
+pub emptied : Emptied
+emptied f t rs = emptied-same (after-same (start-same f t) rs) (emptied-from-empty (f .legs) (start-legal f t) rs)

@@ -1,4 +1,5 @@
 pub mod OnePress
 pub mod Arriving
 pub mod Spent
+pub mod SamePresses
 pub mod Emptying

@@ -3,7 +3,7 @@ use mathlib.Core.Bool.{Bool, cond, _&&_}
 use mathlib.Core.List.{List, [], _∷_, _++_}
 use Prim.Native.Nat.{ℕ, _+_, _-_}
 use lib.Dec.{eqb, leb, ltb}
-use lib.ListN.{getD, take, drop, set, replicate}
+use lib.ListN.{length, getD, take, drop, set, replicate}
 use Rattle.limits.specs.Limits.{desks, mostKept}
 use Rattle.request.specs.Input.{within, firstRefused, inputNumber}
 use Rattle.request.specs.declared.Request.{Request}
@@ -11,8 +11,9 @@ use Rattle.field.specs.declared.Legs.{Legs}
 use Rattle.field.specs.Airspace.{emptyField}
 use Rattle.field.specs.Lists.{every}
 use Rattle.finder.specs.declared.Indexed.{Indexed}
-use Rattle.finder.specs.Finder.{withinBoundsIndexed}
+use Rattle.finder.specs.Finder.{indexOf, sameIndex, withinBoundsIndexed}
 use Rattle.rules.specs.Step.{numberOf, numberAndZeros, stepOf}
+use Rattle.rules.specs.Start.{emptyStart}
 use Rattle.indexed.specs.Indexed.{withIndex}
 use Rattle.history.specs.declared.History.{History}
 use Rattle.history.specs.declared.SteppedHistory.{SteppedHistory}
@@ -27,6 +28,11 @@ startWith x = record { now = x; kept = replicate mostKept (withIndex (emptyField
 -- the start: so with the empty field with these legs
 unfoldable pub startOf : Legs → History
 startOf legs = startWith (withIndex (emptyField legs))
+
+-- whether calls may start from a history: its field is an empty one to start from (01, "Any list of requests") with its own index, and of its eight places for
+-- kept fields none counts, whatever stands in them. The start with legal legs is one of these
+unfoldable pub historyAtStart : History → Bool
+historyAtStart h = emptyStart (h .now .field) && sameIndex (h .now .index) (indexOf (h .now .field)) && eqb (length (h .kept)) mostKept && eqb (h .count) 0
 
 -- the kept fields that count, oldest first; the places behind them are not looked at
 abbrev pub counted : History → List Indexed

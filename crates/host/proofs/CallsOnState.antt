@@ -17,9 +17,9 @@ use Rattle.press_kept.specs.declared.PressedKept.{PressedKept}
 use Rattle.press_kept.specs.declared.HeldKept.{HeldKept}
 use Rattle.press_kept.specs.PressKept.{pressKept, heldKept}
 use Rattle.host.specs.Calls.{start, startNumber, leftAsBytes}
-use Rattle.replies.specs.Replies.{endNumber}
 use Rattle.layout.specs.Read.{readHistory}
 use Rattle.layout.specs.Written.{historyBytes, stateAfter}
+use Rattle.press.specs.HeldDown.{endingNumber}
 
 -- ---- a call on the history that the bytes are read as
 pub asked : (state : List ℕ) (r : Request) {h : History} {s : SteppedHistory} → s ≡ stepHistory h r → h ≡ readHistory state → s ≡ stepHistory (readHistory state) r
@@ -63,5 +63,5 @@ pub held : (state : List ℕ) {h : History} {r : HeldKept} → r ≡ heldKept h 
 held state e g = e ∙ ap heldKept g
 
 -- the state after the button held down, by what it reports
-pub after-held : (state : List ℕ) {n : ℕ} {r t : HeldKept} → n ≡ endNumber (r .ending) → r ≡ t → stateAfter state n (r .after) ≡ stateAfter state (endNumber (t .ending)) (t .after)
-after-held state {r = r} e g = ap (λ (k : ℕ). stateAfter state k (r .after)) e ∙ ap (λ (x : HeldKept). stateAfter state (endNumber (x .ending)) (x .after)) g
+pub after-held : (state : List ℕ) {n : ℕ} {r t : HeldKept} → n ≡ endingNumber (r .ending) → r ≡ t → stateAfter state n (r .after) ≡ stateAfter state (endingNumber (t .ending)) (t .after)
+after-held state {r = r} e g = ap (λ (k : ℕ). stateAfter state k (r .after)) e ∙ ap (λ (x : HeldKept). stateAfter state (endingNumber (x .ending)) (x .after)) g

@@ -21,7 +21,8 @@ use Rattle.dialect.specs.Going.{listOf}
 use Rattle.dialect_field.specs.Coming.{fieldOfList}
 use Rattle.layout.specs.Read.{readHistory}
 use Rattle.layout.specs.Written.{stateAfter}
-use Rattle.replies.specs.Replies.{answerNumbers, requestNumbers, endNumber, heldNumbers, pairGaps, spacingNumbers, listingNumbers}
+use Rattle.replies.specs.Replies.{answerNumbers, requestNumbers, heldNumbers, pairGaps, spacingNumbers, listingNumbers}
+use Rattle.press.specs.HeldDown.{endingNumber}
 
 -- ---- the start (01)
 
@@ -80,7 +81,7 @@ replyOf h press =
     record { number = a .number; request = requestNumbers (p .proposal); numbers = answerNumbers a; gaps = [] }
 replyOf h holdDown =
     let k = heldKept h in
-    record { number = endNumber (k .ending); request = []; numbers = heldNumbers (k .played) (k .ending); gaps = [] }
+    record { number = endingNumber (k .ending); request = []; numbers = heldNumbers (k .played) (k .ending); gaps = [] }
 replyOf h (spaced n) = let s = spacingsOf h n in record { number = s .number; request = []; numbers = spacingNumbers s; gaps = pairGaps (s .pairs) }
 replyOf h listed = let l = listingOf h in record { number = l .number; request = []; numbers = listingNumbers l; gaps = [] }
 replyOf h (builtFrom legs speed bytes) = numberAlone (fieldOfList legs speed bytes .number)

@@ -5,8 +5,9 @@ use mathlib.Core.Logic.{inl, inr}
 use mathlib.Core.Bool.{Bool, true, cond}
 use mathlib.Core.List.{List, [], _∷_, map}
 use Prim.Native.Nat.{ℕ, zero, suc}
+use native.Mathlib.Omega.{arith}
 use lib.Dec.{eqb, ltb}
-use lib.ListN.{length}
+use lib.ListN.{length, length-set}
 use borrow.Author.Tests.{eqb-true, eqb-false}
 use Rattle.limits.specs.Limits.{mostPresses, mostKept}
 use Rattle.request.specs.Input.{inputNumber}
@@ -28,6 +29,7 @@ use Rattle.history.specs.declared.History.{History}
 use Rattle.history.specs.declared.SteppedHistory.{SteppedHistory}
 use Rattle.history.specs.History.{keptWithinBounds, withinBoundsHistory, keeping, numberHistory, stepHistory}
 use Rattle.history.proofs.StepNumbers as numbers
+use Rattle.history.proofs.MovedUp.{moved-length}
 use Rattle.press.specs.declared.Proposal.{Proposal}
 use Rattle.press.specs.declared.Proposal.the-variants.{Refused, None, Play}
 use Rattle.press.specs.declared.Ending.the-variants as ending
@@ -38,8 +40,18 @@ use Rattle.press_kept.proofs.PressingKept.{kept-proposed}
 use Rattle.taken_back.specs.Calls as calls
 use Rattle.taken_back.specs.Calls.{afterCalls}
 use Rattle.taken_back.proofs.GivenBack.{keeping-within}
-use Rattle.layout.specs.Held.{HistoryHeld}
-use Rattle.layout.proofs.CallsReadBack.{step-history-held}
+
+-- ---- every request leaves as many places for kept fields as there were
+pub step-places : (h : History) (r : Request) → length (h .kept) ≡ mostKept → length (stepHistory h r .after .kept) ≡ mostKept
+unfolding stepHistory keeping
+step-places h r e =
+    let next = withIndex (stepOf (h .now .field) r .field) in
+    either-way (λ (s : SteppedHistory). length (s .after .kept) ≡ mostKept) (eqb (numberHistory h r) 0) _ _
+    (λ b.
+    either-way (λ (g : History). length (g .kept) ≡ mostKept) (ltb (h .count) mostKept) _ _
+    (λ c. length-set (h .kept) (h .count) (h .now) ∙ e)
+    (λ c. moved-length (h .kept) (h .now) (omega (arith, e)) ∙ e))
+    (λ b. e)
 
 -- ---- one request on a history within the bounds
 module _ (h : History) (w : withinBoundsHistory h ≡ true) where
@@ -90,28 +102,28 @@ module _ (h : History) (w : withinBoundsHistory h ≡ true) where
   proposed-same = sym (kept-proposed h w)
 
   -- the bounds hold after it
-  pub step-within : HistoryHeld h → (r : Request) → withinBoundsHistory (stepHistory h r .after) ≡ true
+  pub step-within : length (h .kept) ≡ mostKept → (r : Request) → withinBoundsHistory (stepHistory h r .after) ≡ true
   step-within k r =
       elim (decided (eqb (numberOf f r) 0)) [
         | inl e ↦
             let z = eqb-true (numberOf f r) 0 e in
             sym (ap (λ (s : SteppedHistory). withinBoundsHistory (s .after)) (numbers.let-through h r (number-same r ∙ z)))
-            ∙ keeping-within h (k .places) w (withIndex (stepOf f r .field)) (within-own (stepOf f r .field) ∙ passed (accepted-within f r (number-is f r ∙ z)))
+            ∙ keeping-within h k w (withIndex (stepOf f r .field)) (within-own (stepOf f r .field) ∙ passed (accepted-within f r (number-is f r ∙ z)))
         | inr e ↦ sym (ap (λ (s : SteppedHistory). withinBoundsHistory (s .after)) (numbers.turned-away h r (number-same r) (eqb-false (numberOf f r) 0 e))) ∙ w
       ]
 
 -- ---- a list of requests asked one after the other
 
-pub asked-same : (h : History) → HistoryHeld h → withinBoundsHistory h ≡ true → (rs : List Request) → afterAsked h rs .now .field ≡ fieldAfter (h .now .field) rs
+pub asked-same : (h : History) → length (h .kept) ≡ mostKept → withinBoundsHistory h ≡ true → (rs : List Request) → afterAsked h rs .now .field ≡ fieldAfter (h .now .field) rs
 unfolding afterAsked
 asked-same h k w [] = refl
 asked-same h k w (r ∷ rs) =
-    asked-same (stepHistory h r .after) (step-history-held h r k) (step-within h w k r) rs ∙ ap (λ (g : Field). fieldAfter g rs) (field-same h w r)
+    asked-same (stepHistory h r .after) (step-places h r k) (step-within h w k r) rs ∙ ap (λ (g : Field). fieldAfter g rs) (field-same h w r)
 
-pub asked-within : (h : History) → HistoryHeld h → withinBoundsHistory h ≡ true → (rs : List Request) → withinBoundsHistory (afterAsked h rs) ≡ true
+pub asked-within : (h : History) → length (h .kept) ≡ mostKept → withinBoundsHistory h ≡ true → (rs : List Request) → withinBoundsHistory (afterAsked h rs) ≡ true
 unfolding afterAsked
 asked-within h k w [] = w
-asked-within h k w (r ∷ rs) = asked-within (stepHistory h r .after) (step-history-held h r k) (step-within h w k r) rs
+asked-within h k w (r ∷ rs) = asked-within (stepHistory h r .after) (step-places h r k) (step-within h w k r) rs
 
 -- they are so many calls
 pub asked-calls : (h : History) (rs : List Request) → afterAsked h rs ≡ afterCalls h (map calls.request rs)
@@ -121,12 +133,12 @@ asked-calls h (r ∷ rs) = asked-calls (stepHistory h r .after) rs
 
 -- ---- the button held down
 
-presses-same : (n : ℕ) (h : History) → HistoryHeld h → withinBoundsHistory h ≡ true → pressesKept n h ≡ presses n (h .now .field)
+pub presses-same : (n : ℕ) (h : History) → length (h .kept) ≡ mostKept → withinBoundsHistory h ≡ true → pressesKept n h ≡ presses n (h .now .field)
 unfolding pressesKept presses
 presses-same zero h k w = refl
 presses-same (suc n) h k w =
     ap (λ (p : Proposal). thenPressed p (λ r. pressesKept n (stepHistory h r .after))) (proposed-same h w)
-    ∙ then-same (proposalOf (h .now .field)) (λ r. presses-same n (stepHistory h r .after) (step-history-held h r k) (step-within h w k r) ∙ ap (presses n) (field-same h w r))
+    ∙ then-same (proposalOf (h .now .field)) (λ r. presses-same n (stepHistory h r .after) (step-places h r k) (step-within h w k r) ∙ ap (presses n) (field-same h w r))
   where
     then-same : (p : Proposal) {others these : Request → List Request} → ((r : Request) → others r ≡ these r) → thenPressed p others ≡ thenPressed p these
     then-same Refused e = refl
@@ -139,7 +151,7 @@ pub record HeldSame (h : History) : Type 0 where
   pub played : heldKept h .played ≡ heldOf (h .now .field) .played
   pub field : heldKept h .after .now .field ≡ heldOf (h .now .field) .field
 
-pub held-same : (h : History) → HistoryHeld h → withinBoundsHistory h ≡ true → HeldSame h
+pub held-same : (h : History) → length (h .kept) ≡ mostKept → withinBoundsHistory h ≡ true → HeldSame h
 unfolding heldKept heldOf heldRequests
 held-same h k w =
     let f = h .now .field in

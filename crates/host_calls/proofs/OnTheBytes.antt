@@ -21,7 +21,7 @@ use Rattle.press.specs.declared.Proposal.{Proposal}
 use Rattle.press.specs.declared.Proposal.the-variants.{Refused, None, Play}
 use Rattle.press.specs.declared.Ending.{Ending}
 use Rattle.press.specs.declared.Ending.the-variants as ending
-use Rattle.press.specs.HeldDown.{thenPressed, endingOn}
+use Rattle.press.specs.HeldDown.{thenPressed, endingOn, endingNumber}
 use Rattle.press_kept.specs.PressKept.{proposalKept, playedKept, pressKept, pressesKept, afterAsked, endingKept, heldKept}
 use Rattle.press_kept.proofs.PressingKept.{kept-refused, asked-none, presses-ended}
 use Rattle.dialect_field.specs.Coming.{fieldOfList}
@@ -33,7 +33,6 @@ use Rattle.layout.specs.Held.{HistoryHeld}
 use Rattle.layout.proofs.PartSizes.{state-size}
 use Rattle.layout.proofs.HistoryReadBack.{state-read-back}
 use Rattle.layout.proofs.CallsReadBack.{start-held, legs-in-64ths-held}
-use Rattle.replies.specs.Replies.{endNumber}
 use Rattle.host.specs.Calls.{startNumber, replyOf, leftBy, replyOn, bytesLeft}
 use Rattle.host.specs.Calls.{HostCall, start, ask, back as stepBackBy, press, holdDown, spaced, listed, builtFrom}
 use Rattle.host_calls.specs.HostCalls.{repliesOf, leftByAll, repliesOn, bytesLeftByAll, OnTheBytes}
@@ -62,22 +61,22 @@ played-bytes h None = refl
 played-bytes h (Play r) = called-bytes h (request r)
 
 -- the button held down: where the bounds are broken it plays nothing
-pub ended-0 : (f : Field) → endNumber (endingOn f) ≡ 0
-ended-0 f = either-way (λ (e : Ending). endNumber e ≡ 0) (eqb (presentOn f) 0) ending.None ending.Spent (λ e. refl) (λ e. refl)
+pub ended-0 : (f : Field) → endingNumber (endingOn f) ≡ 0
+ended-0 f = either-way (λ (e : Ending). endingNumber e ≡ 0) (eqb (presentOn f) 0) ending.None ending.Spent (λ e. refl) (λ e. refl)
 
 none-played : (h : History) → withinBoundsHistory h ≡ false → afterAsked h (pressesKept mostPresses h) ≡ h
 none-played h w =
     ap (afterAsked h) (presses-ended mostPresses h (λ others. ap (λ (p : Proposal). thenPressed p others) (sym (kept-refused h w)))) ∙ asked-none h
 
-held-bytes : (h : History) → stateAfter (historyBytes h) (endNumber (heldKept h .ending)) (heldKept h .after) ≡ historyBytes (heldKept h .after)
+held-bytes : (h : History) → stateAfter (historyBytes h) (endingNumber (heldKept h .ending)) (heldKept h .after) ≡ historyBytes (heldKept h .after)
 unfolding heldKept
 held-bytes h =
     let after = afterAsked h (pressesKept mostPresses h) in
     elim (decided (withinBoundsHistory h)) [
       | inl w ↦
-          ap (λ (b : Bool). stateAfter (historyBytes h) (endNumber (endingKept b (after .now .field))) after) w
+          ap (λ (b : Bool). stateAfter (historyBytes h) (endingNumber (endingKept b (after .now .field))) after) w
           ∙ ap (λ (n : ℕ). stateAfter (historyBytes h) n after) (ended-0 (after .now .field))
-      | inr w ↦ ap (λ (b : Bool). stateAfter (historyBytes h) (endNumber (endingKept b (after .now .field))) after) w ∙ sym (ap historyBytes (none-played h w))
+      | inr w ↦ ap (λ (b : Bool). stateAfter (historyBytes h) (endingNumber (endingKept b (after .now .field))) after) w ∙ sym (ap historyBytes (none-played h w))
     ]
 
 left-bytes : (h : History) (c : HostCall) → HistoryHeld h → bytesLeft (historyBytes h) c ≡ historyBytes (leftBy h c)
@@ -87,7 +86,7 @@ left-bytes h (ask r) k = ap (λ (g : History). stateAfter (historyBytes h) (step
 left-bytes h (stepBackBy desk) k = ap (λ (g : History). stateAfter (historyBytes h) (stepBack g desk .answer .number) (stepBack g desk .after)) (state-read-back h k) ∙ called-bytes h (back desk)
 left-bytes h press k =
     ap (λ (g : History). let s = playedKept g (proposalKept g) in stateAfter (historyBytes h) (s .answer .number) (s .after)) (state-read-back h k) ∙ played-bytes h (proposalKept h)
-left-bytes h holdDown k = ap (λ (g : History). stateAfter (historyBytes h) (endNumber (heldKept g .ending)) (heldKept g .after)) (state-read-back h k) ∙ held-bytes h
+left-bytes h holdDown k = ap (λ (g : History). stateAfter (historyBytes h) (endingNumber (heldKept g .ending)) (heldKept g .after)) (state-read-back h k) ∙ held-bytes h
 left-bytes h (spaced n) k = refl
 left-bytes h listed k = refl
 left-bytes h (builtFrom legs speed bytes) k = begun (eqb (fieldOfList legs speed bytes .number) 0) h (startWith (fieldOfList legs speed bytes .after)) (readHistory (historyBytes h))

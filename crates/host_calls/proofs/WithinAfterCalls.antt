@@ -40,6 +40,7 @@ use Rattle.press.specs.declared.Proposal.{Proposal}
 use Rattle.press.specs.declared.Proposal.the-variants.{Refused, None, Play}
 use Rattle.press.specs.Press.{candidates, headMove, longTick, firstAccepted}
 use Rattle.press.proofs.Proposals.{proposal-is}
+use Rattle.press.specs.HeldDown.{endingNumber}
 use Rattle.press_kept.specs.PressKept.{proposalKept, playedKept, pressKept, pressesKept, afterAsked, endingKept, heldKept}
 use Rattle.gaps.specs.declared.Spacings.{Spacings}
 use Rattle.gaps.specs.Gaps as gaps
@@ -51,7 +52,6 @@ use Rattle.dialect.specs.Going.{inDialect, entriesOf, listOf}
 use Rattle.dialect_field.specs.Coming.{listAllowed, entriesIn, built, comingNumber, notBuilt, fieldOfList}
 use Rattle.layout.specs.Held.{HistoryHeld}
 use Rattle.layout.proofs.CallsReadBack.{start-held, legs-in-64ths-held}
-use Rattle.replies.specs.Replies.{endNumber}
 use Rattle.host.specs.Calls.{startNumber, spacingsOf, listingOf}
 use Rattle.host.specs.Calls.{HostCall, start, ask, back, press, holdDown, spaced, listed, builtFrom}
 use Rattle.host.specs.Calls.{replyOf, leftBy}
@@ -132,17 +132,17 @@ built-within legs speed bytes =
 played-within : (h : History) (p : Proposal) → HistoryHeld h → withinBoundsHistory h ≡ true → withinBoundsHistory (playedKept h p .after) ≡ true
 played-within h Refused k w = w
 played-within h None k w = w
-played-within h (Play r) k w = step-within h w k r
+played-within h (Play r) k w = step-within h w (k .places) r
 
 left-within : (h : History) (c : HostCall) → HistoryHeld h → withinBoundsHistory h ≡ true → withinBoundsHistory (leftBy h c) ≡ true
 unfolding pressKept heldKept
 left-within h (start legs) k w =
     either-way (λ (g : History). withinBoundsHistory g ≡ true) (eqb (startNumber legs) 0) _ h
     (λ e. started-within legs (allowed legs (eqb-true (startNumber legs) 0 e))) (λ e. w)
-left-within h (ask r) k w = step-within h w k r
+left-within h (ask r) k w = step-within h w (k .places) r
 left-within h (back desk) k w = back-within h desk w
 left-within h press k w = played-within h (proposalKept h) k w
-left-within h holdDown k w = asked-within h k w (pressesKept mostPresses h)
+left-within h holdDown k w = asked-within h (k .places) w (pressesKept mostPresses h)
 left-within h (spaced n) k w = w
 left-within h listed k w = w
 left-within h (builtFrom legs speed bytes) k w =
@@ -243,7 +243,7 @@ reply-not-10 h (back desk) w = back-not-10 h w desk
 reply-not-10 h press w = pressed-not-10 h w
 reply-not-10 h holdDown w = λ e.
     let after = afterAsked h (pressesKept mostPresses h) .now .field in
-    let n = sym (ap (λ (b : Bool). endNumber (endingKept b after)) w ∙ ended-0 after) ∙ e in
+    let n = sym (ap (λ (b : Bool). endingNumber (endingKept b after)) w ∙ ended-0 after) ∙ e in
     omega (arith, n)
 reply-not-10 h (spaced n) w = spacing-not-10 h w n
 reply-not-10 h listed w = list-not-10 h w

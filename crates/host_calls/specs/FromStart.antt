@@ -4,28 +4,27 @@ use mathlib.Core.Bool.{Bool, true, false, not, _&&_, _||_}
 use mathlib.Core.List.{List, [], _∷_, _++_, map}
 use Prim.Native.Nat.{ℕ, _≤_}
 use lib.Dec.{T, eqb}
-use Rattle.limits.specs.Limits.{mostPresses}
+use Rattle.limits.specs.Limits.{mostMoves, mostTicks, mostPresses}
 use Rattle.request.specs.declared.Request.{Request}
 use Rattle.practice.specs.declared.FileLegs.{FileLegs}
 use Rattle.practice.specs.File.{legsAllowed}
 use Rattle.playing.specs.Playing.{legsInMiles}
-use Rattle.field.specs.declared.Legs.{Legs}
-use Rattle.field.specs.Airspace.{emptyField}
 use Rattle.field.specs.Lists.{every}
 use Rattle.questions.specs.Counts.{presentOn}
 use Rattle.rules.specs.declared.Answer.{Answer}
-use Rattle.rules.specs.Play.{played}
+use Rattle.rules.specs.Play.{fieldAfter, played, moves}
 use Rattle.demand.specs.Exact.{WholeLegs, inMiles, ExactOf}
 use Rattle.gaps.specs.Gaps.{legalSpacing, gapsOf}
-use Rattle.exact_gaps.specs.ExactGaps.{reached, ExactGaps}
+use Rattle.emptied.specs.Emptied.{ticksInARow}
+use Rattle.exact_gaps.specs.ExactGaps.{ExactGapsOf}
 use Rattle.dialect_field.specs.Coming.{fieldOfList}
 use Rattle.history.specs.declared.History.{History}
-use Rattle.history.specs.History.{startOf, withinBoundsHistory}
+use Rattle.history.specs.History.{startOf, historyAtStart, withinBoundsHistory}
 use Rattle.press.specs.declared.Ending.the-variants as ending
 use Rattle.press_kept.specs.PressKept.{pressesKept, heldKept}
 use Rattle.taken_back.specs.Calls as calls
 use Rattle.taken_back.specs.Calls.{Call, playedCalls, afterCalls, historyOf}
-use Rattle.taken_back.specs.TakenBack.{TakenBack}
+use Rattle.taken_back.specs.TakenBack.{TakenBackOf}
 use Rattle.replies.specs.Replies.{answerNumbers}
 use Rattle.host.specs.Calls.{HostCall, start, ask, back, press, holdDown, spaced, listed, builtFrom, Reply, numberAlone, spacingsOf}
 use Rattle.host.specs.Calls.{replyOf, leftBy}
@@ -87,30 +86,52 @@ abbrev pub onlyFieldsReply : ℕ → History → List HostCall → Bool
 onlyFieldsReply number h [] = true
 onlyFieldsReply number h (c ∷ cs) = (buildsField c || not (eqb (replyOf h c .number) number)) && onlyFieldsReply number (leftBy h c) cs
 
--- from the start with these legs, any list of calls that go on
-pub record FromStart (legs : Legs) (cs : List HostCall) : Type 0 where
+-- the button held down on a history: it empties the field and says none, within its bound (02, 2.6)
+pub record EmptiedKept (h : History) : Type 0 where
+  pub ending : heldKept h .ending ≡ ending.None
+  pub nobody : presentOn (heldKept h .after .now .field) ≡ 0
+  -- that it plays no more than its bound follows from its definition
+  pub few : heldKept h .played ≤ mostPresses
+  -- of what it plays no more than 27 are moves (02, 2.14), each after no more than 8,192 ticks (02, 2.6 and 2.7)
+  pub few-moves : moves (played (h .now .field) (pressesKept mostPresses h)) ≤ mostMoves
+  pub few-ticks : ticksInARow (pressesKept mostPresses h) ≤ mostTicks
+
+-- what holds after a list of calls from a start
+pub record FromStartOf (first : History) (cs : List HostCall) : Type 0 where
   -- the history is that after a list of requests and steps back, ..
-  pub same : leftByAll (startOf legs) cs ≡ afterCalls (startOf legs) (allCallsOf (startOf legs) cs)
+  pub same : leftByAll first cs ≡ afterCalls first (allCallsOf first cs)
   -- .. of which everything holds that holds of any such list, demand 3 with it (02, 2.13)
-  pub taken-back : TakenBack legs (allCallsOf (startOf legs) cs)
+  pub taken-back : TakenBackOf first (allCallsOf first cs)
   -- 25 never comes, but where a field is to be built
-  pub no-25 : T (onlyFieldsReply 25 (startOf legs) cs)
-  -- held down then, the button empties the field, and says none (02, 2.6); that it plays no more than its bound follows from its definition
-  pub ending : heldKept (leftByAll (startOf legs) cs) .ending ≡ ending.None
-  pub nobody : presentOn (heldKept (leftByAll (startOf legs) cs) .after .now .field) ≡ 0
-  pub few : heldKept (leftByAll (startOf legs) cs) .played ≤ mostPresses
+  pub no-25 : T (onlyFieldsReply 25 first cs)
+  -- held down then, the button empties the field
+  pub emptied : EmptiedKept (leftByAll first cs)
 
--- the requests that are left of those calls, from the start with legs in whole 64ths
-abbrev pub requestsLeft : WholeLegs → List HostCall → List Request
-requestsLeft w cs = historyOf (inMiles w) (allCallsOf (startOf (inMiles w)) cs)
+-- that holds of every list of calls that go on, from every history that calls may start from, ..
+abbrev pub FromStart : Type 0
+FromStart = (first : History) → T (historyAtStart first) → (cs : List HostCall) → T (every goesOn cs) → FromStartOf first cs
 
--- from that start, any list of calls that go on: distances and gaps are exact
-pub record FromStartExactly (w : WholeLegs) (cs : List HostCall) : Type 0 where
+-- .. of which the one that an accepted start leaves is one
+abbrev pub StartAccepted : Type 0
+StartAccepted = (legs : FileLegs) → legsAllowed legs ≡ true → T (historyAtStart (startOf (legsInMiles legs)))
+
+-- the requests that are left of those calls
+abbrev pub requestsLeft : History → List HostCall → List Request
+requestsLeft first cs = historyOf first (allCallsOf first cs)
+
+-- what is exact after a list of calls from a start with legs in whole 64ths
+pub record FromStartExactlyOf (w : WholeLegs) (first : History) (cs : List HostCall) : Type 0 where
   -- of everyone on the field that is left: miles, own legs and miles waited (01; 02, 2.2 and 2.7)
-  pub exact : ExactOf w (played (emptyField (inMiles w)) (requestsLeft w cs)) (leftByAll (startOf (inMiles w)) cs .now .field)
+  pub exact : ExactOf w (played (first .now .field) (requestsLeft first cs)) (leftByAll first cs .now .field)
   -- of each pair that a legal spacing asked then tells of (02, 2.8)
-  pub spacing : (n : ℕ) → T (legalSpacing n) → spacingsOf (leftByAll (startOf (inMiles w)) cs) n ≡ gapsOf (reached w (requestsLeft w cs)) n
-  pub gaps : (n : ℕ) → T (legalSpacing n) → ExactGaps w (requestsLeft w cs) n
+  pub spacing : (n : ℕ) → T (legalSpacing n) → spacingsOf (leftByAll first cs) n ≡ gapsOf (fieldAfter (first .now .field) (requestsLeft first cs)) n
+  pub gaps : (n : ℕ) → T (legalSpacing n) → ExactGapsOf w (first .now .field) (requestsLeft first cs) n
+
+-- that holds of every list of calls that go on, from every history that calls may start from whose legs are whole 64ths
+abbrev pub FromStartExactly : Type 0
+FromStartExactly =
+    (w : WholeLegs) (first : History) → T (historyAtStart first) → first .now .field .legs ≡ inMiles w
+    → (cs : List HostCall) → T (every goesOn cs) → FromStartExactlyOf w first cs
 
 -- ---- requests and steps back alone, and a start among other calls
 

@@ -5,31 +5,28 @@ use mathlib.Core.List.{List}
 use lib.Dec.{T, eqb}
 use borrow.Author.Tests.{eqb-true, eqb-false}
 use Rattle.request.specs.declared.Request.{Request}
-use Rattle.field.specs.declared.Legs.{Legs}
 use Rattle.field.specs.declared.Field.{Field}
-use Rattle.field.specs.Airspace.{emptyField}
 use Rattle.field.proofs.TestLaws.{pass, decided}
 use Rattle.bounds.specs.Bounds.{withinBounds}
-use Rattle.fits.specs.Fits.{legalLegs}
 use Rattle.finder.specs.declared.Indexed.{Indexed}
 use Rattle.finder.specs.Finder.{indexOf, withinBoundsIndexed}
 use Rattle.finder.proofs.IndexLaws.{found-as-looked, indexed-as-looked}
 use Rattle.rules.specs.declared.Answer.{Answer}
 use Rattle.rules.specs.Step.{numberOf, stepOf}
+use Rattle.rules.specs.Start.{emptyStart}
 use Rattle.rules.specs.Play.{fieldAfter, played}
 use Rattle.rules.proofs.StepLaws.{number-is, field-accepted, field-refused}
 use Rattle.rules.proofs.Refusals.{accepted-within}
 use Rattle.demand.specs.Demand.{Demand3Of}
-use Rattle.demand.specs.Exact.{WholeLegs, inMiles, ExactOf}
-use Rattle.line.proofs.LineWithin.{within-bounds}
-use Rattle.reason.proofs.Reason.{after-list}
+use Rattle.demand.specs.Exact.{ExactOf}
+use Rattle.reason.proofs.Reason.{start-sound, sound-after}
 use Rattle.demand.proofs.Demand.{demand-3}
 use Rattle.demand.proofs.Exact.{exactness}
 use Rattle.indexed.specs.declared.SteppedIndexed.{SteppedIndexed}
 use Rattle.indexed.specs.Indexed.{withIndex, stepIndexed, playedIndexed, indexedAfter}
 use Rattle.indexed.proofs.StepsIndexed.{field-within, index-own, tick-leaves}
 use Rattle.indexed.proofs.Own.{within-own, step-own, played-own, after-own}
-use Rattle.index_kept.specs.IndexKept.{SaysAsLooked, IndexKept, emptyIndexed, Demand3Indexed, ExactIndexed}
+use Rattle.index_kept.specs.IndexKept.{SaysAsLooked, IndexKept, Demand3IndexedOf, Demand3Indexed, ExactIndexed}
 
 -- a field within the bounds is so with its own index
 own-within : (f : Field) → T (withinBounds f) → T (withinBoundsIndexed (withIndex f))
@@ -85,26 +82,29 @@ module _ (x : Indexed) (w : T (withinBoundsIndexed x)) (r : Request) where
       }
 
 -- ---- any list
-module _ (legs : Legs) (l : T (legalLegs legs)) (rs : List Request) where
-  reached-within : T (withinBounds (fieldAfter (emptyField legs) rs))
-  reached-within = after-list legs l (λ (g : Field). T (withinBounds g)) (λ f line runway o. within-bounds f line runway legs o) rs
+module _ (f : Field) (t : T (emptyStart f)) (rs : List Request) where
+  reached-within : T (withinBounds (fieldAfter f rs))
+  reached-within = sound-after f (start-sound f t) rs .bounds
 
-  -- Demand 3 holds of the field with its index, over every list of requests from the empty one.
-  pub demand-3-indexed : Demand3Indexed legs rs
+  indexed-demand : Demand3IndexedOf f rs
   unfolding withIndex
-  demand-3-indexed =
+  indexed-demand =
       record {
         holds =
-            subst⁻¹ (λ (ps : List (Request × Answer)). Demand3Of ps (indexedAfter (emptyIndexed legs) rs .field)) (played-own (emptyField legs) rs)
-            (subst⁻¹ (λ (y : Indexed). Demand3Of (played (emptyField legs) rs) (y .field)) (after-own (emptyField legs) rs) (demand-3 legs l rs));
-        goes-on = λ more. subst⁻¹ (λ (y : Indexed). playedIndexed y more ≡ played (y .field) more) (after-own (emptyField legs) rs) (played-own (fieldAfter (emptyField legs) rs) more);
-        still-within = subst⁻¹ (λ (y : Indexed). T (withinBoundsIndexed y)) (after-own (emptyField legs) rs) (own-within (fieldAfter (emptyField legs) rs) reached-within);
-        says = subst⁻¹ SaysAsLooked (after-own (emptyField legs) rs) (found-as-looked (fieldAfter (emptyField legs) rs) reached-within);
+            subst⁻¹ (λ (ps : List (Request × Answer)). Demand3Of ps (indexedAfter (withIndex f) rs .field)) (played-own f rs)
+            (subst⁻¹ (λ (y : Indexed). Demand3Of (played f rs) (y .field)) (after-own f rs) (demand-3 f t rs));
+        goes-on = λ more. subst⁻¹ (λ (y : Indexed). playedIndexed y more ≡ played (y .field) more) (after-own f rs) (played-own (fieldAfter f rs) more);
+        still-within = subst⁻¹ (λ (y : Indexed). T (withinBoundsIndexed y)) (after-own f rs) (own-within (fieldAfter f rs) reached-within);
+        says = subst⁻¹ SaysAsLooked (after-own f rs) (found-as-looked (fieldAfter f rs) reached-within);
       }
 
+-- Demand 3 holds of the field with its index, over every list of requests from an empty one.
+pub demand-3-indexed : Demand3Indexed
+demand-3-indexed f t rs = indexed-demand f t rs
+
 -- So does exactness, where the legs are whole 64ths.
-pub exactness-indexed : (w : WholeLegs) (rs : List Request) → ExactIndexed w rs
+pub exactness-indexed : ExactIndexed
 unfolding withIndex
-exactness-indexed w rs =
-    subst⁻¹ (λ (ps : List (Request × Answer)). ExactOf w ps (indexedAfter (emptyIndexed (inMiles w)) rs .field)) (played-own (emptyField (inMiles w)) rs)
-    (subst⁻¹ (λ (y : Indexed). ExactOf w (played (emptyField (inMiles w)) rs) (y .field)) (after-own (emptyField (inMiles w)) rs) (exactness w rs))
+exactness-indexed w f t l rs =
+    subst⁻¹ (λ (ps : List (Request × Answer)). ExactOf w ps (indexedAfter (withIndex f) rs .field)) (played-own f rs)
+    (subst⁻¹ (λ (y : Indexed). ExactOf w (played f rs) (y .field)) (after-own f rs) (exactness w f t l rs))

@@ -5,12 +5,12 @@ use mathlib.Core.List.{List}
 use Prim.Native.Nat.{ℕ}
 use lib.Dec.{T}
 use Rattle.request.specs.declared.Request.{Request}
-use Rattle.field.specs.declared.Legs.{Legs}
-use Rattle.field.specs.Airspace.{emptyField}
+use Rattle.field.specs.declared.Field.{Field}
 use Rattle.questions.specs.Find.{placeOf}
 use Rattle.finder.specs.declared.Indexed.{Indexed}
 use Rattle.finder.specs.Finder.{foundIn, withinBoundsIndexed}
 use Rattle.rules.specs.Step.{stepOf}
+use Rattle.rules.specs.Start.{emptyStart}
 use Rattle.rules.specs.Play.{played}
 use Rattle.demand.specs.Demand.{Demand3Of}
 use Rattle.demand.specs.Exact.{WholeLegs, inMiles, ExactOf}
@@ -33,20 +33,22 @@ pub record IndexKept (x : Indexed) (r : Request) : Type 0 where
   -- a refusal and a tick leave the index
   pub leaves : (stepIndexed x r .answer .number ≡ 0 → ⊥) ⊎ (r .kind ≡ 12) → stepIndexed x r .after .index ≡ x .index
 
--- the empty field with its index
-abbrev pub emptyIndexed : Legs → Indexed
-emptyIndexed legs = withIndex (emptyField legs)
-
--- demand 3 of the field with its index, after a list of requests from the empty one with these legs
-pub record Demand3Indexed (legs : Legs) (rs : List Request) : Type 0 where
+-- demand 3 of the field with its index, after a list of requests from the field f
+pub record Demand3IndexedOf (f : Field) (rs : List Request) : Type 0 where
   -- it holds of the answers that are given with the index, and of the field beside it, ..
-  pub holds : Demand3Of (playedIndexed (emptyIndexed legs) rs) (indexedAfter (emptyIndexed legs) rs .field)
+  pub holds : Demand3Of (playedIndexed (withIndex f) rs) (indexedAfter (withIndex f) rs .field)
   -- .. also where it speaks of what is played from there on; ..
-  pub goes-on : (more : List Request) → playedIndexed (indexedAfter (emptyIndexed legs) rs) more ≡ played (indexedAfter (emptyIndexed legs) rs .field) more
+  pub goes-on : (more : List Request) → playedIndexed (indexedAfter (withIndex f) rs) more ≡ played (indexedAfter (withIndex f) rs .field) more
   -- .. and the field is within the bounds, with its own index, which says where everyone is
-  pub still-within : T (withinBoundsIndexed (indexedAfter (emptyIndexed legs) rs))
-  pub says : SaysAsLooked (indexedAfter (emptyIndexed legs) rs)
+  pub still-within : T (withinBoundsIndexed (indexedAfter (withIndex f) rs))
+  pub says : SaysAsLooked (indexedAfter (withIndex f) rs)
 
--- exactness of the field with its index, where the legs are whole 64ths, after a list of requests from the empty one
-abbrev pub ExactIndexed : WholeLegs → List Request → Type 0
-ExactIndexed w rs = ExactOf w (playedIndexed (emptyIndexed (inMiles w)) rs) (indexedAfter (emptyIndexed (inMiles w)) rs .field)
+-- that holds of every list of requests, from every empty field that a list may start from
+abbrev pub Demand3Indexed : Type 0
+Demand3Indexed = (f : Field) → T (emptyStart f) → (rs : List Request) → Demand3IndexedOf f rs
+
+-- exactness of the field with its index, after every list of requests, from every empty field that a list may start from whose legs are whole 64ths
+abbrev pub ExactIndexed : Type 0
+ExactIndexed =
+    (w : WholeLegs) (f : Field) → T (emptyStart f) → f .legs ≡ inMiles w
+    → (rs : List Request) → ExactOf w (playedIndexed (withIndex f) rs) (indexedAfter (withIndex f) rs .field)

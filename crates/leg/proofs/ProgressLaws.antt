@@ -12,7 +12,7 @@ use lib.Ieee.{Float, binary64, sub, ofInt, le}
 use lib.Ieee.Fits.{and-i, and-l, and-r}
 use lib.Ieee.Order.{le-of-values}
 use lib.Ieee.Positive.{num, den}
-use Rattle.limits.specs.Limits.{longestTick, fastest, longestLeg, longestLegMiles, longestOwnLegMiles, mostWaited}
+use Rattle.limits.specs.Limits.{longestTick, fastest, longestLeg, longestLegMiles, longestOwnLegMiles, mostWaited, mostTicks}
 use Rattle.leg.specs.declared.Progress.{Progress}
 use Rattle.leg.specs.declared.Progress.the-variants.{Waiting, Flying}
 use Rattle.leg.specs.Progress.{whole, sixtyFourths, progressAfter, waitedWith, waitedWithin, flownOut, legAfterMiss, withinLeg, legUpTo, legalLeg, legalLegAfterMiss}
@@ -191,10 +191,10 @@ pub arrival : (miles leg : Float) {speed : ℕ} (amounts : List ℕ) → T (lega
     → T (flownOut (afterTicks (Flying miles) speed amounts leg) leg)
 arrival = arrival-up-to longestLegMiles (lit< tt)
 
--- So 4096 ticks of 64, or more of them, always do.
-pub arrival-in-4096 : (miles leg : Float) {speed : ℕ} (n : ℕ) → T (legalLeg leg) → Between 1 fastest speed → T (withinLeg (Flying miles) leg) → 4096 ≤ n
+-- So as many ticks of 64 as the leg has 64ths of a mile, or more of them, always do.
+pub arrival-in-ticks : (miles leg : Float) {speed : ℕ} (n : ℕ) → T (legalLeg leg) → Between 1 fastest speed → T (withinLeg (Flying miles) leg) → 64 * longestLegMiles ≤ n
     → T (flownOut (afterTicks (Flying miles) speed (replicate n longestTick) leg) leg)
-arrival-in-4096 = arrival-in-ticks-up-to longestLegMiles (lit< tt)
+arrival-in-ticks = arrival-in-ticks-up-to longestLegMiles (lit< tt)
 
 -- ---- 3. The own leg after a miss (02, 2.7)
 
@@ -212,10 +212,10 @@ unfolding legAfterMiss
 leg-after-miss-exact missed final Waiting j k m h g f under few = absurd f
 leg-after-miss-exact missed final (Flying miles) j k m h g f under few = ahead-grid missed (sub binary64 final miles) j (k - m) h (left-grid miles final k m g f under (omega arith)) (omega arith)
 
--- On a leg of up to 128 miles 8192 ticks of 64, or more of them, always leave it flown out.
-pub arrival-in-8192 : (miles leg : Float) {speed : ℕ} (n : ℕ) → T (legalLegAfterMiss leg) → Between 1 fastest speed → T (withinLeg (Flying miles) leg) → 8192 ≤ n
+-- On a leg of an aircraft's own `mostTicks` ticks of 64, or more of them, always leave it flown out.
+pub arrival-in-most-ticks : (miles leg : Float) {speed : ℕ} (n : ℕ) → T (legalLegAfterMiss leg) → Between 1 fastest speed → T (withinLeg (Flying miles) leg) → mostTicks ≤ n
     → T (flownOut (afterTicks (Flying miles) speed (replicate n longestTick) leg) leg)
-arrival-in-8192 = arrival-in-ticks-up-to longestOwnLegMiles (lit< tt)
+arrival-in-most-ticks = arrival-in-ticks-up-to longestOwnLegMiles (lit< tt)
 
 -- ---- 4. On any leg at all
 

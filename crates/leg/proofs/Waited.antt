@@ -118,7 +118,7 @@ module _ {speed amount : ℕ} (s : Between 1 fastest speed) (a : Between 1 longe
 
 -- ---- on the grid
 -- what n / 4096 miles exceed a leg of k / 4096 by
-beyond-grid : (leg : Float) (k n : ℕ) → LegIn4096ths leg k → 0 < n → n < 2 ^ 53 → Exactly (beyond leg (parts n)) (n - k)
+pub beyond-grid : (leg : Float) (k n : ℕ) → LegIn4096ths leg k → 0 < n → n < 2 ^ 53 → Exactly (beyond leg (parts n)) (n - k)
 unfolding ofInt
 beyond-grid leg k n r some few = go (decLe n k)
   where

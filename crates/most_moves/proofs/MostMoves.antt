@@ -35,7 +35,7 @@ all-used = record { legal = tt; none-added = refl; exactly = refl }
 pub twenty-seven : TwentySeven
 twenty-seven =
     record {
-      at-most = λ legs l rs. demand-3 legs l rs .few-moves;
+      at-most = λ f t rs. demand-3 f t rs .few-moves;
       reached = all-used;
-      no-smaller = λ n few. subst (λ (m : ℕ). m ≤ n) (all-used .exactly) (few sessionLegs (all-used .legal) sessionBefore sessionMoves (all-used .none-added));
+      no-smaller = λ n few. subst (λ (m : ℕ). m ≤ n) (all-used .exactly) (few sessionBefore sessionMoves (all-used .none-added));
     }

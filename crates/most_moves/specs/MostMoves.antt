@@ -7,17 +7,20 @@ use lib.Dec.{T}
 use Rattle.limits.specs.Limits.{mostMoves}
 use Rattle.request.specs.declared.Request.{Request}
 use Rattle.field.specs.declared.Legs.{Legs}
+use Rattle.field.specs.declared.Field.{Field}
 use Rattle.field.specs.Airspace.{emptyField}
 use Rattle.fits.specs.Fits.{legalLegs}
+use Rattle.rules.specs.Start.{emptyStart}
 use Rattle.rules.specs.Play.{fieldAfter, played, accepted, addsMoves, moves}
 use Rattle.demand.specs.Demand.{AtMostMoves}
 use Rattle.most_moves.specs.Session.{sessionLegs, sessionBefore, sessionMoves}
 
--- n is such a number, for all legal legs and all lists of requests
-abbrev pub AtMost : ℕ → Type 0
-AtMost n = (legs : Legs) → T (legalLegs legs) → (rs : List Request) → AtMostMoves n (fieldAfter (emptyField legs) rs)
+-- n is such a number on every field that requests reach from f
+abbrev pub AtMostFrom : ℕ → Field → Type 0
+AtMostFrom n f = (rs : List Request) → AtMostMoves n (fieldAfter f rs)
 
--- the requests rs lead from an empty field to one from which `more` goes on with exactly n moves, and without an accepted entry or miss
+-- the requests rs lead from the empty field with these legs, which are legal, to one from which `more` goes on with exactly n moves, and without an accepted
+-- entry or miss
 pub record Uses (legs : Legs) (rs more : List Request) (n : ℕ) : Type 0 where
   pub legal : T (legalLegs legs)
   pub none-added : accepted addsMoves (played (fieldAfter (emptyField legs) rs) more) ≡ 0
@@ -27,8 +30,9 @@ pub record Uses (legs : Legs) (rs more : List Request) (n : ℕ) : Type 0 where
 abbrev pub AllUsed : Type 0
 AllUsed = Uses sessionLegs sessionBefore sessionMoves mostMoves
 
--- 27 is the most: no list has more moves, the session has as many, and a smaller number would not do
+-- 27 is the most: from no empty field that a list may start from are there more moves, the session has as many, and from the empty field with its legs a
+-- smaller number would not do
 pub record TwentySeven : Type 0 where
-  pub at-most : AtMost mostMoves
+  pub at-most : (f : Field) → T (emptyStart f) → AtMostFrom mostMoves f
   pub reached : AllUsed
-  pub no-smaller : (n : ℕ) → AtMost n → mostMoves ≤ n
+  pub no-smaller : (n : ℕ) → AtMostFrom n (emptyField sessionLegs) → mostMoves ≤ n

@@ -38,7 +38,8 @@ use Rattle.nasa.proofs.States.{same-state, asSeen, zone-number}
 use Rattle.nasa.proofs.DescendFinalTaxi.{each-side}
 use Rattle.nasa.proofs.LeadersBySeq.{one-less}
 use Rattle.nasa.proofs.AskedOfState.{in-sequence}
-use Rattle.nasa.proofs.Sequences.{last-put, full-stays, before-kept, before-last, seen-kept}
+use Rattle.descent.proofs.BySequence.{last-put}
+use Rattle.nasa.proofs.Sequences.{full-stays, before-kept, before-last, seen-kept}
 use Rattle.nasa.proofs.MissTransition.{opposite-named, either-named}
 use Rattle.nasa.proofs.LandExitTransitions.{operating}
 
@@ -105,7 +106,7 @@ module _ {f : Field} {r : Request} {s : Side} {z : ScaZone} (new : Newcomer f r 
         ap (λ (l : List field.Aircraft). isIn n (numbers l)) in-zone ∙ ap (isIn n) (map-append (λ (b : field.Aircraft). b .number) (inZone f zn) (a ∷ []))
         ∙ in-right n (numbersAt f zn) (n ∷ []) (ap (λ (b : Bool). b || false) (same n)) in
         let listed : isIn n (orderOf (appended (f .sequence) n)) ≡ true = in-sequence g (new .after) zn (new .inside) n there in
-        absurd (true≢false (sym listed ∙ ap (λ (q : Sequence). isIn n (orderOf q)) (full-stays (f .sequence) (new .shaped .sequence) n p) ∙ not-listed))
+        absurd (true≢false (sym listed ∙ ap (λ (q : Sequence). isIn n (orderOf q)) (full-stays (f .sequence) n p) ∙ not-listed))
   ]
 
   order-after : orderOf (g .sequence) ≡ order ++ (n ∷ [])

@@ -34,9 +34,9 @@ use Rattle.field.proofs.TestLaws.{decided, pass, passed, if-true, if-false}
 use Rattle.questions.proofs.FindLaws.{at, found-exactly}
 use Rattle.laws.proofs.EditLaws.{Shaped}
 use Rattle.moves.proofs.EnterAbove.{enters-empty}
-use Rattle.descent.specs.Entry.{descendBefore, descendedBefore, InTwoSteps}
+use Rattle.descent.specs.Entry.{descendBefore, descendedBefore, TwoSteps}
 use Rattle.descent.proofs.Descent.{alone-above, found-above}
-use Rattle.descent.proofs.Entry.{in-two-steps}
+use Rattle.descent.proofs.Entry.{in-two-steps, was-20}
 use Rattle.nasa.specs.Definitions.{ScaZone, holding3, holding2, lez, maz, SCA, approachAssigned, virtual}
 use Rattle.nasa.specs.Rules.{nobodyIn, zoneNumber, verticalEntry, lateralEntry, holdingPatternDescend}
 use Rattle.nasa.specs.Stands.{sideNamed, stateOf, sideBefore, entryAbove, Is}
@@ -167,8 +167,8 @@ module _ {f : Field} {r : Request} (A : AcceptedOfKind f r 1) (E : Entry r) (tak
   occupied : isEmpty f (at3000 (r .side)) ≡ false
   occupied = ap (isEmpty f) own ∙ taken
 
-  two : InTwoSteps f r
-  two = in-two-steps f (A .places) r (A .kind) (number-is f r ∙ A .accepted) occupied
+  two : TwoSteps f r
+  two = in-two-steps f (A .places) r (was-20 f r (A .kind) (number-is f r ∙ A .accepted) occupied)
 
   -- the descend, and the field after it
   abbrev r₁ : Request

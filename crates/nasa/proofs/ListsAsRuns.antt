@@ -1,30 +1,34 @@
--- After every list of requests from an empty field with legal legs, the field stands for a state that NASA's transitions reach. Assumes nothing.
+-- After every list of requests from an empty field that a list may start from, the field stands for a state that NASA's transitions reach. Assumes nothing.
 use mathlib.Core.Path.{_≡_, refl, sym, ap, _∙_, subst}
 use mathlib.Core.Logic.{inl, inr}
-use mathlib.Core.Bool.{Bool, true, false}
-use mathlib.Core.List.{List, [], _∷_}
-use Prim.Native.Nat.{ℕ, _≤_}
+use mathlib.Core.Bool.{Bool, true, false, cond}
+use mathlib.Core.List.{List, [], _∷_, map}
+use Prim.Native.Nat.{ℕ, suc, _≤_}
 use borrow.Author.Tests.{eqb-true, eqb-false}
 use lib.Dec.{T, eqb, leb, le→leb}
 use lib.Ieee.Fits.{and-i}
 use Rattle.request.specs.Input.{within}
 use Rattle.request.specs.declared.Request.{Request}
 use Rattle.request.proofs.ByKind.{kind-known}
+use Rattle.field.specs.declared.Aircraft as field
 use Rattle.field.specs.declared.Legs.{Legs}
 use Rattle.field.specs.declared.Field.{Field}
 use Rattle.field.specs.Airspace.{emptyField, inZone, zoneOf, queueOf, orderOf, orderLength}
-use Rattle.fits.specs.Fits.{legalLegs}
+use Rattle.edits.specs.Edits.{before}
 use Rattle.rules.specs.Kinds.{zoneBefore}
 use Rattle.rules.specs.Step.{numberOf, stepOf}
+use Rattle.rules.specs.Start.{emptyStart}
 use Rattle.rules.specs.Play.{fieldAfter}
 use Rattle.rules.specs.Reason.{Sound}
 use Rattle.order.specs.Model.{Side, rightSide, leftSide}
 use Rattle.rules.proofs.StepLaws.{number-is}
 use Rattle.rules.proofs.Refusals.{passes}
 use Rattle.field.proofs.TestLaws.{decided, if-true, if-false, each-operation}
-use Rattle.reason.proofs.Reason.{empty-sound, reason-kept}
+use Rattle.laws.proofs.SameQueues.{Same, queues-same}
+use Rattle.rules.proofs.Starts.{start-same}
+use Rattle.reason.proofs.Reason.{start-sound, reason-kept}
 use Rattle.nasa.specs.Definitions.{ScaAircraft, ScaZone, holding3, holding2, lez, maz, base, intermediate, final, runway, SCA}
-use Rattle.nasa.specs.Rules.{Transition, inTurn, when, forFirst, nobodyIn, withQueue, add, verticalEntry, holdingPatternDescend}
+use Rattle.nasa.specs.Rules.{Transition, inTurn, when, forFirst, nobodyIn, withQueue, add, zoneNumber, verticalEntry, holdingPatternDescend}
 use Rattle.nasa.specs.Stands.{sideNamed, stateOf, sideBefore, entryAbove}
 use Rattle.nasa.specs.Steps.{transitionFor}
 use Rattle.nasa.specs.Enabled.{vertically, laterally, descends, initiates, initiatesLateral, merges, holds, exits, goesFinal, lands, taxies, misses}
@@ -98,12 +102,12 @@ reached-on f S c r = elim (decided (eqb (numberOf f r) 0)) [
 ]
 
 -- ---- any list of requests
-reached-after : (f : Field) → Sound f → Reached (stateOf f) → (rs : List Request) → Reached (stateOf (fieldAfter f rs))
+pub reached-after : (f : Field) → Sound f → Reached (stateOf f) → (rs : List Request) → Reached (stateOf (fieldAfter f rs))
 reached-after f S c [] = c
 reached-after f S c (r ∷ rs) = reached-after (stepOf f r .field) (reason-kept f S r .sound) (reached-on f S c r) rs
 
--- an empty field stands for the empty state
-pub empty-state : (legs : Legs) → stateOf (emptyField legs) ≡ emptyState
+-- the empty field stands for the empty state, ..
+empty-state : (legs : Legs) → stateOf (emptyField legs) ≡ emptyState
 unfolding stateOf emptyField inZone zoneOf queueOf orderOf orderLength
 empty-state legs = same-state queues refl refl
   where
@@ -122,5 +126,26 @@ empty-state legs = same-state queues refl refl
     queues final = refl
     queues runway = refl
 
-pub runs-within : (legs : Legs) → T (legalLegs legs) → RunsWithin legs
-runs-within legs l = reached-after (emptyField legs) (empty-sound legs l) (subst Reached (sym (empty-state legs)) start)
+-- .. fields with the same queues stand for the same state, ..
+state-same : {f g : Field} → Same f g → stateOf f ≡ stateOf g
+unfolding stateOf
+state-same {f} {g} s =
+    let queues = queues-same f g s in
+    let sequence = s .sequence in
+    let next = s .next in
+    λ i.
+    record {
+      queue =
+          λ z.
+          map (λ (a : field.Aircraft). record { seq = cond (eqb (zoneNumber z) 13) 1 (suc (before (a .number) (orderOf (sequence i)))); mahf = sideNamed (a .fix) })
+          (queues i (zoneNumber z));
+      nextmahf = sideNamed (next i);
+      nextseq = suc (orderLength (sequence i));
+    }
+
+-- .. and so every empty field that a list may start from stands for it
+pub start-state : (f : Field) → T (emptyStart f) → stateOf f ≡ emptyState
+start-state f t = state-same (start-same f t) ∙ empty-state (f .legs)
+
+pub runs-within : RunsWithin
+runs-within f t = reached-after f (start-sound f t) (subst Reached (sym (start-state f t)) start)

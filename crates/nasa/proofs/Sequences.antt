@@ -4,12 +4,11 @@ use mathlib.Core.Logic.{inl, inr}
 use mathlib.Core.Bool.{Bool, true, false, cond, _||_, true≢false, or-true}
 use mathlib.Core.List.{List, [], _∷_, _++_, map}
 use Prim.Native.Nat.{ℕ, zero, suc, _-_, _≤_, _<_}
-use native.Mathlib.Numerals.{add-one}
 use native.Mathlib.Omega.{arith}
 use borrow.Author.Tests.{lt-ltb}
 use lib.Dec.{eqb, ltb}
-use lib.ListN.{length, take, drop, set, length-append, length-drop}
-use lib.Seq.{length-take-le, take-append-le, take-suc-set}
+use lib.ListN.{length, take, drop, length-append, length-drop}
+use lib.Seq.{take-append-le}
 use Rattle.field.specs.declared.Aircraft as field
 use Rattle.field.specs.declared.Sequence.{Sequence}
 use Rattle.field.specs.declared.Field.{Field}
@@ -20,16 +19,12 @@ use Rattle.field.proofs.TestLaws.{decided, if-true, if-false, same, flip-eqb}
 use Rattle.field.proofs.NumberLists.{or-false-left, or-false-right}
 use Rattle.questions.proofs.FindLaws.{numbers}
 use Rattle.laws.proofs.EditLaws.{ShapedSequence, Shaped}
+use Rattle.descent.proofs.BySequence.{order-length, last-put}
 use Rattle.nasa.specs.Definitions.{ScaAircraft, decrease}
 use Rattle.nasa.specs.Stands.{seen}
 use Rattle.nasa.proofs.States.{asSeen}
 
 -- ---- the sequence
-
--- as many stand in it as its length says
-order-length : (s : Sequence) → ShapedSequence s → length (orderOf s) ≡ s .length
-unfolding orderOf
-order-length s k = length-take-le (s .length) (s .numbers) (omega arith)
 
 -- a list without its first
 moved-up : (m : ℕ) (xs ys : List ℕ) → 1 ≤ m → m ≤ length xs → take (m - 1) (drop 1 xs ++ ys) ≡ drop 1 (take m xs)
@@ -37,16 +32,10 @@ moved-up zero xs ys l h = absurd (omega arith)
 moved-up (suc m) [] ys l h = absurd (omega arith)
 moved-up (suc m) (x ∷ xs) ys l h = let e : suc m - 1 ≡ m = omega arith in ap (λ (i : ℕ). take i (xs ++ ys)) e ∙ take-append-le m xs ys (omega arith)
 
-module _ (s : Sequence) (k : ShapedSequence s) (n : ℕ) where
-  -- another comes to its end
-  pub last-put : s .length < 4 → orderOf (appended s n) ≡ orderOf s ++ (n ∷ [])
-  unfolding orderOf appended
-  last-put h = ap orderOf (if-true _ s (lt-ltb (s .length) 4 h)) ∙ ap (λ (i : ℕ). take i (set (s .numbers) (s .length) n)) (add-one (s .length)) ∙ take-suc-set (s .numbers) (s .length) n (omega arith)
-
-  -- a full one stays as it is
-  pub full-stays : ltb (s .length) 4 ≡ false → appended s n ≡ s
-  unfolding appended
-  full-stays h = if-false _ s h
+-- a full one stays as it is
+pub full-stays : (s : Sequence) (n : ℕ) → ltb (s .length) 4 ≡ false → appended s n ≡ s
+unfolding appended
+full-stays s n h = if-false _ s h
 
 -- x is the first of a field's sequence, and these stand behind it
 pub record FirstInSequence (f : Field) (x : field.Aircraft) : Type 0 where

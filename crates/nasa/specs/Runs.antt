@@ -1,9 +1,10 @@
 -- The states that NASA's model comes to, and those of the fields that requests reach.
 use mathlib.Core.Path.{_≡_}
 use mathlib.Core.List.{List, [], _∷_}
+use lib.Dec.{T}
 use Rattle.request.specs.declared.Request.{Request}
-use Rattle.field.specs.declared.Legs.{Legs}
-use Rattle.field.specs.Airspace.{emptyField}
+use Rattle.field.specs.declared.Field.{Field}
+use Rattle.rules.specs.Start.{emptyStart}
 use Rattle.rules.specs.Play.{fieldAfter}
 use Rattle.order.specs.Model.{rightSide}
 use Rattle.nasa.specs.Definitions.{SCA, first}
@@ -19,7 +20,7 @@ pub data Reached : SCA → Type 0 where
   start : Reached emptyState
   onward : {s t : SCA} → Reached s → (name : Name) → transition name s ≡ t ∷ [] → Reached t
 
--- the state of every field that requests reach from the empty one is among them. Of the runs only the states at their ends are compared: `StepsAs` and
--- `Enabled` compare step by step
-abbrev pub RunsWithin : Legs → Type 0
-RunsWithin legs = (rs : List Request) → Reached (stateOf (fieldAfter (emptyField legs) rs))
+-- the state of every field that requests reach from an empty one that a list may start from is among them. Of the runs only the states at their ends are
+-- compared: `StepsAs` and `Enabled` compare step by step
+abbrev pub RunsWithin : Type 0
+RunsWithin = (f : Field) → T (emptyStart f) → (rs : List Request) → Reached (stateOf (fieldAfter f rs))

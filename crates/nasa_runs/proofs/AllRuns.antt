@@ -1,5 +1,5 @@
--- Every state that NASA's transitions reach from the empty one is the state of the field after a list of accepted requests, from an empty field with any legal legs.
--- Assumes nothing.
+-- Every state that NASA's transitions reach from the empty one is the state of the field after a list of accepted requests, from every empty field that a list may
+-- start from. Assumes nothing.
 use mathlib.Core.Path.{_≡_, refl, sym, ap, _∙_, subst}
 use mathlib.Core.Bool.{true, not, _&&_}
 use mathlib.Core.List.{List, [], _∷_, _++_}
@@ -14,22 +14,20 @@ use Rattle.request.specs.Input.{within}
 use Rattle.request.specs.declared.Request.{Request}
 use Rattle.request.proofs.InputTests as input
 use Rattle.field.specs.declared.Aircraft as field
-use Rattle.field.specs.declared.Legs.{Legs}
 use Rattle.field.specs.declared.Field.{Field}
-use Rattle.field.specs.Airspace.{nobody, emptyField, inZone, legFlownOut}
+use Rattle.field.specs.Airspace.{nobody, inZone, legFlownOut}
 use Rattle.field.specs.Lists.{every}
 use Rattle.questions.specs.Find.{placeOf, aircraftAt}
-use Rattle.fits.specs.Fits.{legalLegs}
 use Rattle.tick.specs.Tick.{ticked}
 use Rattle.rules.specs.Step.{numberOf, stepOf}
+use Rattle.rules.specs.Start.{emptyStart}
 use Rattle.rules.specs.Play.{fieldAfter, played, allAccepted}
 use Rattle.rules.specs.Reason.{Sound}
 use Rattle.demand.specs.Demand.{allFlownOut}
 use Rattle.rules.proofs.Checks.{effect-at}
 use Rattle.rules.proofs.StepLaws.{number-is, field-accepted}
 use Rattle.field.proofs.TestLaws.{pass, passed, every-from}
-use Rattle.reason.proofs.StaysSound.{orderly-sound}
-use Rattle.reason.proofs.Reason.{after-list, reason-kept}
+use Rattle.reason.proofs.Reason.{start-sound, sound-after, reason-kept}
 use Rattle.press.specs.Press.{longTick}
 use Rattle.press.proofs.Proposals.{tick-accepted}
 use Rattle.emptied.proofs.Arriving.{FlownAfter, all-arrive, after-tick, all-flown}
@@ -38,13 +36,13 @@ use Rattle.nasa.specs.Rules.{zoneNumber, merging, exit, finalSegment, landing, 
 use Rattle.nasa.specs.Stands.{stateOf}
 use Rattle.nasa.specs.Enabled.{Name, vertically, laterally, descends, initiates, initiatesLateral, merges, holds, exits, goesFinal}
 use Rattle.nasa.specs.Enabled.{lands, taxies, misses, transition, Entrant, requestFor, mayCome, flownOutIn, ready}
-use Rattle.nasa.specs.Runs.{start, onward}
+use Rattle.nasa.specs.Runs.{Reached, start, onward}
 use Rattle.nasa.proofs.DescendFinalTaxi.{each-side}
 use Rattle.nasa.proofs.StepsAsTransitions.{ticked-state}
 use Rattle.nasa.proofs.States.{First}
 use Rattle.nasa.proofs.Enabled.{somebody}
 use Rattle.nasa.proofs.Followed.{enabled}
-use Rattle.nasa.proofs.ListsAsRuns.{empty-state}
+use Rattle.nasa.proofs.ListsAsRuns.{start-state}
 use Rattle.nasa_runs.specs.AllRuns.{Comes, AllRuns}
 use Rattle.nasa_runs.proofs.Fresh.{new-number, not-found}
 
@@ -117,11 +115,11 @@ module _ (f : Field) (h : T (allFlownOut f)) where
   is-ready new m (holds p) s q = out (maz p) (each-side (λ p. T (within 7 12 (zoneNumber (maz p)))) tt tt p) (somebody f (maz p) _ s q)
 
 -- ---- every run
-module _ (legs : Legs) (l : T (legalLegs legs)) where
-  one-more : {s t : SCA} → Comes legs s → (name : Name) → transition name s ≡ t ∷ [] → Comes legs t
+module _ (empty : Field) (begins : T (emptyStart empty)) where
+  one-more : {s t : SCA} → Comes empty s → (name : Name) → transition name s ≡ t ∷ [] → Comes empty t
   one-more {s} {t} C name q =
-      let f = fieldAfter (emptyField legs) (C .requests) in
-      let S : Sound f = after-list legs l Sound (λ first line runway o. orderly-sound first line runway legs o) (C .requests) in
+      let f = fieldAfter empty (C .requests) in
+      let S : Sound f = sound-after empty (start-sound empty begins) (C .requests) in
       let F = fly mostTicks f S (all-arrive f (S .bounds) mostTicks (omega arith)) in
       let g = fieldAfter f (F .requests) in
       let N = new-number g (F .sound .bounds) in
@@ -136,11 +134,14 @@ module _ (legs : Legs) (l : T (legalLegs legs)) where
       record {
         requests = C .requests ++ (F .requests ++ (r ∷ []));
         accepted =
-            accepted-both (emptyField legs) (C .requests) (F .requests ++ (r ∷ [])) (C .accepted)
+            accepted-both empty (C .requests) (F .requests ++ (r ∷ [])) (C .accepted)
             (accepted-both f (F .requests) (r ∷ []) (F .accepted) (accepted-first g r [] (E .accepted) tt));
-        there = ap stateOf (after-both (emptyField legs) (C .requests) (F .requests ++ (r ∷ [])) ∙ after-both f (F .requests) (r ∷ [])) ∙ E .leads-to;
+        there = ap stateOf (after-both empty (C .requests) (F .requests ++ (r ∷ [])) ∙ after-both f (F .requests) (r ∷ [])) ∙ E .leads-to;
       }
 
-  pub all-runs : AllRuns legs
-  all-runs s start = record { requests = []; accepted = tt; there = empty-state legs }
-  all-runs s (onward c name q) = one-more (all-runs _ c) name q
+  comes : (s : SCA) → Reached s → Comes empty s
+  comes s start = record { requests = []; accepted = tt; there = start-state empty begins }
+  comes s (onward c name q) = one-more (comes _ c) name q
+
+pub all-runs : AllRuns
+all-runs f t s c = comes f t s c

@@ -3,19 +3,20 @@ use mathlib.Core.Path.{_≡_}
 use mathlib.Core.List.{List}
 use lib.Dec.{T}
 use Rattle.request.specs.declared.Request.{Request}
-use Rattle.field.specs.declared.Legs.{Legs}
-use Rattle.field.specs.Airspace.{emptyField}
+use Rattle.field.specs.declared.Field.{Field}
+use Rattle.rules.specs.Start.{emptyStart}
 use Rattle.rules.specs.Play.{fieldAfter, played, allAccepted}
 use Rattle.nasa.specs.Definitions.{SCA}
 use Rattle.nasa.specs.Stands.{stateOf}
 use Rattle.nasa.specs.Runs.{Reached}
 
--- a list of requests, each of them accepted, after which the field, from the empty one, stands for a state
-pub record Comes (legs : Legs) (s : SCA) : Type 0 where
+-- a list of requests, each of them accepted, after which the field, from f on, stands for a state
+pub record Comes (f : Field) (s : SCA) : Type 0 where
   pub requests : List Request
-  pub accepted : T (allAccepted (played (emptyField legs) requests))
-  pub there : stateOf (fieldAfter (emptyField legs) requests) ≡ s
+  pub accepted : T (allAccepted (played f requests))
+  pub there : stateOf (fieldAfter f requests) ≡ s
 
--- requests come to every state that NASA's transitions reach; as in `RunsWithin`, of a run only the state at its end is compared
-abbrev pub AllRuns : Legs → Type 0
-AllRuns legs = (s : SCA) → Reached s → Comes legs s
+-- requests come to every state that NASA's transitions reach, from every empty field that a list may start from; as in `RunsWithin`, of a run only the state at
+-- its end is compared
+abbrev pub AllRuns : Type 0
+AllRuns = (f : Field) → T (emptyStart f) → (s : SCA) → Reached s → Comes f s

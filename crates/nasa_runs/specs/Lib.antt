@@ -1,1 +1,2 @@
 pub mod AllRuns
+pub mod StepsBack

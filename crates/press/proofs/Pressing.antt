@@ -5,14 +5,15 @@ use mathlib.Core.Bool.{Bool, true, false, cond, _&&_}
 use mathlib.Core.List.{List, [], _∷_, _++_}
 use Prim.Native.Nat.{ℕ, zero, suc, _+_, _*_, _≤_, _<_}
 use native.Mathlib.Omega.{arith}
-use lib.Dec.{T}
+use lib.Dec.{T, eqb}
 use lib.ListN.{length, length-append}
 use borrow.Author.Tests.{eq-eqb}
 use Rattle.limits.specs.Limits.{mostPresses}
-use Rattle.request.specs.Input.{within}
+use Rattle.request.specs.Input.{within, firstRefused}
 use Rattle.request.specs.declared.Request.{Request}
 use Rattle.field.specs.declared.Field.{Field}
 use Rattle.field.proofs.TestLaws.{passed, if-true, if-false}
+use Rattle.questions.specs.Counts.{presentOn}
 use Rattle.bounds.specs.Bounds.{withinBounds}
 use Rattle.rules.specs.declared.Answer.{Answer}
 use Rattle.rules.specs.declared.Stepped.{Stepped}
@@ -28,7 +29,7 @@ use Rattle.press.specs.declared.Ending.the-variants as ending
 use Rattle.press.specs.declared.Ending.{Ending}
 use Rattle.press.specs.declared.Held.{Held}
 use Rattle.press.specs.Press.{candidates, firstAccepted, proposalOf}
-use Rattle.press.specs.HeldDown.{thenPressed, presses, heldRequests, endingOn, heldOf, pressLine, pressLines, heldLines}
+use Rattle.press.specs.HeldDown.{thenPressed, presses, heldRequests, endingNumber, numberHeld, endingOn, heldOf, pressLine, pressLines, heldLines}
 use Rattle.press.proofs.Proposals.{Proposed, proposed, proposal-is, proposal-refused, button-kind-moves}
 
 -- ---- the requests of the presses, one by one
@@ -155,6 +156,16 @@ module _ (N : ℕ) (f₀ : Field) (out₀ : List ℕ) where
         }))
 
 -- ---- the button held down
+
+-- its number is 10 where the field breaks a bound, else 0
+pub held-number : (f : Field) → endingNumber (heldOf f .ending) ≡ numberHeld f
+unfolding heldOf
+held-number f = go (withinBounds f) (eqb (presentOn (fieldAfter f (heldRequests f))) 0)
+  where
+    go : (b c : Bool) → endingNumber (cond b (cond c ending.None ending.Spent) ending.Refused) ≡ firstRefused ((10, b) ∷ [])
+    go true true = refl
+    go true false = refl
+    go false c = refl
 
 -- on a field within the bounds: how it ends on the last field, how many were played, and the last field
 pub held-is : (f : Field) {e : Ending} {n : ℕ} {g : Field} → T (withinBounds f) → e ≡ endingOn g → n ≡ length (heldRequests f) → g ≡ fieldAfter f (heldRequests f)

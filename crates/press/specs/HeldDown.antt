@@ -5,7 +5,7 @@ use Prim.Native.Nat.{ℕ, zero, suc}
 use lib.Dec.{eqb}
 use lib.ListN.{length}
 use Rattle.limits.specs.Limits.{mostPresses}
-use Rattle.request.specs.Input.{isTick}
+use Rattle.request.specs.Input.{isTick, firstRefused}
 use Rattle.request.specs.declared.Request.{Request}
 use Rattle.field.specs.declared.Field.{Field}
 use Rattle.questions.specs.Counts.{presentOn}
@@ -40,11 +40,21 @@ heldRequests f = presses mostPresses f
 
 -- ---- what it reports
 
+-- the number of each ending (02, 2.6): 10 where a bound is broken, before anything is proposed; 0 where it ends with none, and where it is spent
+abbrev pub endingNumber : Ending → ℕ
+endingNumber ending.Refused = 10
+endingNumber ending.None = 0
+endingNumber ending.Spent = 0
+
+-- the number of the button held down on a field: 10 where that breaks a bound, else 0
+abbrev pub numberHeld : Field → ℕ
+numberHeld f = firstRefused ((10, withinBounds f) ∷ [])
+
 -- none if nobody is on the field, else spent
 abbrev pub endingOn : Field → Ending
 endingOn f = cond (eqb (presentOn f) 0) ending.None ending.Spent
 
--- how it ends, how many requests were played, and the field; a field that breaks a bound is refused 10 and stays as it is
+-- how it ends, how many requests were played, and the field; a field that breaks a bound is refused and stays as it is
 unfoldable pub heldOf : Field → Held
 heldOf f =
     record {

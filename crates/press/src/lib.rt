@@ -19,7 +19,7 @@ ghost use Rattle.bounds.specs.Bounds.{withinBounds};
 ghost use Rattle.rules.specs.Play.{played, moves};
 ghost use Rattle.text.specs.Buffer.{Put};
 ghost use Rattle.press.specs.Press.{proposalOf, pressOf};
-ghost use Rattle.press.specs.HeldDown.{heldRequests, endingOn, heldOf, pressLine, heldLines};
+ghost use Rattle.press.specs.HeldDown.{heldRequests, endingOn, endingNumber, numberHeld, heldOf, pressLine, heldLines};
 
 // What the button proposes: nothing on a field that breaks a bound (10), nothing where nobody is on the field, or a request.
 pub enum Proposal {
@@ -34,7 +34,7 @@ pub struct Pressed {
     pub stepped: Stepped,
 }
 
-// How the button held down ends: the field breaks a bound (10), nobody is on the field, or the presses are spent.
+// How the button held down ends: the field breaks a bound, nobody is on the field, or the presses are spent. `endingNumber` has their numbers.
 pub enum Ending {
     Refused,
     None,
@@ -145,6 +145,7 @@ fn held_within(f: Field, out: &mut [u8]) -> HeldDown
 // at the most, so 147 bytes.
 pub fn hold_down(f: Field, out: &mut [u8]) -> HeldDown
     ensures { λ h. ⌜ h .held ≡ heldOf f ⌝ }
+    ensures { λ h. ⌜ endingNumber (h .held .ending) ≡ numberHeld f ⌝ }
     ensures { λ h. ⌜ Put (now (out .entry)) 0 (heldLines f) (now (out .exit)) (h .end) ⌝ }
     ensures { λ h. ⌜ length (heldLines f) ≤ 147 * moves (played f (heldRequests f)) ⌝ }
 {

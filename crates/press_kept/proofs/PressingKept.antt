@@ -1,24 +1,28 @@
 -- The button on a field with its kept ones: what is proposed, what a press plays, and what is left of presses. Assumes nothing.
 use mathlib.Core.Path.{_≡_, refl, sym, ap, _∙_}
-use mathlib.Core.Bool.{true, false}
+use mathlib.Core.Bool.{Bool, true, false, cond}
 use mathlib.Core.List.{List, [], _∷_}
 use Prim.Native.Nat.{ℕ, zero, suc, _+_, _<_}
 use native.Mathlib.Omega.{arith}
+use lib.Dec.{eqb}
 use lib.ListN.{length}
 use Rattle.limits.specs.Limits.{mostPresses}
 use Rattle.field.proofs.TestLaws.{if-true, if-false}
+use Rattle.request.specs.Input.{firstRefused}
 use Rattle.request.specs.declared.Request.{Request}
+use Rattle.questions.specs.Counts.{presentOn}
 use Rattle.history.specs.declared.History.{History}
 use Rattle.history.specs.declared.SteppedHistory.{SteppedHistory}
 use Rattle.history.specs.History.{withinBoundsHistory, stepHistory}
 use Rattle.press.specs.declared.Proposal.{Proposal}
 use Rattle.press.specs.declared.Proposal.the-variants.{Refused, Play}
 use Rattle.press.specs.declared.Ending.{Ending}
+use Rattle.press.specs.declared.Ending.the-variants as ending
 use Rattle.press.specs.Press.{proposalOf}
-use Rattle.press.specs.HeldDown.{thenPressed}
+use Rattle.press.specs.HeldDown.{thenPressed, endingNumber}
 use Rattle.press_kept.specs.declared.PressedKept.{PressedKept}
 use Rattle.press_kept.specs.declared.HeldKept.{HeldKept}
-use Rattle.press_kept.specs.PressKept.{proposalKept, playedKept, pressKept, pressesKept, afterAsked, endingKept, heldKept}
+use Rattle.press_kept.specs.PressKept.{proposalKept, playedKept, pressKept, pressesKept, afterAsked, numberHeldKept, endingKept, heldKept}
 
 -- ---- one press
 pub kept-refused : (h : History) → withinBoundsHistory h ≡ false → Refused ≡ proposalKept h
@@ -87,6 +91,16 @@ presses-none h = refl
 pub presses-ended : (n : ℕ) (h : History) → ((others : Request → List Request) → thenPressed (proposalKept h) others ≡ []) → pressesKept n h ≡ []
 presses-ended zero h e = presses-none h
 presses-ended (suc n) h e = presses-more n h ∙ e _
+
+-- the number of its ending
+pub held-number : (h : History) → endingNumber (heldKept h .ending) ≡ numberHeldKept h
+unfolding heldKept
+held-number h = go (withinBoundsHistory h) (eqb (presentOn (afterAsked h (pressesKept mostPresses h) .now .field)) 0)
+  where
+    go : (b c : Bool) → endingNumber (cond b (cond c ending.None ending.Spent) ending.Refused) ≡ firstRefused ((10, b) ∷ [])
+    go true true = refl
+    go true false = refl
+    go false c = refl
 
 pub held-is : {first last : History} {i : ℕ} {e : Ending} (w : Pressing first last i) → pressesKept (w .left) last ≡ [] → e ≡ endingKept (withinBoundsHistory first) (last .now .field)
     → _≡_ {A = HeldKept} (record { ending = e; played = i; after = last }) (heldKept first)

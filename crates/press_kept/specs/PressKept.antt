@@ -5,6 +5,7 @@ use mathlib.Core.List.{List, [], _∷_}
 use Prim.Native.Nat.{ℕ, zero, suc}
 use lib.ListN.{length}
 use Rattle.limits.specs.Limits.{mostPresses}
+use Rattle.request.specs.Input.{firstRefused}
 use Rattle.request.specs.declared.Request.{Request}
 use Rattle.field.specs.declared.Field.{Field}
 use Rattle.rules.specs.Step.{numberAndZeros}
@@ -48,6 +49,10 @@ pressesKept (suc n) h = thenPressed (proposalKept h) (λ r. pressesKept n (stepH
 unfoldable pub afterAsked : History → List Request → History
 afterAsked h [] = h
 afterAsked h (r ∷ rs) = afterAsked (stepHistory h r .after) rs
+
+-- the number of the button held down: 10 where a bound is broken, also of a kept field, else 0
+abbrev pub numberHeldKept : History → ℕ
+numberHeldKept h = firstRefused ((10, withinBoundsHistory h) ∷ [])
 
 -- how it ends on a field: refused where a bound was broken at the start, else none if nobody is on the field, else spent
 abbrev pub endingKept : Bool → Field → Ending

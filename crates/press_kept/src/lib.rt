@@ -10,7 +10,8 @@ use press::Proposal;
 use press::ending_on;
 use press::propose;
 ghost use mathlib.Core.Path.{_≡_};
-ghost use Rattle.press_kept.specs.PressKept.{proposalKept, pressKept, endingKept, heldKept};
+ghost use Rattle.press.specs.HeldDown.{endingNumber};
+ghost use Rattle.press_kept.specs.PressKept.{proposalKept, pressKept, numberHeldKept, endingKept, heldKept};
 
 // What a press proposes, and the answer and the field with its kept ones after it.
 pub struct PressedKept {
@@ -71,6 +72,7 @@ fn ending_of(within: bool, h: History) -> Ending
 // The button held down.
 pub fn hold_kept(h: History) -> HeldKept
     ensures { λ r. ⌜ r ≡ heldKept h ⌝ }
+    ensures { λ r. ⌜ endingNumber (r .ending) ≡ numberHeldKept h ⌝ }
 {
     let mut last = h;
     let mut i = 0;

@@ -1,4 +1,4 @@
--- The reason holds after every list of requests from an empty field and is kept by one more; so whoever heads final always has room at its
+-- The reason is kept by every request, and holds after every list of them from every empty field that a list may start from; so whoever heads final always has room at its
 -- side. Assumes nothing.
 use mathlib.Core.Path.{_≡_, sym, ap, _∙_, subst}
 use mathlib.Core.Logic.{inl, inr}
@@ -12,7 +12,6 @@ use borrow.Author.Tests.{eq-eqb, eqb-false}
 use Rattle.request.specs.Input.{firstRefused, inputNumber}
 use Rattle.request.specs.declared.Request.{Request}
 use Rattle.request.proofs.InputTests as input
-use Rattle.field.specs.declared.Aircraft.{Aircraft}
 use Rattle.field.specs.declared.Legs.{Legs}
 use Rattle.field.specs.declared.Field.{Field}
 use Rattle.field.specs.Airspace.{emptyField}
@@ -20,49 +19,26 @@ use Rattle.questions.specs.Counts.{inArea}
 use Rattle.questions.specs.Find.{placeOf, fixOf}
 use Rattle.bounds.specs.Bounds.{withinBounds}
 use Rattle.fits.specs.Fits.{legalLegs}
-use Rattle.order.specs.Model.{Side}
+use Rattle.order.specs.Model.{rightSide}
 use Rattle.rules.specs.Kinds.{placeBefore, startsFrom, headChecks, zoneBefore}
 use Rattle.rules.specs.Step.{checksOf, effectOf, numberOf, stepOf}
 use Rattle.rules.specs.Play.{fieldAfter}
-use Rattle.rules.specs.Reason.{Reason, RoomAtSide, Sound, KeptBy}
+use Rattle.rules.specs.Start.{emptyStart}
+use Rattle.rules.specs.Reason.{Reason, Sound, KeptBy, ReasonHolds, AlwaysRoom, NotReached}
 use Rattle.rules.specs.Examples.{crowded}
 use Rattle.field.proofs.TestLaws.{failed, passed, pass, decided, if-true, if-false}
-use Rattle.line.proofs.Line.{Placed, fieldOf}
-use Rattle.line.proofs.Orderly.{Orderly}
-use Rattle.line.proofs.LineWithin.{within-bounds}
+use Rattle.line.proofs.Line.{empty-is}
 use Rattle.rules.proofs.Checks.{owned, checks-at}
 use Rattle.rules.proofs.StepLaws.{number-is}
-use Rattle.demand.proofs.Demand.{from-empty}
-use Rattle.reason.proofs.AlongLine.{orderly-reason}
+use Rattle.rules.proofs.SameStep.{same-sym}
+use Rattle.rules.proofs.Starts.{start-same, start-legal}
+use Rattle.demand.proofs.Demand.{empty-orderly}
 use Rattle.rules.proofs.Cases.{bounds-not-enough}
 use Rattle.reason.proofs.Room.{reason-gives-room}
 use Rattle.reason.proofs.Invariant.{reason-orderly}
 use Rattle.reason.proofs.StaysSound.{orderly-sound, orderly-kept}
 use Rattle.reason.proofs.SameStep.{sound-same, kept-same}
 use Rattle.reason.proofs.Tidied.{tidied, tidied-zone, tidied-same}
-
--- ---- after every list
-module _ (legs : Legs) (l : T (legalLegs legs)) where
-  -- what holds of every field that an orderly line stands for holds after every list
-  pub after-list : (P : Field → Type 0) → ((f : Side) (line : List Placed) (runway : List Aircraft) → Orderly f line runway legs → P (fieldOf f line runway legs))
-      → (rs : List Request) → P (fieldAfter (emptyField legs) rs)
-  after-list P h rs = let run = from-empty legs l rs in subst P (sym (run .stands)) (h (run .first-then) (run .line-then) (run .runway-then) (run .orderly))
-
-  -- the reason holds after every list of requests
-  pub reason-holds : (rs : List Request) → Reason (fieldAfter (emptyField legs) rs)
-  reason-holds = after-list Reason (λ f line runway o. orderly-reason f line runway legs o)
-
-  -- whoever heads final after any list finds at most one aircraft in the area of its fix
-  pub always-room : (rs : List Request) → RoomAtSide (fieldAfter (emptyField legs) rs)
-  always-room = after-list RoomAtSide (λ f line runway o. reason-gives-room (fieldOf f line runway legs) (orderly-reason f line runway legs o) (within-bounds f line runway legs o))
-
-  -- the empty field has its places, the bounds and the reason
-  pub empty-sound : Sound (emptyField legs)
-  empty-sound = after-list Sound (λ f line runway o. orderly-sound f line runway legs o) []
-
--- the field on which 25 refuses a miss is reached by no list
-pub crowded-not-reached : (legs : Legs) → T (legalLegs legs) → (rs : List Request) → fieldAfter (emptyField legs) rs ≡ crowded → ⊥
-crowded-not-reached legs l rs e = false≢true (sym (bounds-not-enough .no-room) ∙ passed (subst Reason e (reason-holds legs l rs) .room-to-miss))
 
 -- ---- one request, on any field
 
@@ -78,6 +54,33 @@ pub neither-10-nor-25 : (f : Field) → Sound f → (r : Request) → (numberOf 
 neither-10-nor-25 f s r =
     let k = reason-kept f s r in
     (λ e. eqb-false _ 10 (failed (k .not-10)) (number-is f r ∙ e), λ e. eqb-false _ 25 (failed (k .not-25)) (number-is f r ∙ e))
+
+-- ---- after every list
+
+-- the empty field with legal legs has its places, the bounds and the reason, ..
+pub empty-sound : (legs : Legs) → T (legalLegs legs) → Sound (emptyField legs)
+empty-sound legs l = subst Sound (sym (empty-is legs)) (orderly-sound rightSide [] [] legs (empty-orderly legs l))
+
+-- .. and so has every empty field that a list may start from, ..
+pub start-sound : (f : Field) → T (emptyStart f) → Sound f
+start-sound f t = sound-same (emptyField (f .legs)) f (same-sym (start-same f t)) (empty-sound (f .legs) (start-legal f t))
+
+-- .. and every field after a list from one that has them
+pub sound-after : (f : Field) → Sound f → (rs : List Request) → Sound (fieldAfter f rs)
+sound-after f s [] = s
+sound-after f s (r ∷ rs) = sound-after (stepOf f r .field) (reason-kept f s r .sound) rs
+
+-- the reason holds after every list of requests
+pub reason-holds : ReasonHolds
+reason-holds f t rs = sound-after f (start-sound f t) rs .reason
+
+-- whoever heads final after any list finds at most one aircraft in the area of its fix
+pub always-room : AlwaysRoom
+always-room f t rs = let s = sound-after f (start-sound f t) rs in reason-gives-room (fieldAfter f rs) (s .reason) (s .bounds)
+
+-- the field on which 25 refuses a miss is reached by no list
+pub crowded-not-reached : NotReached crowded
+crowded-not-reached f t rs e = false≢true (sym (bounds-not-enough .no-room) ∙ passed (subst Reason e (reason-holds f t rs) .room-to-miss))
 
 -- ---- a missed approach that is accepted
 

@@ -29,12 +29,6 @@ requestNumbers Refused = 0 ∷ 0 ∷ 0 ∷ 0 ∷ 0 ∷ []
 requestNumbers None = 0 ∷ 0 ∷ 0 ∷ 0 ∷ 0 ∷ []
 requestNumbers (Play r) = r .desk ∷ r .kind ∷ r .side ∷ r .number ∷ r .amount ∷ []
 
--- the number of the end of the button held down: 10 where a bound was broken, else 0
-abbrev pub endNumber : Ending → ℕ
-endNumber ending.Refused = 10
-endNumber ending.None = 0
-endNumber ending.Spent = 0
-
 -- 1 where the presses are spent and somebody is still on the field, else 0
 abbrev pub spentMark : Ending → ℕ
 spentMark ending.Refused = 0

@@ -9,7 +9,8 @@ use press::Proposal;
 use request::Request;
 use rules::Answer;
 ghost use mathlib.Core.Path.{_≡_};
-ghost use Rattle.replies.specs.Replies.{answerNumbers, requestNumbers, endNumber, spentMark, heldNumbers, closeMark, gapMiles, pairGaps, spacingNumbers, wideEntry, listingNumbers};
+ghost use Rattle.press.specs.HeldDown.{endingNumber};
+ghost use Rattle.replies.specs.Replies.{answerNumbers, requestNumbers, spentMark, heldNumbers, closeMark, gapMiles, pairGaps, spacingNumbers, wideEntry, listingNumbers};
 
 // The six numbers of an answer.
 pub fn answer_numbers(a: Answer) -> [usize; 6]
@@ -44,7 +45,7 @@ pub fn request_numbers(p: Proposal) -> [usize; 5]
 
 // The number of the end of the button held down.
 pub fn end_number(e: Ending) -> u16
-    ensures { λ r. ⌜ r ≡ endNumber e ⌝ }
+    ensures { λ r. ⌜ r ≡ endingNumber e ⌝ }
 {
     match e {
         Ending::Refused => 10,

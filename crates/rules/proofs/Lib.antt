@@ -3,5 +3,7 @@ pub mod StepLaws
 pub mod Refusals
 pub mod HeadOfRequest
 pub mod MovedShapes
+pub mod SameStep
+pub mod Starts
 pub mod Ticking
 pub mod Cases

@@ -43,6 +43,11 @@ unfolding stepOf
 field-refused f r e =
     ap (λ (s : Stepped). s .field) (if-false (record { answer = answerOf f r; field = effectOf f r }) (record { answer = numberAndZeros (numberOf f r); field = f }) (ne-eqb (numberOf f r) 0 e))
 
+pub answer-refused : (f : Field) (r : Request) → (numberOf f r ≡ 0 → ⊥) → stepOf f r .answer ≡ numberAndZeros (numberOf f r)
+unfolding stepOf
+answer-refused f r e =
+    ap (λ (s : Stepped). s .answer) (if-false (record { answer = answerOf f r; field = effectOf f r }) (record { answer = numberAndZeros (numberOf f r); field = f }) (ne-eqb (numberOf f r) 0 e))
+
 -- the zone that an accepted request but a tick answers: where its aircraft is afterwards
 pub zone-answered : (f : Field) (r : Request) → numberOf f r ≡ 0 → (r .kind ≡ 12 → ⊥) → stepOf f r .answer .zone ≡ placeOf (effectOf f r) (r .number) .zone
 unfolding answerOf acceptance

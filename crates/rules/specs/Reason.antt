@@ -15,6 +15,8 @@ use Rattle.questions.specs.Counts.{inArea}
 use Rattle.questions.specs.Find.{placeOf, fixOf}
 use Rattle.bounds.specs.Bounds.{withinBounds}
 use Rattle.rules.specs.Step.{stepOf}
+use Rattle.rules.specs.Play.{fieldAfter}
+use Rattle.rules.specs.Start.{emptyStart}
 
 -- ---- along the landing sequence
 
@@ -133,3 +135,17 @@ pub record KeptBy (f : Field) (r : Request) : Type 0 where
   pub sound : Sound (stepOf f r .field)
   pub not-10 : T (not (eqb (stepOf f r .answer .number) 10))
   pub not-25 : T (not (eqb (stepOf f r .answer .number) 25))
+
+-- ---- after every list of requests, from every empty field that a list may start from
+
+-- the five hold
+abbrev pub ReasonHolds : Type 0
+ReasonHolds = (f : Field) → T (emptyStart f) → (rs : List Request) → Reason (fieldAfter f rs)
+
+-- whoever heads final has room at its side
+abbrev pub AlwaysRoom : Type 0
+AlwaysRoom = (f : Field) → T (emptyStart f) → (rs : List Request) → RoomAtSide (fieldAfter f rs)
+
+-- no list leads to the field g
+abbrev pub NotReached : Field → Type 0
+NotReached g = (f : Field) → T (emptyStart f) → (rs : List Request) → fieldAfter f rs ≡ g → ⊥

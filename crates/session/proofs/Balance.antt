@@ -5,6 +5,8 @@ use mathlib.Core.List.{List}
 use Prim.Native.Nat.{ℕ}
 use Rattle.practice.specs.File.{legsOf, legsBody, fileNumber}
 use Rattle.practice.proofs.Meaning.{held}
+use Rattle.field.specs.Airspace.{emptyField}
+use Rattle.rules.proofs.Starts.{empty-starts}
 use Rattle.demand.proofs.Demand.{demand-3}
 use Rattle.playing.specs.Playing.{answersFrom, presentFrom}
 use Rattle.playing.proofs.PlayedFiles.{legsHeld, requestsInside, practice-holds, file-legs-legal}
@@ -19,7 +21,7 @@ report-balanced file e =
     let legs = legsHeld file in
     let rs = requestsInside file in
     let h = held file (legsOf (legsBody file)) rs (practice-holds file e) in
-    let d = demand-3 legs (file-legs-legal (legsOf (legsBody file)) (h .legs-legal)) rs in
+    let d = demand-3 (emptyField legs) (empty-starts legs (file-legs-legal (legsOf (legsBody file)) (h .legs-legal))) rs in
     let answers = answersFrom legs rs in
     record {
       answers = answers;

@@ -9,7 +9,7 @@ use Rattle.limits.specs.Limits.{longestLeg}
 use Rattle.leg.specs.Ticks.{Between}
 use Rattle.request.specs.declared.Request.{Request}
 use Rattle.field.specs.declared.Field.{Field}
-use Rattle.field.specs.Airspace.{orderOf}
+use Rattle.field.specs.Airspace.{emptyField, orderOf}
 use Rattle.field.specs.Lists.{Each}
 use Rattle.field.proofs.TestLaws.{passed, if-true}
 use Rattle.practice.specs.File.{legsOf, legsBody, fileNumber}
@@ -18,12 +18,16 @@ use Rattle.practice.proofs.Meaning.{held}
 use Rattle.playing.specs.declared.Played.{Played}
 use Rattle.playing.specs.Playing.{fieldOfFile, fieldFrom, playedOf}
 use Rattle.playing.proofs.PlayedFiles.{requestsInside, practice-holds, played-held}
-use Rattle.demand.specs.Exact.{WholeLegs}
+use Rattle.rules.specs.Start.{emptyStart}
+use Rattle.rules.specs.Play.{fieldAfter}
+use Rattle.rules.proofs.Starts.{empty-starts}
+use Rattle.demand.specs.Exact.{WholeLegs, inMiles}
+use Rattle.demand.proofs.Flights.{legs-legal}
 use Rattle.gaps.specs.declared.Spacing.{Spacing}
 use Rattle.gaps.specs.declared.Spacing.the-variants.{Close, Clear}
 use Rattle.gaps.specs.declared.Pair.{Pair}
 use Rattle.gaps.specs.Gaps.{legalSpacing, pairsIn, pairsListed, gapsOf}
-use Rattle.exact_gaps.specs.ExactGaps.{reached, wayIn4096ths, gapIn, isClose, ExactPair}
+use Rattle.exact_gaps.specs.ExactGaps.{wayIn4096ths, gapIn, isClose, ExactPair}
 use Rattle.exact_gaps.proofs.ExactGaps.{way-few, exact-gaps}
 use Rattle.text.specs.Text.{decimal, space, newline}
 use Rattle.miles.specs.Miles.{milesText}
@@ -31,6 +35,18 @@ use Rattle.spaced.specs.Spaced.{gapText, spacingText, pairLine, pairLine
 use Rattle.spaced.specs.Printed.{wordOf, wholeLine, wholeLines}
 use Rattle.spaced.proofs.ExactMiles.{difference-text}
 use Rattle.spaced.proofs.PairLines.{report-listed}
+
+-- ---- the field that requests reach
+abbrev pub reached : WholeLegs → List Request → Field
+reached w rs = fieldAfter (emptyField (inMiles w)) rs
+
+starts : (w : WholeLegs) → T (emptyStart (emptyField (inMiles w)))
+starts w = empty-starts (inMiles w) (legs-legal w)
+
+-- its legs are those that it began with
+as-begun : (w : WholeLegs) → emptyField (inMiles w) .legs ≡ inMiles w
+unfolding emptyField
+as-begun w = refl
 
 -- ---- a pair
 -- the word and the gap of an answer
@@ -40,16 +56,17 @@ parted (Close gap) = refl
 parted (Clear gap) = refl
 
 module _ (w : WholeLegs) (rs : List Request) (spacing : ℕ) where
-  line-exact : (p : Pair) → ExactPair w rs spacing p → pairLine p ≡ wholeLine w rs spacing (p .leader) (p .follower)
+  line-exact : (p : Pair) → ExactPair w (emptyField (inMiles w)) rs spacing p → pairLine p ≡ wholeLine w rs spacing (p .leader) (p .follower)
   unfolding pairLine wholeLine
   line-exact p x =
-      let ahead = wayIn4096ths w rs (p .leader) in
-      let behind = wayIn4096ths w rs (p .follower) in
-      let text = difference-text (gapIn (p .spacing)) behind ahead (way-few w rs (p .follower)) (way-few w rs (p .leader)) (x .gap) in
+      let ahead = wayIn4096ths w (emptyField (inMiles w)) rs (p .leader) in
+      let behind = wayIn4096ths w (emptyField (inMiles w)) rs (p .follower) in
+      let few = way-few w (emptyField (inMiles w)) (starts w) (as-begun w) rs in
+      let text = difference-text (gapIn (p .spacing)) behind ahead (few (p .follower)) (few (p .leader)) (x .gap) in
       let ends = parted (p .spacing) ∙ (λ i. wordOf (x .close i) ++ (space ∷ text i ++ (newline ∷ []))) in
       ap (λ (r : List ℕ). decimal (p .leader) ++ (space ∷ decimal (p .follower) ++ (space ∷ r))) ends
 
-  lines-exact : (ps : List Pair) → Each (ExactPair w rs spacing) ps → pairLines ps ≡ wholeLines w rs spacing ps
+  lines-exact : (ps : List Pair) → Each (ExactPair w (emptyField (inMiles w)) rs spacing) ps → pairLines ps ≡ wholeLines w rs spacing ps
   lines-exact [] e = refl
   lines-exact (p ∷ ps) e = λ i. line-exact p (e .0) i ++ lines-exact ps (e .1) i
 
@@ -65,7 +82,7 @@ listed-lines ps = report-listed (pairsListed ps) refl ∙ ap pairLines (front ps
 pub reached-exact : (w : WholeLegs) (rs : List Request) (spacing : ℕ) → T (legalSpacing spacing)
     → spacingsReport (gapsOf (reached w rs) spacing) ≡ wholeLines w rs spacing (pairsIn (reached w rs) spacing (orderOf (reached w rs .sequence)))
 reached-exact w rs spacing legal =
-    let e = exact-gaps w rs spacing legal in
+    let e = exact-gaps w (emptyField (inMiles w)) (starts w) (as-begun w) rs spacing legal in
     let ps = pairsIn (reached w rs) spacing (orderOf (reached w rs .sequence)) in
     ap spacingsReport (e .accepted) ∙ listed-lines ps ∙ lines-exact w rs spacing ps (e .exact)
 

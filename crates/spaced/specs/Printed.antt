@@ -6,7 +6,8 @@ use mathlib.Core.List.{List, [], _∷_, _++_}
 use lib.Dec.{ltb}
 use lib.IntN.{ℤ, pos, negsuc, subℕ}
 use Rattle.request.specs.declared.Request.{Request}
-use Rattle.demand.specs.Exact.{WholeLegs}
+use Rattle.field.specs.Airspace.{emptyField}
+use Rattle.demand.specs.Exact.{WholeLegs, inMiles}
 use Rattle.gaps.specs.declared.Pair.{Pair}
 use Rattle.text.specs.Text.{decimal, space, newline}
 use Rattle.exact_gaps.specs.ExactGaps.{wayIn4096ths}
@@ -25,8 +26,8 @@ wordOf false = 99 ∷ 108 ∷ 101 ∷ 97 ∷ 114 ∷ []
 -- the line of a leader and a follower: their ways to the threshold in 4096ths, the difference and how it compares with 64 times the spacing
 unfoldable pub wholeLine : WholeLegs → List Request → ℕ → ℕ → ℕ → List ℕ
 wholeLine w rs spacing leader follower =
-    let ahead = wayIn4096ths w rs leader in
-    let behind = wayIn4096ths w rs follower in
+    let ahead = wayIn4096ths w (emptyField (inMiles w)) rs leader in
+    let behind = wayIn4096ths w (emptyField (inMiles w)) rs follower in
     decimal leader ++ (space ∷ decimal follower ++ (space ∷ wordOf (ltb behind (ahead + 64 * spacing)) ++ (space ∷ signedText (subℕ behind ahead) ++ (newline ∷ []))))
 
 -- the lines of pairs

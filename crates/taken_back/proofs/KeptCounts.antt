@@ -12,7 +12,6 @@ use borrow.Author.Tests.{eq-eqb, ne-eqb, eqb-true, eqb-false, ltb-true, ltb-fals
 use Rattle.limits.specs.Limits.{mostKept}
 use Rattle.request.specs.Input.{within}
 use Rattle.request.specs.declared.Request.{Request}
-use Rattle.field.specs.declared.Legs.{Legs}
 use Rattle.field.proofs.TestLaws.{decided, either-way, if-true, if-false}
 use Rattle.rules.specs.declared.Answer.{Answer}
 use Rattle.rules.specs.Step.{numberAndZeros, stepOf}
@@ -21,7 +20,7 @@ use Rattle.indexed.specs.Indexed.{withIndex}
 use Rattle.finder.specs.declared.Indexed.{Indexed}
 use Rattle.history.specs.declared.History.{History}
 use Rattle.history.specs.declared.SteppedHistory.{SteppedHistory}
-use Rattle.history.specs.History.{startOf, startWith, keeping, numberHistory, stepHistory, withinBoundsHistory, numberBack, givenBack, stepBack}
+use Rattle.history.specs.History.{keeping, numberHistory, stepHistory, withinBoundsHistory, numberBack, givenBack, stepBack}
 use Rattle.history.proofs.StepNumbers as numbers
 use Rattle.taken_back.specs.Calls.{Call, request, back, called, playedCalls, afterCalls, withCall, withCalls, historyOf, longestFrom, longestOf}
 use Rattle.taken_back.proofs.GivenBack.{passes}
@@ -68,9 +67,8 @@ module _ {count long most : ℕ} (p : Counts count long most) where
       (λ u. let g = ltb-true most (long - 1) u in absurd (omega (arith, g, b)))
       (λ u. record { below = omega (arith, b); near = omega (arith, e, some); exact = omega (arith, e, some) })
 
-none-kept : (legs : Legs) → Counts (startOf legs .count) 0 0
-unfolding startOf startWith
-none-kept legs = record { below = omega arith; near = omega arith; exact = refl }
+none-kept : (h : History) → h .count ≡ 0 → Counts (h .count) 0 0
+none-kept h e = record { below = omega arith; near = omega arith; exact = e }
 
 -- a step back that is accepted finds a kept field
 pub some-kept : (h : History) (desk : ℕ) → numberBack h desk ≡ 0 → 0 < h .count
@@ -146,5 +144,5 @@ runs h rs most p (c ∷ cs) =
     let next = withCall rs (c, s .answer) in
     runs (s .after) next (cond (ltb most (length next)) (length next) most) (one-call h rs most p c) cs
 
-pub count-exact : (legs : Legs) (cs : List Call) → afterCalls (startOf legs) cs .count ≡ length (historyOf legs cs) - (longestOf legs cs - mostKept)
-count-exact legs cs = runs (startOf legs) [] 0 (none-kept legs) cs .exact
+pub count-exact : (start : History) → start .count ≡ 0 → (cs : List Call) → afterCalls start cs .count ≡ length (historyOf start cs) - (longestOf start cs - mostKept)
+count-exact start e cs = runs start [] 0 (none-kept start e) cs .exact

@@ -1,3 +1,4 @@
+pub mod Starts
 pub mod PlayedBehind
 pub mod Follows
 pub mod GivenBack

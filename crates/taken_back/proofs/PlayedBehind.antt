@@ -15,8 +15,6 @@ use Rattle.field.proofs.TestLaws.{pass}
 use Rattle.field.proofs.TestParts.{and-then}
 use Rattle.rules.specs.Step.{stepOf}
 use Rattle.rules.specs.Play.{fieldAfter, played, allAccepted}
-use Rattle.rules.specs.Reason.{Sound}
-use Rattle.reason.proofs.Reason.{reason-kept}
 
 pub after-behind : (f : Field) (rs ss : List Request) → fieldAfter f (rs ++ ss) ≡ fieldAfter (fieldAfter f rs) ss
 after-behind f [] ss = refl
@@ -42,8 +40,3 @@ pub every-read : {A : Type 0} (p : A → Bool) (l : List A) (n : ℕ) (d : A) �
 every-read p l zero d h f = refl
 every-read p [] (suc n) d h f = refl
 every-read p (x ∷ l) (suc n) d h f = and-then (f 0 (omega arith)) (every-read p l n d (omega arith) (λ i k. f (suc i) (omega arith)))
-
--- every field that is reached has its places, the bounds and the reason
-pub sound-after : (f : Field) → Sound f → (rs : List Request) → Sound (fieldAfter f rs)
-sound-after f s [] = s
-sound-after f s (r ∷ rs) = sound-after (stepOf f r .field) (reason-kept f s r .sound) rs

@@ -5,11 +5,10 @@ use Prim.Native.Nat.{ℕ, _-_}
 use lib.Dec.{eqb, ltb}
 use lib.ListN.{length, take}
 use Rattle.request.specs.declared.Request.{Request}
-use Rattle.field.specs.declared.Legs.{Legs}
 use Rattle.rules.specs.declared.Answer.{Answer}
 use Rattle.history.specs.declared.History.{History}
 use Rattle.history.specs.declared.SteppedHistory.{SteppedHistory}
-use Rattle.history.specs.History.{startOf, stepHistory, stepBack}
+use Rattle.history.specs.History.{stepHistory, stepBack}
 
 -- what a desk may call: a request, or a step back, which no kind of request is (02, 2.13)
 pub data Call : Type 0 where
@@ -41,9 +40,9 @@ abbrev pub withCalls : List Request → List (Call × Answer) → List Request
 withCalls rs [] = rs
 withCalls rs (p ∷ ps) = withCalls (withCall rs p) ps
 
--- the history of calls from the start with these legs: what is left of the accepted requests, in order, when the steps back have taken theirs away (02, 2.13)
-abbrev pub historyOf : Legs → List Call → List Request
-historyOf legs cs = withCalls [] (playedCalls (startOf legs) cs)
+-- the history of calls from a start: what is left of the accepted requests, in order, when the steps back have taken theirs away (02, 2.13)
+abbrev pub historyOf : History → List Call → List Request
+historyOf start cs = withCalls [] (playedCalls start cs)
 
 -- how many requests the history has had at most, where it has had `most` before these calls: more only after a call that makes it longer
 abbrev pub longestFrom : ℕ → List Request → List (Call × Answer) → ℕ
@@ -51,5 +50,5 @@ longestFrom most rs [] = most
 longestFrom most rs (p ∷ ps) = let next = withCall rs p in longestFrom (cond (ltb most (length next)) (length next) most) next ps
 
 -- the length of the history of calls when it was longest
-abbrev pub longestOf : Legs → List Call → ℕ
-longestOf legs cs = longestFrom 0 [] (playedCalls (startOf legs) cs)
+abbrev pub longestOf : History → List Call → ℕ
+longestOf start cs = longestFrom 0 [] (playedCalls start cs)

@@ -1,9 +1,11 @@
 //! Practice files, binders of them, what files are written from, lists of the
-//! classroom dialect, calls of a host program, calls by two desks, and the two
-//! programs that play, write, convert and answer them: the proved library
-//! ([`library`], [`host_library`]) and the reference.
+//! classroom dialect, calls of a host program, files of cases with such calls,
+//! calls by two desks, and the two programs that play, write, convert and
+//! answer them: the proved library ([`library`], [`host_library`]) and the
+//! reference.
 
 pub mod binders;
+pub mod case_file;
 pub mod damaged;
 pub mod desk_lists;
 pub mod desk_table;
@@ -20,4 +22,5 @@ pub mod list_table;
 pub mod lists;
 pub mod sessions;
 pub mod spacings;
+pub mod state_text;
 pub mod table;

@@ -77,11 +77,11 @@ returns-2 c =
     ∙ ap (λ (x : Held). heldLines f ++ endingLine (x .ending) (x .played)) is
     ∙ sym (button-holds file accepted) in
     let few = button-moves file accepted in
-    let short = subst (λ (g : Field). length (heldLines g) ≤ 147 * moves (played g (heldRequests g))) field (h .hold-down .ensures .1 .1) in
+    let short = subst (λ (g : Field). length (heldLines g) ≤ 147 * moves (played g (heldRequests g))) field (h .hold-down .ensures .1 .1 .1) in
     let last = end-length (held .ending) (held .played) (omega (arith, h .hold-down .ok)) in
     let same = ap length lines in
     let both = length-append (heldLines (k .play .result .field)) (endingLine (held .ending) (held .played)) in
-    let room = written (put-more (h .hold-down .ensures .1 .0) (c .put-end .ensures)) (room-known (k .before .before)) (omega arith) in
+    let room = written (put-more (h .hold-down .ensures .1 .1 .0) (c .put-end .ensures)) (room-known (k .before .before)) (omega arith) in
     stated (subst (λ (b : List ℕ). Written b (now (k .before .before .before .before .args .out)) (c .put-end .result) (c .put-end .last .0)) bytes room)
 
 pub button-spec : {M : Type 1} → statement M

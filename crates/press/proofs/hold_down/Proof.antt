@@ -9,7 +9,9 @@ use borrow.Author.Needs.{needs}
 use Rattle.field.proofs.TestLaws.{pass}
 use Rattle.text.specs.Buffer.{Put}
 use Rattle.text.proofs.Texts.{put-none, put-same}
-use Rattle.press.proofs.Pressing.{held-refused, no-lines}
+use Rattle.press.specs.declared.Held.{Held}
+use Rattle.press.specs.HeldDown.{endingNumber}
+use Rattle.press.proofs.Pressing.{held-refused, held-number, no-lines}
 use Rattle.press.proofs.hold_down.Statement.{statement}
 use Rattle.press.proofs.hold_down.Tie as tie
 
@@ -23,7 +25,10 @@ same-length : tie.Need-same-length
 same-length c = put-same (c .before .before .held-within .ensures .1 .0)
 
 returns : tie.Need-returns
-returns c = c .before .before .held-within .ensures
+returns c =
+    let held = c .before .before .held-within .ensures in
+    let f = c .before .before .before .before .before .before .before .args .f in
+    (held .0, (ap (λ (h : Held). endingNumber (h .ending)) (held .0) ∙ held-number f, held .1))
 
 returns-2 : tie.Need-returns-2
 returns-2 c =
@@ -32,7 +37,10 @@ returns-2 c =
     let none = no-lines (a .f) e in
     let l = ap length none in (
       held-refused (a .f) e,
-      (subst⁻¹ (λ (bytes : List ℕ). Put (now (a .out)) 0 bytes (now (a .out)) 0) none (put-none (now (a .out)) 0), omega arith),
+      (
+        ap (λ (h : Held). endingNumber (h .ending)) (held-refused (a .f) e) ∙ held-number (a .f),
+        (subst⁻¹ (λ (bytes : List ℕ). Put (now (a .out)) 0 bytes (now (a .out)) 0) none (put-none (now (a .out)) 0), omega arith),
+      ),
     )
 
 pub hold-down-spec : {M : Type 1} → statement M

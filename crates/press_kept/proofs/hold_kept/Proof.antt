@@ -11,11 +11,12 @@ use Rattle.limits.specs.Limits.{mostPresses}
 use Rattle.request.specs.declared.Request.{Request}
 use Rattle.press.specs.declared.Proposal.{Proposal}
 use Rattle.press.specs.declared.Proposal.the-variants.{Refused, None, Play}
-use Rattle.press.specs.HeldDown.{thenPressed}
+use Rattle.press.specs.HeldDown.{thenPressed, endingNumber}
 use Rattle.press.proofs.Proposal as proposal
 use Rattle.history.specs.declared.History.{History}
+use Rattle.press_kept.specs.declared.HeldKept.{HeldKept}
 use Rattle.press_kept.specs.PressKept.{proposalKept, pressesKept, endingKept}
-use Rattle.press_kept.proofs.PressingKept.{Pressing, pressing-none, pressing-more, presses-none, presses-ended, held-is}
+use Rattle.press_kept.proofs.PressingKept.{Pressing, pressing-none, pressing-more, presses-none, presses-ended, held-is, held-number}
 use Rattle.press_kept.proofs.hold_kept.Statement.{statement}
 use Rattle.press_kept.proofs.hold_kept.Tie as tie
 
@@ -78,7 +79,8 @@ ending-of-requires c κs = search needs
 returns : tie.Need-returns Inv-loop μ-loop
 returns c =
     let k = c .before .before in
-    held-is (k .before .loop .inv) (none-left k) (c .ending-of .ensures ∙ ap (λ b. endingKept b (k .before .loop .last .now .field)) (c .before .within-bounds-history .ensures))
+    let held = held-is (k .before .loop .inv) (none-left k) (c .ending-of .ensures ∙ ap (λ b. endingKept b (k .before .loop .last .now .field)) (c .before .within-bounds-history .ensures)) in
+    (held, ap (λ (x : HeldKept). endingNumber (x .ending)) held ∙ held-number _)
 
 pub hold-kept-spec : {M : Type 1} → statement M
 hold-kept-spec =

@@ -3,10 +3,11 @@ use mathlib.Core.Path.{ap, _∙_}
 use denote.Ref.{now}
 use borrow.Author.Needs.{needs}
 use Rattle.press_kept.specs.declared.HeldKept.{HeldKept}
-use Rattle.replies.specs.Replies.{endNumber, heldNumbers}
+use Rattle.replies.specs.Replies.{heldNumbers}
 use Rattle.host.proofs.CallsOnState.{held, after-held}
 use Rattle.host.proofs.button.hold_down.Statement.{statement}
 use Rattle.host.proofs.button.hold_down.Tie as tie
+use Rattle.press.specs.HeldDown.{endingNumber}
 
 read-history-requires : tie.Need-read-history-requires
 read-history-requires c κs = search needs
@@ -28,8 +29,8 @@ returns c =
     let n = c .before .before in
     let k = n .before .before in
     let state = now (k .before .before .before .args .state) in
-    let e = held state (k .hold-kept .ensures) (k .before .read-history .ensures) in (
-      n .end-number .ensures ∙ ap (λ (h : HeldKept). endNumber (h .ending)) e,
+    let e = held state (k .hold-kept .ensures .0) (k .before .read-history .ensures) in (
+      n .end-number .ensures ∙ ap (λ (h : HeldKept). endingNumber (h .ending)) e,
       (n .before .held-numbers .ensures ∙ ap (λ (h : HeldKept). heldNumbers (h .played) (h .ending)) e, c .store-after .ensures ∙ after-held state (n .end-number .ensures) e),
     )
 

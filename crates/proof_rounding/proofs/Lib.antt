@@ -1,0 +1,4 @@
+pub mod CrosswiseEqual
+pub mod ExactOperations
+pub mod NothingRounded
+pub mod OffTheGrid
