@@ -30,7 +30,7 @@ extern "C" {
    as the one NaN, which is written as 0x7ff8000000000000: within the bounds one can stand only in a kept field that does not count, and
    there the next accepted call that writes changes any other pattern to this one. The bounds are no checksum: a flipped bit may lead to
    another state within them. After a step back the first 1,733 bytes are those before the request, and a kept field that no longer counts
-   keeps its bytes. A call takes up to some 170 KB of the caller's stack, by its compiled frames.
+   keeps its bytes. Of the caller's stack a request takes up to some 150 KB, a press 170 KB and the button held down 190 KB.
 
    The floating-point environment: a call computes in the processor's rounding direction, as every operation on doubles does, and leaves the
    environment as it was. On a state that a start wrote, and that requests, steps back and the button have changed since, no result is ever
@@ -110,8 +110,8 @@ uint16_t baguymo_host_field(size_t base, size_t intermediate, size_t final_appro
 
 /* The reports, from bytes to bytes. Each writes its report to the start of `out`, a buffer with the room that is named with it, which every
    report of it fits into, and returns how many bytes the report has; the rest of `out` is not changed. Any bytes are allowed as what is
-   read, also none: what is no practice file, binder, list or calls gives a line that says so. Those that play practice files keep a log of
-   57,344 bytes on the stack. */
+   read, also none: what is no practice file, binder, list or calls gives a line that says so. Those that play practice files take up to some
+   120 KB of the caller's stack, with a log of 57,344 bytes in it, and the calls by two desks 250 KB. */
 
 /* How many bytes the buffer of baguymo_report and of baguymo_report_judged has. */
 #define BAGUYMO_REPORT_ROOM 131072
