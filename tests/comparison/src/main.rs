@@ -19,7 +19,7 @@ use comparison::hosted::{self, Hosted};
 use comparison::lessons::Lesson;
 use comparison::library::Library;
 use comparison::list_table::{Built, Lists};
-use comparison::spacings::{at_a_spacing, spacing};
+use comparison::spacings::{at_a_spacing, spacing, Spaced};
 use comparison::table::{Gaps, Presses, Table, Weeks, Writings};
 use comparison::{binders, damaged, desk_lists, fields, lessons, lists, sessions};
 use reference::binder::to_bytes;
@@ -148,11 +148,7 @@ impl Comparison {
     }
 
     /// Files after which the spacing is asked for, each by its own.
-    fn spaced(
-        &mut self,
-        what: &str,
-        files: impl IntoIterator<Item = (Vec<u8>, usize)>,
-    ) -> Result<(), String> {
+    fn spaced(&mut self, what: &str, files: impl IntoIterator<Item = Spaced>) -> Result<(), String> {
         let before = self.spaced;
         for (file, spacing) in files {
             self.spaced += 1;
