@@ -19,14 +19,7 @@ staticlib() {
     (cd "$1" && rt staticlib "$2") > "$made/log" 2>&1 || { cat "$made/log"; exit 1; }
 }
 
-staticlib . session
-staticlib . binder
-staticlib . demonstration
-staticlib . spaced
-staticlib . writer
-staticlib . listing
-staticlib . host
-staticlib . calls_report
+staticlib . baguymo
 cargo build --quiet --release --offline --locked --manifest-path bench/Cargo.toml
 bench=bench/target/release/bench
 source bench/files.sh

@@ -3,7 +3,7 @@
 #include <stdio.h>
 #include <string.h>
 
-#include "host.h"
+#include "baguymo.h"
 
 static uint8_t state[BAGUYMO_STATE_SIZE], saved[BAGUYMO_STATE_SIZE];
 
@@ -16,11 +16,11 @@ static void print(const char *call, uint16_t number, const size_t *values, size_
 }
 
 /* Asks one request; the answer's first number is the call's. */
-static void ask(uint8_t desk, uint8_t kind, uint8_t side, uint16_t aircraft, uint16_t amount) {
+static void ask(size_t desk, size_t kind, size_t side, size_t aircraft, size_t amount) {
     size_t answer[6];
-    char call[64];
+    char call[128];
     uint16_t number = baguymo_host_ask(state, desk, kind, side, aircraft, amount, answer);
-    snprintf(call, sizeof call, "ask %d %d %d %d %d", desk, kind, side, aircraft, amount);
+    snprintf(call, sizeof call, "ask %zu %zu %zu %zu %zu", desk, kind, side, aircraft, amount);
     print(call, number, answer + 1, 5);
 }
 
@@ -47,6 +47,10 @@ int main(void) {
     memcpy(saved, state, sizeof state);
     ask(1, 1, 1, 9, 64);
     ask(3, 12, 0, 0, 64);
+    /* So does a number that is wider than its part: it is not taken for what its low bits are, 10, 1 and 64. */
+    ask(1, 1, 1, 65546, 64);
+    ask(257, 12, 0, 0, 64);
+    ask(1, 12, 0, 0, 65600);
     compare("every byte", sizeof state);
     /* A minute, taken back by the other desk: the field with its index is as it was. */
     ask(2, 12, 0, 0, 64);

@@ -1,4 +1,4 @@
-/* What `baguymo_report` (include/session.h) and `baguymo_button` (include/demonstration.h) write, byte for byte, by a program in C that is
+/* What `baguymo_report` and `baguymo_button` (include/baguymo.h) write, byte for byte, by a program in C that is
    written for speed. Nothing of it is proved, and no field is judged. It is there to be measured beside the library. */
 #ifndef PLAIN_H
 #define PLAIN_H

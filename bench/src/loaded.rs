@@ -3,7 +3,7 @@
 use comparison::library::Buffer;
 use std::ffi::{c_char, c_int, c_void, CStr, CString};
 
-/// As `include/session.h` declares it.
+/// As `include/baguymo.h` declares it.
 type Report = unsafe extern "C" fn(*const u8, usize, *mut u8) -> usize;
 
 const REPORT: &CStr = c"baguymo_report";

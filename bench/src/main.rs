@@ -88,11 +88,12 @@ fn by_host(call: fn(&mut Bytes, &Call) -> Reply) -> Program {
 fn with_eight_kept(file: &[u8]) -> (Box<Bytes>, Vec<Call>) {
     let PracticeFile { legs_64ths, requests } = PracticeFile::read(file).expect("a practice file");
     let mut state = Box::new([0; STATE]);
-    let ticks = [Request::new(12, 0, 0, 64); KEPT].map(Call::Ask);
-    for call in [Call::Start(legs_64ths)].iter().chain(&ticks) {
+    let ask = |request: Request| Call::Ask(request.into());
+    let ticks = [Request::new(12, 0, 0, 64); KEPT].map(ask);
+    for call in [Call::Start(legs_64ths.map(usize::from))].iter().chain(&ticks) {
         assert_eq!(asked_of_reference(&mut state, call).number, 0);
     }
-    (state, requests.into_iter().map(Call::Ask).collect())
+    (state, requests.into_iter().map(ask).collect())
 }
 
 /// Presses of the button on a field on which nobody can move, each a call of its own. Yields how many were accepted.

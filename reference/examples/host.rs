@@ -2,7 +2,7 @@
 
 use reference::host;
 use reference::state::{Bytes, FIELD, STATE};
-use reference::Request;
+use reference::Parts;
 
 /// A call, its number, and what it put out.
 fn print(call: &str, number: u16, values: &[usize]) {
@@ -11,9 +11,9 @@ fn print(call: &str, number: u16, values: &[usize]) {
 }
 
 /// Desk, kind, side, number, amount.
-fn ask(state: &mut Bytes, list: &[(u8, u8, u8, u16, u16)]) {
+fn ask(state: &mut Bytes, list: &[(usize, usize, usize, usize, usize)]) {
     for &(desk, kind, side, aircraft, amount) in list {
-        let (number, answer) = host::ask(state, &Request { kind, side, number: aircraft, amount, desk });
+        let (number, answer) = host::ask(state, Parts { desk, kind, side, number: aircraft, amount });
         print(&format!("ask {desk} {kind} {side} {aircraft} {amount}"), number, &answer[1..]);
     }
 }
@@ -41,7 +41,8 @@ fn main() {
     ask(&mut state, &[(2, 3, 0, 9, 0), (2, 4, 0, 9, 0)]);
 
     let saved = state;
-    ask(&mut state, &[(1, 1, 1, 9, 64), (3, 12, 0, 0, 64)]);
+    ask(&mut state, &[(1, 1, 1, 9, 64), (3, 12, 0, 0, 64), (1, 1, 1, 65_546, 64), (257, 12, 0, 0, 64)]);
+    ask(&mut state, &[(1, 12, 0, 0, 65_600)]);
     compare("every byte", state == saved);
     ask(&mut state, &[(2, 12, 0, 0, 64)]);
     compare("the field", state[..FIELD] == saved[..FIELD]);

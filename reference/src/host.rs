@@ -1,12 +1,13 @@
-//! The calls of a host program on the state that it lends (`include/host.h`). Each yields its number and its outputs, which are zeros
-//! where it is refused. A refused call leaves the state; any other that may change it writes the whole of it anew.
+//! The calls of a host program on the state that it lends (`include/baguymo.h`). Each takes numbers as wide as they come, and yields its
+//! number and its outputs, which are zeros where it is refused. A refused call leaves the state; any other that may change it writes the
+//! whole of it anew.
 
 use crate::button::{proposed, MOST_PRESSES};
 use crate::classroom;
 use crate::field::{Answer, Legs};
-use crate::file::leg_allowed;
 use crate::history::History;
 use crate::index::Indexed;
+use crate::parts::{self, Parts};
 use crate::refusal::{BackRefusal, ClassroomRefusal, Refusal};
 use crate::request::{Request, DESKS};
 use crate::spacing::{self, Gap, Pair};
@@ -14,22 +15,22 @@ use crate::state::{Bytes, State};
 
 /// The number of a leg that is not 1 to 4096.
 const LEG: u16 = 7;
+/// The number of a speed that is not 1 to 512.
+const SPEED: u16 = 4;
 
 /// Number, aircraft, zone, fix, leader, along.
 pub type Six = [usize; 6];
 
 /// The empty field with four legs in 64ths of a mile: base, intermediate, final, missed.
-pub fn start(legs_64ths: [u16; 4], bytes: &mut Bytes) -> u16 {
-    if !legs_64ths.into_iter().all(leg_allowed) {
-        return LEG;
-    }
+pub fn start(legs_64ths: [usize; 4], bytes: &mut Bytes) -> u16 {
+    let Some(legs_64ths) = parts::legs(legs_64ths) else { return LEG };
     *bytes = State::new(&History::empty(Legs::from_64ths(legs_64ths))).to_bytes();
     0
 }
 
 /// One request, before which the field is kept.
-pub fn ask(bytes: &mut Bytes, request: &Request) -> (u16, Six) {
-    match asked(bytes, request) {
+pub fn ask(bytes: &mut Bytes, parts: Parts) -> (u16, Six) {
+    match parts.request().and_then(|request| asked(bytes, &request)) {
         Ok(answer) => (0, six(0, answer)),
         Err(refusal) => (refusal.number().into(), six(refusal.number(), Answer::ZEROS)),
     }
@@ -45,17 +46,15 @@ fn asked(bytes: &mut Bytes, request: &Request) -> Result<Answer, Refusal> {
 }
 
 /// One step back by a desk.
-pub fn back(bytes: &mut Bytes, desk: u8) -> u16 {
+pub fn back(bytes: &mut Bytes, desk: usize) -> u16 {
     match taken_back(bytes, desk) {
         Ok(()) => 0,
         Err(refusal) => refusal.number().into(),
     }
 }
 
-fn taken_back(bytes: &mut Bytes, desk: u8) -> Result<(), BackRefusal> {
-    if !DESKS.contains(&desk) {
-        return Err(BackRefusal::Desk);
-    }
+fn taken_back(bytes: &mut Bytes, desk: usize) -> Result<(), BackRefusal> {
+    let desk = DESKS.into_iter().find(|&each| usize::from(each) == desk).ok_or(BackRefusal::Desk)?;
     let (mut state, mut history) = read(bytes).ok_or(BackRefusal::FieldBreaksBound)?;
     history.step_back(desk)?;
     state.taken_back();
@@ -87,7 +86,7 @@ pub fn hold_down(bytes: &mut Bytes) -> (u16, [usize; 2]) {
 }
 
 /// The spacing of up to three pairs: how many, then leader, follower and 1 where it is close; and the gaps in miles.
-pub fn spacing(bytes: &Bytes, spacing: u16) -> (u16, [usize; 10], [f64; 3]) {
+pub fn spacing(bytes: &Bytes, spacing: usize) -> (u16, [usize; 10], [f64; 3]) {
     let mut numbers = [0; 10];
     let mut gaps = [0.0; 3];
     let pairs = match spaced(bytes, spacing) {
@@ -106,8 +105,8 @@ pub fn spacing(bytes: &Bytes, spacing: u16) -> (u16, [usize; 10], [f64; 3]) {
     (0, numbers, gaps)
 }
 
-fn spaced(bytes: &Bytes, spacing: u16) -> Result<Vec<Pair>, Refusal> {
-    spacing::check(spacing)?;
+fn spaced(bytes: &Bytes, spacing: usize) -> Result<Vec<Pair>, Refusal> {
+    let spacing = spacing::check(spacing)?;
     let (_, history) = judged(bytes).ok_or(Refusal::FieldBreaksBound)?;
     spacing::pairs(&history.field.field, spacing)
 }
@@ -129,7 +128,9 @@ pub fn list(bytes: &Bytes) -> (u16, [usize; 21]) {
 }
 
 /// The field that a list of the classroom dialect builds.
-pub fn field(legs_64ths: [u16; 4], speed: u16, list: &[u8], bytes: &mut Bytes) -> u16 {
+pub fn field(legs_64ths: [usize; 4], speed: usize, list: &[u8], bytes: &mut Bytes) -> u16 {
+    let Some(legs_64ths) = parts::legs(legs_64ths) else { return LEG };
+    let Ok(speed) = u16::try_from(speed) else { return SPEED };
     let head = legs_64ths.into_iter().chain([speed]).flat_map(u16::to_le_bytes);
     let input: Vec<u8> = head.chain(list.iter().copied()).collect();
     match classroom::from_bytes(&input) {

@@ -16,7 +16,8 @@
 //! practice file, [`classroom`] converts a field to a list and back,
 //! [`history`] keeps the last fields and takes requests back, [`mod@calls`] reads
 //! calls by two desks, [`desks`] renames what is the other desk's, [`host`] has
-//! the calls of a host program, and [`mod@state`] the bytes that it lends.
+//! the calls of a host program, [`parts`] the numbers that it hands over, and
+//! [`mod@state`] the bytes that it lends.
 
 pub mod binder;
 pub mod button;
@@ -29,6 +30,7 @@ pub mod file;
 pub mod history;
 pub mod host;
 pub mod index;
+pub mod parts;
 pub mod refusal;
 pub mod request;
 pub mod spacing;
@@ -43,6 +45,7 @@ pub use field::{Aircraft, Answer, Field, Legs, Progress, Side, Zone};
 pub use file::PracticeFile;
 pub use history::History;
 pub use index::{Index, Indexed};
+pub use parts::Parts;
 pub use refusal::{BackRefusal, BinderRefusal, ClassroomRefusal, FileRefusal, Refusal, WriteRefusal};
 pub use request::{Call, Request};
 pub use spacing::{Gap, Pair};
@@ -98,10 +101,10 @@ pub fn button(file: &[u8]) -> Vec<u8> {
     if_read(file, |practice, out| hold_down(played(practice, Field::step, |_, _, _| ()), out))
 }
 
-/// The whole output of `spacing` for a spacing in 64ths of a mile and the bytes of one practice file.
-pub fn spacing(file: &[u8], spacing: u16) -> Vec<u8> {
+/// The whole output of `spacing` for a spacing in 64ths of a mile, as wide as it comes, and the bytes of one practice file.
+pub fn spacing(file: &[u8], spacing: usize) -> Vec<u8> {
     match spacing::check(spacing) {
-        Ok(()) => if_read(file, |practice, out| {
+        Ok(spacing) => if_read(file, |practice, out| {
             let field = played(practice, Field::step, |_, _, _| ());
             // From an empty field no bound is ever broken.
             let pairs = spacing::pairs(&field, spacing).expect("within the bounds");

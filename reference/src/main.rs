@@ -24,7 +24,7 @@ fn main() -> io::Result<()> {
         ["classroom", "list"] => (reference::file::LONGEST, Box::new(reference::classroom_list)),
         ["classroom", "field"] => (reference::classroom::LONGEST_INPUT, Box::new(reference::classroom_field)),
         ["spacing", word] => {
-            // What is no number of 16 bits is refused as 0 is.
+            // What is no number, or wider than any, is refused as 0 is.
             let spacing = word.parse().unwrap_or(0);
             (reference::file::LONGEST, Box::new(move |file| reference::spacing(file, spacing)))
         }

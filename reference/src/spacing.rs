@@ -23,17 +23,17 @@ pub struct Pair {
     pub gap: Gap,
 }
 
-/// Whether a spacing in 64ths of a mile may be asked for.
-pub fn check(spacing: u16) -> Result<(), Refusal> {
-    match spacing {
-        1..=WIDEST => Ok(()),
+/// A spacing in 64ths of a mile, as wide as it comes, if it may be asked for.
+pub fn check(spacing: usize) -> Result<u16, Refusal> {
+    match u16::try_from(spacing) {
+        Ok(spacing @ 1..=WIDEST) => Ok(spacing),
         _ => Err(Refusal::Amount),
     }
 }
 
 /// The pairs of a field in the order of the sequence, each by the spacing in 64ths of a mile.
 pub fn pairs(field: &Field, spacing: u16) -> Result<Vec<Pair>, Refusal> {
-    check(spacing)?;
+    check(spacing.into())?;
     if !field.within_bounds() {
         return Err(Refusal::FieldBreaksBound);
     }

@@ -1,4 +1,4 @@
-//! The state that a host program lends (`include/host.h`): any 15,605 bytes as fields with their indexes, and back.
+//! The state that a host program lends (`include/baguymo.h`): any 15,605 bytes as fields with their indexes, and back.
 
 use std::collections::VecDeque;
 

@@ -1,15 +1,17 @@
 //! Writing a practice file into a lent buffer (document 02, 2.11).
 
 use crate::file::{leg_allowed, u16_at, PracticeFile, LEGS_LENGTH, MOST_REQUESTS, REQUEST};
+use crate::parts;
 use crate::refusal::WriteRefusal;
 use crate::request::Request;
 
 /// The longest input that is written as a file: the legs and the most requests.
 pub const LONGEST_INPUT: usize = LEGS_LENGTH + REQUEST * MOST_REQUESTS;
 
-/// Writes the practice file of four legs (base, intermediate, final, missed, in 64ths of a mile) and of requests, six bytes each, to
-/// the start of a buffer, and yields its length. Where it is refused, the buffer stays as it was.
-pub fn write(legs_64ths: [u16; 4], requests: &[u8], buffer: &mut [u8]) -> Result<usize, WriteRefusal> {
+/// Writes the practice file of four legs (base, intermediate, final, missed, in 64ths of a mile, as wide as they come) and of requests, six
+/// bytes each, to the start of a buffer, and yields its length. Where it is refused, the buffer stays as it was.
+pub fn write(legs_64ths: [usize; 4], requests: &[u8], buffer: &mut [u8]) -> Result<usize, WriteRefusal> {
+    let legs_64ths = parts::legs(legs_64ths).ok_or(WriteRefusal::Leg)?;
     let file = checked(legs_64ths, requests)?.to_bytes();
     let start = buffer.get_mut(..file.len()).ok_or(WriteRefusal::Buffer)?;
     start.copy_from_slice(&file);

@@ -7,11 +7,11 @@ use common::Dice;
 use reference::button::{proposed, MOST_PRESSES};
 use reference::desks::reply_kept;
 use reference::explore::requests;
-use reference::host::{ask, back, field, hold_down, list, press, spacing, start};
+use reference::host::{self, back, field, hold_down, list, press, spacing, start};
 use reference::state::{Bytes, State, FIELD, NAN, STATE};
 use reference::{Asked, History, Indexed, Legs, Listed, Request};
 
-const LEGS: [u16; 4] = [64, 128, 192, 256];
+const LEGS: [usize; 4] = [64, 128, 192, 256];
 
 fn started() -> Bytes {
     let mut state = [0xa5; STATE];
@@ -21,6 +21,10 @@ fn started() -> Bytes {
 
 fn request(desk: u8, kind: u8, side: u8, number: u16, amount: u16) -> Request {
     Request::new(kind, side, number, amount).by(desk)
+}
+
+fn ask(state: &mut Bytes, request: &Request) -> (u16, [usize; 6]) {
+    host::ask(state, (*request).into())
 }
 
 fn accepted(state: &mut Bytes, list: &[(u8, u8, u8, u16, u16)]) {
@@ -118,7 +122,7 @@ fn beside_a_history() {
     let mut dice = Dice(5);
     for _ in 0..60 {
         let mut state = started();
-        let mut beside = History::empty(Legs::from_64ths(LEGS));
+        let mut beside = History::empty(Legs::from_64ths(LEGS.map(|leg| leg as u16)));
         for _ in 0..120 {
             let asked = match dice.below(8) {
                 0 => Asked::Back(dice.pick(&[1, 2, 2, 3])),
@@ -130,7 +134,7 @@ fn beside_a_history() {
             };
             let (number, answer) = reply_kept(&mut beside, asked);
             let given = match asked {
-                Asked::Back(desk) => (back(&mut state, desk), [0; 6]),
+                Asked::Back(desk) => (back(&mut state, desk.into()), [0; 6]),
                 Asked::Request(request) => ask(&mut state, &request),
             };
             let told = [answer.aircraft, answer.zone.into(), answer.fix.into(), answer.leader, answer.along];

@@ -212,7 +212,7 @@ fn decimal_fractions() {
     }
 }
 
-fn report(file: &[u8], spacing: u16) -> String {
+fn report(file: &[u8], spacing: usize) -> String {
     String::from_utf8(reference::spacing(file, spacing)).expect("ASCII")
 }
 

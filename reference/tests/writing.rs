@@ -22,7 +22,7 @@ fn bytes(requests: &[(u8, u8, u16, u16)]) -> Vec<u8> {
 /// What comes of a buffer of this length, and the buffer.
 fn written(legs: [u16; 4], requests: &[u8], length: usize) -> (Outcome, Vec<u8>) {
     let mut buffer = vec![LENT; length];
-    let outcome = write(legs, requests, &mut buffer);
+    let outcome = write(legs.map(usize::from), requests, &mut buffer);
     (outcome, buffer)
 }
 

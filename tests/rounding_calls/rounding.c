@@ -11,10 +11,7 @@
 #include <string.h>
 #include <xmmintrin.h>
 
-#include "demonstration.h"
-#include "host.h"
-#include "session.h"
-#include "spaced.h"
+#include "baguymo.h"
 
 enum { MODES = 5, NEAREST = 0, DOWN = 1, FLUSHED = 4, LONGEST = 24610, HEAD = 26, BODY = 34, CALLS = 300, ON_FINAL = 11 * 128 };
 static const char *const names[MODES] = {"nearest", "down", "up", "toward zero", "denormals flushed"};
@@ -25,11 +22,11 @@ static const int directions[MODES] = {FE_TONEAREST, FE_DOWNWARD, FE_UPWARD, FE_T
 #define INEXACT 0x0020u
 #define MARKS 0x003fu
 
-/* A call of the host, with its arguments in the order of include/host.h. */
+/* A call of the host, with its arguments in the order of include/baguymo.h. */
 enum what { START, ASK, BACK, PRESS, HOLD_DOWN, SPACING, LIST, FIELD };
 struct call {
     enum what what;
-    uint16_t values[5];
+    size_t values[5];
     const uint8_t *list;
     size_t length;
 };
@@ -70,14 +67,14 @@ static bool left(int mode, unsigned word) {
 }
 
 static size_t called(const struct call *c, uint8_t *state, struct reply *r) {
-    const uint16_t *v = c->values;
+    const size_t *v = c->values;
     switch (c->what) {
     case START:
         return baguymo_host_start(v[0], v[1], v[2], v[3], state);
     case ASK:
-        return baguymo_host_ask(state, (uint8_t)v[0], (uint8_t)v[1], (uint8_t)v[2], v[3], v[4], r->values);
+        return baguymo_host_ask(state, v[0], v[1], v[2], v[3], v[4], r->values);
     case BACK:
-        return baguymo_host_back(state, (uint8_t)v[0]);
+        return baguymo_host_back(state, v[0]);
     case PRESS:
         return baguymo_host_press(state, r->values, r->values + 5);
     case HOLD_DOWN:

@@ -53,13 +53,3 @@ pub fn week(binder: &[u8], out: &mut Buffer) -> usize
     }
     put_week(bytes, counts_of(binder))
 }
-
-// `week` for C and Rust (include/binder.h).
-#[no_mangle]
-pub extern "C" fn baguymo_week(binder: &[u8], out: &mut Buffer) -> usize
-    ensures { λ r. ⌜ r ≡ length (weekOf (now (binder .entry))) ⌝ }
-    ensures { λ r. ⌜ now (out .exit) ≡ weekOf (now (binder .entry)) ++ drop r (now (out .entry)) ⌝ }
-    ensures { λ r. ⌜ r ≤ room ⌝ }
-{
-    week(binder, out)
-}

@@ -120,13 +120,3 @@ pub fn desks(input: &[u8], out: &mut Buffer) -> usize
     }
     put_calls(bytes, input, legs_in_miles(legs_in(input)))
 }
-
-// `desks` for C and Rust (include/calls_report.h).
-#[no_mangle]
-pub extern "C" fn baguymo_desks(input: &[u8], out: &mut Buffer) -> usize
-    ensures { λ r. ⌜ r ≡ length (desksOf (now (input .entry))) ⌝ }
-    ensures { λ r. ⌜ now (out .exit) ≡ desksOf (now (input .entry)) ++ drop r (now (out .entry)) ⌝ }
-    ensures { λ r. ⌜ r ≤ room ⌝ }
-{
-    desks(input, out)
-}

@@ -52,13 +52,3 @@ pub fn button(file: &[u8], out: &mut Buffer) -> usize
     let ending = held.ending;
     put_end(bytes, h.end, ending, held.played)
 }
-
-// `button` for C and Rust (include/demonstration.h).
-#[no_mangle]
-pub extern "C" fn baguymo_button(file: &[u8], out: &mut Buffer) -> usize
-    ensures { λ r. ⌜ r ≡ length (buttonOf (now (file .entry))) ⌝ }
-    ensures { λ r. ⌜ now (out .exit) ≡ buttonOf (now (file .entry)) ++ drop r (now (out .entry)) ⌝ }
-    ensures { λ r. ⌜ r ≤ room ⌝ }
-{
-    button(file, out)
-}

@@ -1,4 +1,4 @@
--- What a host's program calls on a state that it lends as bytes (include/host.h): the start (01), a request, a step back (02, 2.13), the button (02, 2.6),
+-- What a host's program calls on a state that it lends as bytes (include/baguymo.h): the start (01), a request, a step back (02, 2.13), the button (02, 2.6),
 -- the spacing and the classroom dialect; and of each call what it replies and what it leaves, on the history and on the bytes. Definitions only.
 use mathlib.Core.Bool.{cond}
 use mathlib.Core.List.{List, []}

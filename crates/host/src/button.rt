@@ -12,12 +12,7 @@ ghost use mathlib.Core.Path.{_≡_};
 ghost use Rattle.host.specs.Calls.{press, holdDown, replyOn, bytesLeft};
 
 // One press of the button on the state: its number, the request that it plays, and the answer.
-#[no_mangle]
-pub extern "C" fn baguymo_host_press(
-    state: &mut State,
-    request: &mut [usize; 5],
-    answer: &mut [usize; 6],
-) -> u16
+pub fn press(state: &mut State, request: &mut [usize; 5], answer: &mut [usize; 6]) -> u16
     ensures { λ r. ⌜ r ≡ replyOn (now (state .entry)) press .number ⌝ }
     ensures { λ _. ⌜ now (request .exit) ≡ replyOn (now (state .entry)) press .request ⌝ }
     ensures { λ _. ⌜ now (answer .exit) ≡ replyOn (now (state .entry)) press .numbers ⌝ }
@@ -34,8 +29,7 @@ pub extern "C" fn baguymo_host_press(
 }
 
 // The button held down on the state: its number, how many requests it played, and whether its presses are spent.
-#[no_mangle]
-pub extern "C" fn baguymo_host_hold_down(state: &mut State, report: &mut [usize; 2]) -> u16
+pub fn hold_down(state: &mut State, report: &mut [usize; 2]) -> u16
     ensures { λ r. ⌜ r ≡ replyOn (now (state .entry)) holdDown .number ⌝ }
     ensures { λ _. ⌜ now (report .exit) ≡ replyOn (now (state .entry)) holdDown .numbers ⌝ }
     ensures { λ _. ⌜ now (state .exit) ≡ bytesLeft (now (state .entry)) holdDown ⌝ }

@@ -1,4 +1,5 @@
-// What a host's program calls on a state that it lends as bytes (include/host.h): the start, a request, a step back, and a field of the classroom dialect.
+// The calls of a host's program on a state that it lends as bytes, by the numbers of the rules (`baguymo` has them for C): the start, a request, a step
+// back, and a field of the classroom dialect.
 pub mod button;
 pub mod views;
 
@@ -6,7 +7,7 @@ use decoding::read_history;
 use dialect_field::coming::field_of_list;
 use encoding::store;
 use encoding::store_after;
-use history::start;
+use history::start as empty_history;
 use history::start_with;
 use history::step_back;
 use history::step_history;
@@ -20,54 +21,23 @@ ghost use mathlib.Core.Path.{_≡_};
 ghost use Rattle.host.specs.Calls.{start, ask, back, builtFrom, replyOn, bytesLeft};
 
 // Writes the state of the empty field with these legs, or refuses them.
-#[no_mangle]
-pub extern "C" fn baguymo_host_start(
-    base: u16,
-    intermediate: u16,
-    final_approach: u16,
-    missed: u16,
-    state: &mut State,
-) -> u16
-    ensures { λ r. ⌜ r ≡ replyOn (now (state .entry))
-        (start (record { base = base; intermediate = intermediate; «final_approach» = «final_approach»; missed = missed })) .number ⌝ }
-    ensures { λ _. ⌜ now (state .exit) ≡ bytesLeft (now (state .entry))
-        (start (record { base = base; intermediate = intermediate; «final_approach» = «final_approach»; missed = missed })) ⌝ }
+pub fn start(legs: FileLegs, state: &mut State) -> u16
+    ensures { λ r. ⌜ r ≡ replyOn (now (state .entry)) (start legs) .number ⌝ }
+    ensures { λ _. ⌜ now (state .exit) ≡ bytesLeft (now (state .entry)) (start legs) ⌝ }
 {
-    let legs = FileLegs {
-        base: base,
-        intermediate: intermediate,
-        final_approach: final_approach,
-        missed: missed,
-    };
     if !legs_allowed(legs) {
         return 7;
     }
-    store(state, start(legs_in_miles(legs)));
+    store(state, empty_history(legs_in_miles(legs)));
     0
 }
 
 // A request of the state: its number, and in `answer` its answer.
-#[no_mangle]
-pub extern "C" fn baguymo_host_ask(
-    state: &mut State,
-    desk: u8,
-    kind: u8,
-    side: u8,
-    number: u16,
-    amount: u16,
-    answer: &mut [usize; 6],
-) -> u16
-    ensures { λ r. ⌜ r ≡ replyOn (now (state .entry)) (ask (record { kind = kind; side = side; number = number; amount = amount; desk = desk })) .number ⌝ }
-    ensures { λ _. ⌜ now (answer .exit) ≡ replyOn (now (state .entry)) (ask (record { kind = kind; side = side; number = number; amount = amount; desk = desk })) .numbers ⌝ }
-    ensures { λ _. ⌜ now (state .exit) ≡ bytesLeft (now (state .entry)) (ask (record { kind = kind; side = side; number = number; amount = amount; desk = desk })) ⌝ }
+pub fn ask(state: &mut State, r: Request, answer: &mut [usize; 6]) -> u16
+    ensures { λ n. ⌜ n ≡ replyOn (now (state .entry)) (ask r) .number ⌝ }
+    ensures { λ _. ⌜ now (answer .exit) ≡ replyOn (now (state .entry)) (ask r) .numbers ⌝ }
+    ensures { λ _. ⌜ now (state .exit) ≡ bytesLeft (now (state .entry)) (ask r) ⌝ }
 {
-    let r = Request {
-        kind: kind,
-        side: side,
-        number: number,
-        amount: amount,
-        desk: desk,
-    };
     let s = step_history(read_history(state), r);
     let a = s.answer;
     *answer = answer_numbers(a);
@@ -76,8 +46,7 @@ pub extern "C" fn baguymo_host_ask(
 }
 
 // One step back of the state by a desk: its number.
-#[no_mangle]
-pub extern "C" fn baguymo_host_back(state: &mut State, desk: u8) -> u16
+pub fn back(state: &mut State, desk: u8) -> u16
     ensures { λ r. ⌜ r ≡ replyOn (now (state .entry)) (back desk) .number ⌝ }
     ensures { λ _. ⌜ now (state .exit) ≡ bytesLeft (now (state .entry)) (back desk) ⌝ }
 {
@@ -88,27 +57,10 @@ pub extern "C" fn baguymo_host_back(state: &mut State, desk: u8) -> u16
 }
 
 // Writes the state of the field that a classroom list builds, or refuses it.
-#[no_mangle]
-pub extern "C" fn baguymo_host_field(
-    base: u16,
-    intermediate: u16,
-    final_approach: u16,
-    missed: u16,
-    speed: u16,
-    list: &[u8],
-    state: &mut State,
-) -> u16
-    ensures { λ r. ⌜ r ≡ replyOn (now (state .entry))
-        (builtFrom (record { base = base; intermediate = intermediate; «final_approach» = «final_approach»; missed = missed }) speed (now (list .entry))) .number ⌝ }
-    ensures { λ _. ⌜ now (state .exit) ≡ bytesLeft (now (state .entry))
-        (builtFrom (record { base = base; intermediate = intermediate; «final_approach» = «final_approach»; missed = missed }) speed (now (list .entry))) ⌝ }
+pub fn build(legs: FileLegs, speed: u16, list: &[u8], state: &mut State) -> u16
+    ensures { λ r. ⌜ r ≡ replyOn (now (state .entry)) (builtFrom legs speed (now (list .entry))) .number ⌝ }
+    ensures { λ _. ⌜ now (state .exit) ≡ bytesLeft (now (state .entry)) (builtFrom legs speed (now (list .entry))) ⌝ }
 {
-    let legs = FileLegs {
-        base: base,
-        intermediate: intermediate,
-        final_approach: final_approach,
-        missed: missed,
-    };
     let b = field_of_list(legs, speed, list);
     store_after(state, b.number, start_with(b.after));
     b.number

@@ -31,13 +31,7 @@ fn spacings_of(h: History, spacing: u16) -> Spacings
 }
 
 // The spacing of the pairs on the approach: its number, the count and the pairs, and the gaps in miles.
-#[no_mangle]
-pub extern "C" fn baguymo_host_spacing(
-    state: &State,
-    spacing: u16,
-    pairs: &mut [usize; 10],
-    miles: &mut [f64; 3],
-) -> u16
+pub fn spacing(state: &State, spacing: u16, pairs: &mut [usize; 10], miles: &mut [f64; 3]) -> u16
     ensures { λ r. ⌜ r ≡ replyOn (now (state .entry)) (spaced spacing) .number ⌝ }
     ensures { λ _. ⌜ now (pairs .exit) ≡ replyOn (now (state .entry)) (spaced spacing) .numbers ⌝ }
     ensures { λ _. ⌜ now (miles .exit) ≡ replyOn (now (state .entry)) (spaced spacing) .gaps ⌝ }
@@ -59,8 +53,7 @@ fn listing_of(h: History) -> Listing
 }
 
 // The field of the state as a list of the classroom dialect: its number, the count and the entries.
-#[no_mangle]
-pub extern "C" fn baguymo_host_list(state: &State, entries: &mut [usize; 21]) -> u16
+pub fn list(state: &State, entries: &mut [usize; 21]) -> u16
     ensures { λ r. ⌜ r ≡ replyOn (now (state .entry)) listed .number ⌝ }
     ensures { λ _. ⌜ now (entries .exit) ≡ replyOn (now (state .entry)) listed .numbers ⌝ }
 {

@@ -1,4 +1,4 @@
--- What a host's program calls on a state (include/host.h), any list of the eight calls: on the bytes that it lends, and on the history that they are.
+-- What a host's program calls on a state (include/baguymo.h), any list of the eight calls: on the bytes that it lends, and on the history that they are.
 -- Definitions only.
 use mathlib.Core.Path.{_≡_}
 use mathlib.Core.List.{List, [], _∷_}

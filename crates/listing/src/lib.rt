@@ -69,23 +69,3 @@ pub fn rebuilt(input: &[u8], out: &mut ClassroomBuffer) -> usize
     let b = field_of_list(legs, speed, &input[10..]);
     put_built(bytes, b)
 }
-
-// `listed` for C and Rust (include/listing.h).
-#[no_mangle]
-pub extern "C" fn baguymo_list(file: &[u8], out: &mut ClassroomBuffer) -> usize
-    ensures { λ r. ⌜ r ≡ length (listedOf (now (file .entry))) ⌝ }
-    ensures { λ r. ⌜ now (out .exit) ≡ listedOf (now (file .entry)) ++ drop r (now (out .entry)) ⌝ }
-    ensures { λ r. ⌜ r ≤ classroomRoom ⌝ }
-{
-    listed(file, out)
-}
-
-// `rebuilt` for C and Rust (include/listing.h).
-#[no_mangle]
-pub extern "C" fn baguymo_field(input: &[u8], out: &mut ClassroomBuffer) -> usize
-    ensures { λ r. ⌜ r ≡ length (builtOf (now (input .entry))) ⌝ }
-    ensures { λ r. ⌜ now (out .exit) ≡ builtOf (now (input .entry)) ++ drop r (now (out .entry)) ⌝ }
-    ensures { λ r. ⌜ r ≤ classroomRoom ⌝ }
-{
-    rebuilt(input, out)
-}

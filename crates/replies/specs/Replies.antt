@@ -1,4 +1,4 @@
--- The numbers and gaps that a host's calls put into the memory that they are lent (include/host.h). Definitions only.
+-- The numbers and gaps that a host's calls put into the memory that they are lent (include/baguymo.h). Definitions only.
 use mathlib.Core.List.{List, [], _∷_}
 use Prim.Native.Nat.{ℕ}
 use lib.Ieee.{Float}

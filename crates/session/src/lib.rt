@@ -50,23 +50,3 @@ pub fn report_judged(file: &[u8], out: &mut Buffer) -> usize
 {
     report_by(file, true, out)
 }
-
-// `report` for C and Rust (include/session.h).
-#[no_mangle]
-pub extern "C" fn baguymo_report(file: &[u8], out: &mut Buffer) -> usize
-    ensures { λ r. ⌜ r ≡ length (reportOf (now (file .entry))) ⌝ }
-    ensures { λ r. ⌜ now (out .exit) ≡ reportOf (now (file .entry)) ++ drop r (now (out .entry)) ⌝ }
-    ensures { λ r. ⌜ r ≤ room ⌝ }
-{
-    report(file, out)
-}
-
-// `report_judged` for C and Rust (include/session.h).
-#[no_mangle]
-pub extern "C" fn baguymo_report_judged(file: &[u8], out: &mut Buffer) -> usize
-    ensures { λ r. ⌜ r ≡ length (reportOf (now (file .entry))) ⌝ }
-    ensures { λ r. ⌜ now (out .exit) ≡ reportOf (now (file .entry)) ++ drop r (now (out .entry)) ⌝ }
-    ensures { λ r. ⌜ r ≤ room ⌝ }
-{
-    report_judged(file, out)
-}

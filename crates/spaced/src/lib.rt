@@ -35,13 +35,3 @@ pub fn spaced(file: &[u8], spacing: u16, out: &mut SpacingBuffer) -> usize
     let f = p.field;
     put_spacings(bytes, gaps(f, spacing))
 }
-
-// `spaced` for C and Rust (include/spaced.h).
-#[no_mangle]
-pub extern "C" fn baguymo_spacing(file: &[u8], spacing: u16, out: &mut SpacingBuffer) -> usize
-    ensures { λ r. ⌜ r ≡ length (spacedOf (now (file .entry)) spacing) ⌝ }
-    ensures { λ r. ⌜ now (out .exit) ≡ spacedOf (now (file .entry)) spacing ++ drop r (now (out .entry)) ⌝ }
-    ensures { λ r. ⌜ r ≤ spacedRoom ⌝ }
-{
-    spaced(file, spacing, out)
-}

@@ -175,33 +175,3 @@ pub fn write(legs: FileLegs, requests: &[u8], out: &mut [u8]) -> Writing
         length: end,
     }
 }
-
-// `write` for C and Rust (include/writer.h): the number, and in `size` the file's length.
-#[no_mangle]
-pub extern "C" fn baguymo_write(
-    base: u16,
-    intermediate: u16,
-    final_approach: u16,
-    missed: u16,
-    requests: &[u8],
-    out: &mut [u8],
-    size: &mut [usize; 1],
-) -> u16
-    ensures { λ r. ⌜ r ≡ writingNumber (record { base = base; intermediate = intermediate; «final_approach» = «final_approach»; missed = missed })
-        (now (requests .entry)) (length (now (out .entry))) ⌝ }
-    ensures { λ r. ⌜ now (out .exit) ≡ bufferAfter (record { base = base; intermediate = intermediate; «final_approach» = «final_approach»; missed = missed })
-        (now (requests .entry)) (now (out .entry)) ⌝ }
-    ensures { λ r. ⌜ now (size .exit) ≡ writingOf (record { base = base; intermediate = intermediate; «final_approach» = «final_approach»; missed = missed })
-        (now (requests .entry)) (length (now (out .entry))) .length ∷ [] ⌝ }
-{
-    let legs = FileLegs {
-        base: base,
-        intermediate: intermediate,
-        final_approach: final_approach,
-        missed: missed,
-    };
-    let lent: &mut [usize] = size;
-    let w = write(legs, requests, out);
-    lent[0] = w.length;
-    w.number
-}

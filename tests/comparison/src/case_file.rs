@@ -12,7 +12,7 @@
 use crate::host_library::{Call, Reply};
 use crate::state_text::{blank, changes, set};
 use reference::state::{Bytes, State, STATE};
-use reference::Request;
+use reference::Parts;
 use std::collections::HashMap;
 use std::thread::{self, JoinHandle};
 
@@ -185,14 +185,14 @@ fn call_of(text: &str) -> Result<Call, String> {
     if text == "hold down" {
         return Ok(Call::HoldDown);
     }
-    let numbers: Vec<u16> = words.map(|word| word.parse().map_err(|_| other())).collect::<Result<_, _>>()?;
-    let byte = |number: u16| u8::try_from(number).map_err(|_| other());
+    let numbers: Vec<usize> =
+        words.map(|word| word.parse().map_err(|_| other())).collect::<Result<_, _>>()?;
     match (name, &numbers[..]) {
         ("start", &[base, intermediate, last, missed]) => Ok(Call::Start([base, intermediate, last, missed])),
         ("ask", &[desk, kind, side, number, amount]) => {
-            Ok(Call::Ask(Request { kind: byte(kind)?, side: byte(side)?, number, amount, desk: byte(desk)? }))
+            Ok(Call::Ask(Parts { desk, kind, side, number, amount }))
         }
-        ("back", &[desk]) => Ok(Call::Back(byte(desk)?)),
+        ("back", &[desk]) => Ok(Call::Back(desk)),
         ("press", []) => Ok(Call::Press),
         _ => Err(other()),
     }

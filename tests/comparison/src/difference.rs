@@ -24,7 +24,7 @@ pub fn same_button(library: &mut Library, file: &[u8]) -> Result<Vec<u8>, String
 }
 
 /// What both print of the spacing after a file, or how they differ.
-pub fn same_spacing(library: &mut Library, file: &[u8], spacing: u16) -> Result<Vec<u8>, String> {
+pub fn same_spacing(library: &mut Library, file: &[u8], spacing: usize) -> Result<Vec<u8>, String> {
     let player = |file: &[u8], out: &mut ShortBuffer| spacing_into(file, spacing, out);
     same(library, &[("the library", player)], file, reference::spacing(file, spacing))
 }
@@ -66,7 +66,8 @@ pub fn same_writing(library: &mut Library, lesson: &Lesson) -> Result<u16, Strin
     if let (0, length) = answered {
         let file = &got[MARGIN..MARGIN + length];
         let list = requests.chunks(6).map(|bytes| Request::from_bytes(bytes.try_into().expect("six bytes")));
-        let expected = PracticeFile { legs_64ths: *legs_64ths, requests: list.collect() };
+        let legs_64ths = legs_64ths.map(|leg| u16::try_from(leg).expect("a leg that is allowed"));
+        let expected = PracticeFile { legs_64ths, requests: list.collect() };
         if PracticeFile::read(file) != Ok(expected) {
             return Err(String::from("the file is read as something else"));
         }

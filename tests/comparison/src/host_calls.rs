@@ -4,6 +4,7 @@ use crate::dice::Dice;
 use crate::host_library::Call;
 use crate::lists;
 use crate::sessions::{legs, Habits};
+use crate::wide;
 use reference::button::hold_down;
 use reference::explore::each_within_bounds;
 use reference::file::LEGS_LENGTH;
@@ -32,16 +33,20 @@ const FEW_PRESSES: usize = 4096;
 
 /// A call on a state with this field.
 pub fn call(dice: &mut Dice, habits: &Habits, field: &Field) -> Call {
-    match dice.weighted(&[280, 36, 36, 4, 16, 16, 1, 10]) {
-        0 => Call::Ask(request(dice, habits, field)),
-        1 => Call::Back(back(dice)),
+    match dice.weighted(&[280, 36, 36, 4, 16, 16, 1, 10, 8]) {
+        0 => Call::Ask(request(dice, habits, field).into()),
+        1 => Call::Back(back(dice).into()),
         2 => Call::Press,
         3 if is_soon_empty(field) => Call::HoldDown,
         3 => Call::Press,
         4 => Call::Spacing(spacing(dice)),
         5 => Call::List,
         6 => start(dice),
-        _ => of_list(dice),
+        7 => of_list(dice),
+        _ => {
+            let request = request(dice, habits, field);
+            wide::call(dice, request)
+        }
     }
 }
 
@@ -68,14 +73,14 @@ pub fn back(dice: &mut Dice) -> u8 {
     dice.pick(&[1, 1, 1, 2, 2, 2, 0, 3, 255])
 }
 
-fn spacing(dice: &mut Dice) -> u16 {
-    let allowed = dice.between(1, 512) as u16;
+fn spacing(dice: &mut Dice) -> usize {
+    let allowed = dice.between(1, 512);
     dice.pick(&[allowed, allowed, allowed, 1, 64, 512, 0, 513, 65_535])
 }
 
 /// A start, one in four with a leg that may be refused.
 pub fn start(dice: &mut Dice) -> Call {
-    let mut legs_64ths = legs(dice);
+    let mut legs_64ths = legs(dice).map(usize::from);
     if dice.once_in(4) {
         legs_64ths[dice.below(4)] = dice.pick(&[0, 1, 4096, 4097, 32_768, 65_535]);
     }
@@ -88,7 +93,7 @@ fn of_list(dice: &mut Dice) -> Call {
     match input.split_at_checked(LEGS_LENGTH + 2) {
         None => Call::Field([64; 4], 64, input),
         Some((head, list)) => {
-            let number = |at: usize| u16::from_le_bytes([head[at], head[at + 1]]);
+            let number = |at: usize| usize::from(u16::from_le_bytes([head[at], head[at + 1]]));
             Call::Field([0, 2, 4, 6].map(number), number(8), list.to_vec())
         }
     }

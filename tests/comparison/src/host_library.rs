@@ -1,31 +1,37 @@
-//! The eight functions of `include/host.h`, called as C calls them.
+//! The eight functions of `include/baguymo.h` for a host program, called as C calls them.
 
 use crate::library::{all_are, MARGIN};
 use reference::state::{Bytes, STATE};
-use reference::Request;
+use reference::Parts;
 
 extern "C" {
-    fn baguymo_host_start(base: u16, intermediate: u16, last: u16, missed: u16, state: *mut u8) -> u16;
+    fn baguymo_host_start(
+        base: usize,
+        intermediate: usize,
+        last: usize,
+        missed: usize,
+        state: *mut u8,
+    ) -> u16;
     fn baguymo_host_ask(
         state: *mut u8,
-        desk: u8,
-        kind: u8,
-        side: u8,
-        number: u16,
-        amount: u16,
+        desk: usize,
+        kind: usize,
+        side: usize,
+        number: usize,
+        amount: usize,
         answer: *mut usize,
     ) -> u16;
-    fn baguymo_host_back(state: *mut u8, desk: u8) -> u16;
+    fn baguymo_host_back(state: *mut u8, desk: usize) -> u16;
     fn baguymo_host_press(state: *mut u8, request: *mut usize, answer: *mut usize) -> u16;
     fn baguymo_host_hold_down(state: *mut u8, report: *mut usize) -> u16;
-    fn baguymo_host_spacing(state: *const u8, spacing: u16, pairs: *mut usize, gaps: *mut f64) -> u16;
+    fn baguymo_host_spacing(state: *const u8, spacing: usize, pairs: *mut usize, gaps: *mut f64) -> u16;
     fn baguymo_host_list(state: *const u8, entries: *mut usize) -> u16;
     fn baguymo_host_field(
-        base: u16,
-        intermediate: u16,
-        last: u16,
-        missed: u16,
-        speed: u16,
+        base: usize,
+        intermediate: usize,
+        last: usize,
+        missed: usize,
+        speed: usize,
         list: *const u8,
         length: usize,
         state: *mut u8,
@@ -45,17 +51,17 @@ impl Reply {
     }
 }
 
-/// One call of a host program, with all that it lends but the state.
+/// One call of a host program, with all that it lends but the state; its numbers are as wide as C may hand them over.
 #[derive(Clone, Debug, PartialEq, Eq)]
 pub enum Call {
-    Start([u16; 4]),
-    Ask(Request),
-    Back(u8),
+    Start([usize; 4]),
+    Ask(Parts),
+    Back(usize),
     Press,
     HoldDown,
-    Spacing(u16),
+    Spacing(usize),
     List,
-    Field([u16; 4], u16, Vec<u8>),
+    Field([usize; 4], usize, Vec<u8>),
 }
 
 /// Where the library puts numbers or miles, with one more on both sides that must stay.
@@ -123,7 +129,7 @@ pub fn call_on(state: &mut Bytes, call: &Call) -> Reply {
         &Call::Start([base, intermediate, last, missed]) => {
             Reply::new(unsafe { baguymo_host_start(base, intermediate, last, missed, lent) }, &[])
         }
-        &Call::Ask(Request { kind, side, number, amount, desk }) => {
+        &Call::Ask(Parts { desk, kind, side, number, amount }) => {
             let number = unsafe { baguymo_host_ask(lent, desk, kind, side, number, amount, answer.out()) };
             Reply::new(number, &[&answer.numbers()])
         }
@@ -164,8 +170,8 @@ pub fn by_reference(state: &mut Bytes, call: &Call) -> Reply {
     use reference::host;
     match call {
         &Call::Start(legs_64ths) => Reply::new(host::start(legs_64ths, state), &[]),
-        Call::Ask(request) => {
-            let (number, answer) = host::ask(state, request);
+        &Call::Ask(parts) => {
+            let (number, answer) = host::ask(state, parts);
             Reply::new(number, &[&answer])
         }
         &Call::Back(desk) => Reply::new(host::back(state, desk), &[]),

@@ -16,6 +16,9 @@ const NUMBERS: [usize; 25] =
 /// The number of a desk that is none, which stands last.
 const DESK: usize = 31;
 
+/// The numbers that refuse a number which is too wide for its part, or another part before it.
+const WIDE_NUMBERS: [usize; 6] = [DESK, 1, 2, 3, 4, 7];
+
 fn column(call: &Call) -> usize {
     match call {
         Call::Start(_) => 0,
@@ -62,6 +65,9 @@ pub struct HostTable {
     /// Answers by how many pairs they have, and lists by how many entries.
     pairs: [usize; 4],
     entries: [usize; 6],
+    /// By the place in [`WIDE_NUMBERS`]: calls with a number that is too wide, and those of them that would be accepted with it narrowed.
+    wide: [usize; WIDE_NUMBERS.len()],
+    narrowed: [usize; WIDE_NUMBERS.len()],
     /// Calls on damaged states that were refused 10, and that were accepted.
     pub damaged_refused: usize,
     pub damaged_accepted: usize,
@@ -79,6 +85,16 @@ impl HostTable {
             self.kept[usize::from(state[COUNT_AT]).min(8)] += 1;
             self.accepted(call, &reply.outputs);
         }
+    }
+
+    /// Counts a call with a number that is too wide, and whether it would be accepted with the number narrowed to its part.
+    pub fn count_wide(&mut self, call: &Call, reply: &Reply, narrowed: bool) {
+        let Some(place) = WIDE_NUMBERS.into_iter().position(|number| number == usize::from(reply.number))
+        else {
+            return self.others.push(format!("{call:?}, too wide, was answered {}", reply.number));
+        };
+        self.wide[place] += 1;
+        self.narrowed[place] += usize::from(narrowed);
     }
 
     fn accepted(&mut self, call: &Call, outputs: &[usize]) {
@@ -111,7 +127,8 @@ impl HostTable {
         let HostTable { kept, leaders, along, played, nobody, emptied, spent, pairs, entries, .. } = self;
         let single = [leaders, along, played, nobody, emptied, spent];
         let damaged = [&self.damaged_refused, &self.damaged_accepted];
-        let all = single.into_iter().chain(damaged).chain(kept).chain(pairs).chain(entries);
+        let wide = self.wide.iter().chain(&self.narrowed);
+        let all = single.into_iter().chain(damaged).chain(kept).chain(pairs).chain(entries).chain(wide);
         if all.into_iter().any(|&count| count == 0) {
             faults.push(String::from("one of these never came"));
         }
@@ -146,6 +163,13 @@ impl fmt::Display for HostTable {
         )?;
         writeln!(f, "and was spent on {spent};")?;
         write!(f, "0 to 3 pairs came {pairs:?} times, lists of none to five {entries:?} times; of calls on damaged ")?;
-        write!(f, "states {} were refused 10 and {} accepted", self.damaged_refused, self.damaged_accepted)
+        writeln!(
+            f,
+            "states {} were refused 10 and {} accepted;",
+            self.damaged_refused, self.damaged_accepted
+        )?;
+        let HostTable { wide, narrowed, .. } = self;
+        write!(f, "numbers wider than their part were refused by {WIDE_NUMBERS:?} {wide:?} times, and would be accepted ")?;
+        write!(f, "narrowed in {narrowed:?} of these calls")
     }
 }

@@ -4,19 +4,22 @@
 use crate::dice::Dice;
 use crate::difference::fewer;
 use crate::host_calls::{
-    any_bytes, call, damage, field_of, flip, past_the_count, some_within_bounds, start, stuck, within_bounds,
-    COUNT_AT,
+    any_bytes, call, damage, field_of, flip, past_the_count, request, some_within_bounds, start, stuck,
+    within_bounds, COUNT_AT,
 };
 use crate::host_library::{by_reference, Call, Lender, Reply};
 use crate::host_table::HostTable;
 use crate::sessions::Habits;
+use crate::wide::{self, narrowed};
 use reference::state::{Bytes, FIELD, STATE};
-use reference::Field;
+use reference::{Field, Request};
 
 /// Calls of one list.
 const LIST: usize = 60;
 /// Calls on each state that is not reached.
 const A_FIELD: usize = 4;
+/// Lists of calls for each four states on which each number is too wide.
+const A_WIDE: usize = 20;
 /// Fields that are kept in the state of which bits are flipped.
 const COUNTED: u8 = 5;
 
@@ -67,6 +70,11 @@ impl Hosted {
         }
         self.calls += 1;
         self.table.count(call, &reply, &self.beside);
+        let narrow = narrowed(call);
+        if narrow != *call {
+            let accepted = by_reference(&mut { before }, &narrow).number == 0;
+            self.table.count_wide(call, &reply, accepted);
+        }
         Ok(reply)
     }
 
@@ -144,11 +152,32 @@ pub fn all(hosted: &mut Hosted, dice: &mut Dice, lists: usize) -> Result<(), Str
     part(hosted, "states with one number changed", |hosted| {
         (0..2 * lists).try_for_each(|_| changed(hosted, dice, &fields))
     })?;
+    part(hosted, "numbers wider than their part", |hosted| {
+        (0..lists.div_ceil(A_WIDE)).try_for_each(|_| all_wide(hosted, dice, &fields))
+    })?;
     part(
         hosted,
         "one bit flipped of a state's field, a kept one, one past the count, or the count",
         |hosted| flipped(hosted, dice),
     )
+}
+
+/// Each call with a number that is too wide, on a state that random calls lead to, on one with any fields within the bounds, on such a one
+/// with a number changed, and on any bytes; where one of eight requests is accepted, it is the one that is altered.
+fn all_wide(hosted: &mut Hosted, dice: &mut Dice, fields: &[Field]) -> Result<(), String> {
+    hosted.list(dice)?;
+    let within = within_bounds(dice, fields);
+    let mut other = within;
+    damage(dice, &mut other);
+    for state in [*hosted.beside, within, other, any_bytes(dice)] {
+        let (habits, field) = (Habits::drawn(dice), field_of(&state));
+        let drawn = [(); 8].map(|()| request(dice, &habits, &field));
+        let accepted = |&each: &Request| by_reference(&mut { state }, &Call::Ask(each.into())).number == 0;
+        let request = drawn.into_iter().find(accepted).unwrap_or(drawn[0]);
+        hosted.lend(&state);
+        wide::calls(dice, request).iter().try_for_each(|call| hosted.call(call).map(|_| ()))?;
+    }
+    Ok(())
 }
 
 /// A few calls on a state; more of them are presses and steps back than elsewhere.

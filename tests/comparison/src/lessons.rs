@@ -3,20 +3,21 @@
 
 use crate::dice::Dice;
 use crate::sessions::{session, session_of};
+use crate::wide::wide;
 use reference::file::{LONGEST, MOST_REQUESTS, REQUEST};
 use reference::{PracticeFile, Refusal, Request};
 
-/// Four legs, requests in bytes, and how many bytes the buffer has.
+/// Four legs, as wide as C may hand them over, requests in bytes, and how many bytes the buffer has.
 #[derive(Clone)]
 pub struct Lesson {
-    pub legs_64ths: [u16; 4],
+    pub legs_64ths: [usize; 4],
     pub requests: Vec<u8>,
     pub room: usize,
 }
 
 /// Letters, contents and legs.
 const BODY: usize = LONGEST - REQUEST * MOST_REQUESTS;
-const LEGS: [u16; 4] = [64, 128, 192, 4096];
+const LEGS: [usize; 4] = [64, 128, 192, 4096];
 const TICK: [u8; REQUEST] = [12, 0, 0, 0, 64, 0];
 /// For each number from 1 to 4, requests that break that input rule and none before it.
 const OFFENDERS: [&[[u8; REQUEST]]; 4] = [
@@ -31,27 +32,27 @@ fn of_length(length: usize) -> usize {
 }
 
 /// The same in a buffer that is empty, a byte short, just long enough and longer.
-fn in_buffers(legs_64ths: [u16; 4], requests: &[u8]) -> Vec<Lesson> {
+fn in_buffers(legs_64ths: [usize; 4], requests: &[u8]) -> Vec<Lesson> {
     let file = of_length(requests.len());
     let rooms = [0, 1, BODY - 1, BODY, file - 1, file, file + 1, file + 100];
     rooms.map(|room| Lesson { legs_64ths, requests: requests.to_vec(), room }).to_vec()
 }
 
 /// Legs and requests of a session, without those that break an input rule.
-fn kept(dice: &mut Dice, length: usize) -> (PracticeFile, Vec<u8>) {
+fn kept(dice: &mut Dice, length: usize) -> ([usize; 4], Vec<u8>) {
     let mut practice = PracticeFile::read(&session_of(dice, length)).expect("a session");
     practice.requests.iter_mut().filter(|request| request.check().is_err()).for_each(|request| {
         *request = Request::from_bytes(TICK);
     });
     let requests = practice.requests.iter().flat_map(|request| request.to_bytes()).collect();
-    (practice, requests)
+    (practice.legs_64ths.map(usize::from), requests)
 }
 
 /// Short lists in every buffer up to a few bytes more than the file.
 pub fn every_room(dice: &mut Dice) -> Vec<Lesson> {
     let mut lessons = Vec::new();
     for length in [0, 1, 2, 12] {
-        let (PracticeFile { legs_64ths, .. }, requests) = kept(dice, length);
+        let (legs_64ths, requests) = kept(dice, length);
         lessons.extend((0..of_length(requests.len()) + 9).map(|room| Lesson {
             legs_64ths,
             requests: requests.clone(),
@@ -61,13 +62,16 @@ pub fn every_room(dice: &mut Dice) -> Vec<Lesson> {
     lessons
 }
 
-/// Legs at the edges of what is allowed, in every place, before lists that are written and before those that are refused.
+/// Legs at the edges of what is allowed, and those that are so by their low 16 bits, in every place, before lists that are written and before
+/// those that are refused.
 pub fn edge_legs(dice: &mut Dice) -> Vec<Lesson> {
     let good = kept(dice, 3).1;
     let lists = [&[][..], &good, &good[..17], &[0; REQUEST], &TICK.repeat(MOST_REQUESTS + 1)];
     let mut lessons = Vec::new();
     for place in 0..4 {
-        for leg in [0, 1, 4095, 4096, 4097, 8192, 32_768, 65_535] {
+        let narrow = [0, 1, 4095, 4096, 4097, 8192, 32_768, 65_535];
+        let wide = [65_536, 65_537, 65_600, 69_632, 1 << 32 | 64, 1 << 63 | 64, usize::MAX];
+        for leg in narrow.into_iter().chain(wide) {
             let mut legs_64ths = LEGS;
             legs_64ths[place] = leg;
             lists.iter().for_each(|list| lessons.extend(in_buffers(legs_64ths, list)));
@@ -137,7 +141,7 @@ pub fn damaged(dice: &mut Dice) -> Vec<Lesson> {
 
 /// The longest list, a byte more or less than its file for a buffer.
 pub fn longest(dice: &mut Dice) -> Vec<Lesson> {
-    let (PracticeFile { legs_64ths, .. }, requests) = kept(dice, MOST_REQUESTS);
+    let (legs_64ths, requests) = kept(dice, MOST_REQUESTS);
     let mut lessons = in_buffers(legs_64ths, &requests);
     for offender in OFFENDERS.concat() {
         for place in [0, MOST_REQUESTS / 2, MOST_REQUESTS - 1] {
@@ -153,9 +157,12 @@ pub fn longest(dice: &mut Dice) -> Vec<Lesson> {
 /// is about as long as the file, or has any length.
 pub fn random(dice: &mut Dice) -> Lesson {
     let session = PracticeFile::read(&session(dice)).expect("a session");
-    let mut legs_64ths = session.legs_64ths;
+    let mut legs_64ths = session.legs_64ths.map(usize::from);
     if dice.once_in(16) {
-        legs_64ths[dice.below(4)] = dice.bits() as u16;
+        let leg = &mut legs_64ths[dice.below(4)];
+        let any = usize::from(dice.bits() as u16);
+        let wide = wide(dice, 16, *leg);
+        *leg = dice.pick(&[any, wide]);
     }
     let all = dice.once_in(4);
     let list = session.requests.iter().filter(|request| all || request.check().is_ok());

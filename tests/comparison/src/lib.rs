@@ -24,3 +24,4 @@ pub mod sessions;
 pub mod spacings;
 pub mod state_text;
 pub mod table;
+pub mod wide;

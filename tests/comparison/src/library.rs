@@ -6,16 +6,16 @@ extern "C" {
     fn baguymo_report_judged(file: *const u8, length: usize, out: *mut u8) -> usize;
     fn baguymo_week(binder: *const u8, length: usize, out: *mut u8) -> usize;
     fn baguymo_button(file: *const u8, length: usize, out: *mut u8) -> usize;
-    fn baguymo_spacing(file: *const u8, length: usize, spacing: u16, out: *mut u8) -> usize;
+    fn baguymo_spacing(file: *const u8, length: usize, spacing: usize, out: *mut u8) -> usize;
     fn baguymo_list(file: *const u8, length: usize, out: *mut u8) -> usize;
     fn baguymo_field(input: *const u8, length: usize, out: *mut u8) -> usize;
     fn baguymo_desks(input: *const u8, length: usize, out: *mut u8) -> usize;
     /// Two slices, and a number that is lent.
     fn baguymo_write(
-        base: u16,
-        intermediate: u16,
-        last: u16,
-        missed: u16,
+        base: usize,
+        intermediate: usize,
+        last: usize,
+        missed: usize,
         requests: *const u8,
         length: usize,
         out: *mut u8,
@@ -75,7 +75,7 @@ pub fn button_into(file: &[u8], out: &mut Buffer) -> usize {
     unsafe { baguymo_button(file.as_ptr(), file.len(), out.as_mut_ptr()) }
 }
 
-pub fn spacing_into(file: &[u8], spacing: u16, out: &mut ShortBuffer) -> usize {
+pub fn spacing_into(file: &[u8], spacing: usize, out: &mut ShortBuffer) -> usize {
     // SAFETY: as above.
     unsafe { baguymo_spacing(file.as_ptr(), file.len(), spacing, out.as_mut_ptr()) }
 }
@@ -97,7 +97,7 @@ pub fn desks_into(input: &[u8], out: &mut Buffer) -> usize {
 
 /// Writes a practice file to the start of a buffer, and yields its number and its length.
 pub fn write_into(
-    [base, intermediate, last, missed]: [u16; 4],
+    [base, intermediate, last, missed]: [usize; 4],
     requests: &[u8],
     out: &mut [u8],
 ) -> (u16, usize) {

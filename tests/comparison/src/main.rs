@@ -19,7 +19,7 @@ use comparison::hosted::{self, Hosted};
 use comparison::lessons::Lesson;
 use comparison::library::Library;
 use comparison::list_table::{Built, Lists};
-use comparison::spacings::{at_a_spacing, spacing};
+use comparison::spacings::{at_a_spacing, spacing, Spaced};
 use comparison::table::{Gaps, Presses, Table, Weeks, Writings};
 use comparison::{binders, damaged, desk_lists, fields, lessons, lists, sessions};
 use reference::binder::to_bytes;
@@ -148,7 +148,7 @@ impl Comparison {
     }
 
     /// Files after which the spacing is asked for, each by its own.
-    fn spaced(&mut self, what: &str, files: impl IntoIterator<Item = (Vec<u8>, u16)>) -> Result<(), String> {
+    fn spaced(&mut self, what: &str, files: impl IntoIterator<Item = Spaced>) -> Result<(), String> {
         let before = self.spaced;
         for (file, spacing) in files {
             self.spaced += 1;
@@ -293,9 +293,9 @@ fn all_pressed(comparison: &mut Comparison, dice: &mut Dice, count: usize) -> Re
 }
 
 fn all_spaced(comparison: &mut Comparison, dice: &mut Dice, count: usize) -> Result<(), String> {
-    let spacings = [0, 1, 2, 63, 64, 65, 192, 511, 512, 513, 32_768, 65_535];
+    let spacings = [0, 1, 2, 63, 64, 65, 192, 511, 512, 513, 32_768, 65_535, 65_600, usize::MAX];
     let each = |file: Vec<u8>| spacings.map(|spacing| (file.clone(), spacing));
-    comparison.spaced("stored sessions, by each of 12 spacings", stored().into_iter().flat_map(each))?;
+    comparison.spaced("stored sessions, by each of 14 spacings", stored().into_iter().flat_map(each))?;
     comparison.spaced("two who are about a spacing apart", at_a_spacing())?;
     let damaged = damaged::files(dice);
     comparison.spaced("damaged files", damaged.into_iter().map(|file| (file, spacing(dice))))?;
