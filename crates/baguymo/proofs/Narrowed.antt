@@ -14,7 +14,7 @@ use Rattle.practice.proofs.AcceptedFile.{LegKnown, legs-known}
 use Rattle.baguymo.specs.Widths.{in16}
 
 -- two conjunctions whose second parts fail are equal
-pub both-fail : (a b c d : Bool) → b ≡ false → d ≡ false → (a && b) ≡ (c && d)
+both-fail : (a b c d : Bool) → b ≡ false → d ≡ false → (a && b) ≡ (c && d)
 both-fail true b true d p q = p ∙ sym q
 both-fail true b false d p q = p
 both-fail false b true d p q = sym q
