@@ -1,12 +1,12 @@
 -- A number that is handed on in 8 or 16 bits keeps or breaks its rule as it did, and is itself where the rule is kept. Assumes nothing.
 use mathlib.Core.Path.{_≡_, refl, sym, ap, _∙_}
-use mathlib.Core.Bool.{Bool, true, false, cond, not, _&&_}
+use mathlib.Core.Bool.{Bool, true, false, _&&_}
 use Prim.Native.Nat.{ℕ, _≤_, _<_, min}
 use native.Mathlib.Omega.{arith}
 use native.Mathlib.Decide.{decLe}
-use lib.Dec.{leb, eqb, T, lit<, lit≤}
+use lib.Dec.{leb, lit<}
 use Rattle.limits.specs.Limits.{longestLeg}
-use Rattle.field.proofs.TestParts.{at-most, over}
+use Rattle.field.proofs.TestParts.{over}
 use Rattle.request.specs.Input.{within}
 use Rattle.practice.specs.declared.FileLegs.{FileLegs}
 use Rattle.practice.specs.File.{legsAllowed}

@@ -2,28 +2,22 @@
 use mathlib.Core.Path.{_≡_, refl, sym, ap, _∙_}
 use mathlib.Core.Logic.{_⊎_, inl, inr}
 use mathlib.Core.Bool.{Bool, true, false, cond}
-use mathlib.Core.List.{List, [], _∷_, _++_}
+use mathlib.Core.List.{List, [], _∷_}
 use Prim.Native.Nat.{ℕ, _≤_}
 use native.Mathlib.Omega.{arith}
-use lib.Dec.{leb, eqb, ltb, T, lit<, lit≤, leb→le}
-use lib.ListN.{length, drop}
+use lib.Dec.{leb, eqb, ltb, lit<, lit≤, leb→le}
 use lib.Ieee.Fits.{and-r}
 use Rattle.limits.specs.Limits.{desks, fastest}
 use Rattle.field.proofs.TestLaws.{decided, pass, if-true, if-false}
 use Rattle.request.specs.Input.{within, firstRefused}
 use Rattle.practice.specs.declared.FileLegs.{FileLegs}
-use Rattle.practice.specs.File.{fileNumber, legsAllowed}
+use Rattle.practice.specs.File.{legsAllowed}
 use Rattle.rules.specs.Step.{numberAndZeros}
 use Rattle.history.specs.declared.History.{History}
 use Rattle.history.specs.History.{withinBoundsHistory, numberBack, givenBack, stepBack}
-use Rattle.gaps.specs.Gaps.{gapsOf}
-use Rattle.gaps.specs.Gaps as gaps
-use Rattle.playing.specs.Playing.{fieldOfFile}
-use Rattle.dialect_field.specs.declared.Built.{Built}
 use Rattle.dialect_field.specs.Coming.{comingNumber, notBuilt, fieldOfList}
-use Rattle.spaced.specs.Spaced.{spacedOf, spacingsReport, refusedSpacing}
-use Rattle.session.specs.Report.{refusedReport}
-use Rattle.writer.specs.Writer.{fileOf, writingNumber, writingOf, bufferAfter}
+use Rattle.spaced.specs.Spaced.{spacedOf}
+use Rattle.writer.specs.Writer.{writingNumber}
 use Rattle.host.specs.Calls.{start, startNumber, spacingsOf, bytesLeft}
 use Rattle.host.proofs.CallsOnState.{start-refused}
 use Rattle.baguymo.specs.Widths.{in8, in16}

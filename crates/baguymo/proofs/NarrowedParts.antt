@@ -7,7 +7,7 @@ use Prim.Native.Nat.{ℕ, _≤_, _<_, min}
 use native.Mathlib.Nat.{lt-of-le-of-lt}
 use native.Mathlib.Omega.{arith}
 use native.Mathlib.Decide.{decLe}
-use lib.Dec.{leb, eqb, T, lit<, lit≤, leb→le}
+use lib.Dec.{leb, eqb, lit<, leb→le}
 use lib.Ieee.Fits.{and-r}
 use borrow.Author.Tests.{eqb-true}
 use Rattle.limits.specs.Limits.{desks}

@@ -1,7 +1,7 @@
 -- How a number that C hands over, of any width, is handed on as a part of 8 or 16 bits. Definitions only.
 use Prim.Native.Nat.{ℕ, min}
 use mathlib.Core.Bool.{cond}
-use lib.Dec.{leb, eqb}
+use lib.Dec.{leb}
 use Rattle.request.specs.Input.{isTick}
 
 -- the largest numbers of 8 and of 16 bits

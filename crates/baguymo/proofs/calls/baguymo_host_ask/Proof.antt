@@ -1,5 +1,5 @@
 -- `baguymo::calls::baguymo_host_ask` meets its contract: the request of the parts, or the number that refuses them. Assumes nothing.
-use mathlib.Core.Path.{_≡_, refl, sym, ap, _∙_}
+use mathlib.Core.Path.{_≡_, ap, _∙_}
 use Prim.Native.Nat.{ℕ}
 use denote.Ref.{now}
 use borrow.Author.Needs.{needs}

@@ -1,8 +1,7 @@
 -- `baguymo::calls::baguymo_host_back` meets its contract: the step back by the desk that was handed over. Assumes nothing.
-use mathlib.Core.Path.{_≡_, refl, sym, ap, _∙_}
+use mathlib.Core.Path.{ap, _∙_}
 use denote.Ref.{now}
 use borrow.Author.Needs.{needs}
-use Prim.Native.Nat.{ℕ}
 use Rattle.history.specs.declared.SteppedHistory.{SteppedHistory}
 use Rattle.layout.specs.Read.{readHistory}
 use Rattle.layout.specs.Written.{stateAfter}

@@ -1,5 +1,5 @@
 -- `baguymo::calls::baguymo_host_field` meets its contract: the field of a list, with the legs and the speed as they were handed over. Assumes nothing.
-use mathlib.Core.Path.{_≡_, refl, sym, ap, _∙_}
+use mathlib.Core.Path.{ap, _∙_}
 use denote.Ref.{now}
 use borrow.Author.Needs.{needs}
 use mathlib.Core.Bool.{cond}

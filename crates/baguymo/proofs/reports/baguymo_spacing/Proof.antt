@@ -1,5 +1,5 @@
 -- `baguymo::reports::baguymo_spacing` meets its contract: the report of the spacing that was handed over. Assumes nothing.
-use mathlib.Core.Path.{_≡_, refl, sym, ap, _∙_}
+use mathlib.Core.Path.{ap, _∙_}
 use denote.Ref.{now}
 use borrow.Author.Needs.{needs}
 use mathlib.Core.List.{List, _++_}

@@ -1,5 +1,4 @@
 -- `baguymo::widths::legs_in_16` meets its contract: each leg in 16 bits. Assumes nothing.
-use mathlib.Core.Path.{_≡_, refl, sym, ap, _∙_}
 use borrow.Author.Needs.{needs}
 use Rattle.baguymo.proofs.widths.legs_in_16.Statement.{statement}
 use Rattle.baguymo.proofs.widths.legs_in_16.Tie as tie

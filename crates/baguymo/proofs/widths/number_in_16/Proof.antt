@@ -1,5 +1,5 @@
 -- `baguymo::widths::number_in_16` meets its contract: a number of 16 bits, or one that refusal 3 is for. Assumes nothing.
-use mathlib.Core.Path.{_≡_, refl, sym, ap, _∙_}
+use mathlib.Core.Path.{refl, sym}
 use borrow.Author.Needs.{needs}
 use Rattle.field.proofs.TestParts.{cond-then, cond-else, at-most, over, is, is-not}
 use Rattle.baguymo.proofs.widths.number_in_16.Statement.{statement}
