@@ -1,4 +1,5 @@
 // Reads four legs and requests from standard input, and writes their practice file, or the line that refuses them, to standard output.
+#![tactic(auto)]
 use libc::{STDIN_FILENO, STDOUT_FILENO};
 
 fn main() {

@@ -1,4 +1,5 @@
 // Plays each practice file that its arguments name, in order, and prints each report under the file's name.
+#![tactic(auto)]
 use libc::STDOUT_FILENO;
 
 // Prints the report of the practice file that is open at `fd`, of which at most 24,611 bytes are read.

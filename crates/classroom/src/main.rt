@@ -1,5 +1,6 @@
 // With the argument `list`, reads one practice file from standard input, plays it from the empty field, and writes the list of the field to standard
 // output. With any other, reads legs, a speed and entries, and writes the next fix and the list of the field that they build.
+#![tactic(auto)]
 use libc::{STDIN_FILENO, STDOUT_FILENO};
 
 fn main() {

@@ -1,4 +1,5 @@
 // Reads four legs and calls by two desks from standard input, and writes their answers, or the line that refuses them, to standard output.
+#![tactic(auto)]
 use libc::{STDIN_FILENO, STDOUT_FILENO};
 
 fn main() {

@@ -1,6 +1,8 @@
 // An aircraft's progress along one leg, in miles as an `f64`. A tick of `amount` 64ths of a minute at
 // `speed` 64ths of a mile a minute adds (speed / 64) * (amount / 64) miles, but flies no further than the leg is long.
 // Every function is total: on every `u16`, and on every `f64`, NaN and the infinities included.
+#![tactic(auto)]
+
 ghost use Rattle.std.specs.Prelude.{◌≡◌, ◌&&◌};
 ghost use Rattle.std.specs.Float.Ieee.{le};
 ghost use Rattle.leg.specs.Progress.{up_to, beyond, advancing, waited_after, waited_within, flown_out, remaining, leg_after_miss, within_leg, legal_leg, legal_leg_after_miss, sixty_fourths};

@@ -3,6 +3,7 @@
 // miles waited, then 1 where the leg is flown out, else 0. Then a line for each of some misses: the missed leg, the leg of final, the miles
 // flown of it, and the leg ahead.
 // Miles are the 16 hexadecimal digits of the `f64`'s bit pattern, other numbers decimal. Where the start is not within the leg there is no line.
+#![tactic(auto)]
 ghost use Rattle.std.specs.Prelude.{◌<◌};
 
 use leg::Progress;

@@ -1,4 +1,5 @@
 // The limits of documents 01 and 02 that the code compares with, by the names and numbers of `specs/Limits.antt`.
+#![tactic(auto)]
 
 // The longest tick, in 64ths of a minute.
 pub const LONGEST_TICK: u16 = 64;

@@ -1,4 +1,5 @@
 // Reads one practice file from standard input, plays it from the empty field, and writes its report to standard output.
+#![tactic(auto)]
 use libc::{STDIN_FILENO, STDOUT_FILENO};
 
 fn main() {

@@ -1,4 +1,5 @@
 // Writes a line for each of some practice files, at and past the boundaries of document 01: what the file is, and its number.
+#![tactic(auto)]
 ghost use Rattle.std.specs.Prelude.{◌+◌, ◌<◌};
 
 use libc::STDOUT_FILENO;

@@ -1,4 +1,5 @@
 // A session: from the bytes of a practice file to the bytes of the report.
+#![tactic(auto)]
 pub mod lines;
 mod tally;
 

@@ -1,5 +1,6 @@
 // Reads one practice file from standard input, plays it from the empty field, and writes the spacing of the pairs on the approach to standard
 // output, by the spacing in 64ths of a mile that its argument says.
+#![tactic(auto)]
 use libc::{STDIN_FILENO, STDOUT_FILENO};
 
 fn main() {

@@ -1,4 +1,6 @@
 // Text put into a lent buffer, from a place on. Each function yields the place after what it put; a byte that finds no room is left out.
+#![tactic(auto)]
+
 ghost use Rattle.std.specs.Prelude.{[], ◌∷◌};
 ghost use Rattle.text.specs.Text.{decimal, line_of};
 ghost use Rattle.text.specs.Buffer.{Put};

@@ -1,4 +1,5 @@
 // Reads one binder from standard input, plays its practice files, and writes the report over all of them to standard output.
+#![tactic(auto)]
 use libc::{STDIN_FILENO, STDOUT_FILENO};
 
 fn main() {

@@ -3,19 +3,16 @@ use mathlib.Core.Path.{◌≡◌, sym, ap}
 use mathlib.Core.Bool.{Bool, ◌&&◌}
 use lib.Ieee.{Float, binary64, le, div, of_bits, of_int}
 use Rattle.leg.specs.Progress.{sixty_fourths}
-use Rattle.leg.proofs.leg_up_to.Statement.{statement}
-use Rattle.leg.proofs.leg_up_to.Tie as tie
+use Rattle.leg.proofs.leg_up_to.Goals as goal
 
+-- `leg::leg_up_to` meets its contract: each arm returns what the contract gives where the first test is as the arm found it. Assumes nothing.
 -- both tests by what the first gave, 1/64 by its bit pattern
 known : (most leg : Float) {t : Bool} → le (of_bits binary64 0x3F90_0000_0000_0000) leg ≡ t → (le (sixty_fourths 1) leg && le leg most) ≡ (t && le leg most)
 unfolding of_bits of_int div
 known most leg e = ap (λ (b : Bool). b && le leg most) e
 
-returns : tie.Need-returns
-returns c = sym (known c.before.args.most c.before.args.leg c.if1.true)
+pub returns-then-leg : goal.returns-then-leg
+returns-then-leg c = sym (known c.args.most c.args.leg c.if-leg.true)
 
-returns-2 : tie.Need-returns-2
-returns-2 c = sym (known c.before.args.most c.before.args.leg c.if1.false)
-
-pub leg-up-to-spec : {M : Type 1} → statement M
-leg-up-to-spec = tie.close (tie.spec returns returns-2)
+pub returns-else-leg : goal.returns-else-leg
+returns-else-leg c = sym (known c.args.most c.args.leg c.if-leg.false)
