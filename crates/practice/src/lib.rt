@@ -1,6 +1,7 @@
 // The practice file, from the bytes that the caller lends: the number that refuses it, its two sections as stretches of those
 // bytes, and the legs and the requests that they hold.
 #![tactic(auto)]
+
 ghost use Rattle.std.specs.Prelude.{◌≡◌, ◌+◌, ◌≤◌, length};
 ghost use Rattle.practice.specs.File.{number16, number32, legs_of, legs_allowed, opens, entry_is, contents_allowed, file_number};
 ghost use Rattle.practice.specs.Sections.{place_at, section_offset, section_length, section_bytes, legs_of_the_file};

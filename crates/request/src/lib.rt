@@ -1,5 +1,6 @@
 // A request, as six bytes and by its parts, the rule of each kind, and the rules that turn a request away by itself: refusals 31 and 1 to 4.
 #![tactic(auto)]
+
 ghost use Rattle.std.specs.Prelude.{◌≡◌, true};
 ghost use Rattle.request.specs.Input.{word, request_of, range, in_range, rule_of, input_number};
 

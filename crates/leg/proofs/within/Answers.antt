@@ -7,16 +7,13 @@ use Rattle.leg.specs.declared.Progress.{Progress}
 use Rattle.leg.specs.declared.Progress.TheVariants.{Flying}
 use Rattle.leg.proofs.within.Goals as goal
 
--- `leg::within` meets its contract: in each arm the definition computes at the variant that the arm was told of, and at what the first test gave. Assumes nothing.
--- `withinLeg` of a flying aircraft, by what the first test gave
+-- `within_leg` of a flying aircraft, by what the first test gave
 known : (p : Progress) (miles leg : Float) {t : Bool} → p ≡ Flying miles → le (of_bits binary64 0) miles ≡ t → within_leg p leg ≡ (t && le miles leg)
 unfolding of_bits of_int
-known p miles leg e f = ap (λ (q : Progress). withinLeg q leg) e ∙ ap (λ (b : Bool). b && le miles leg) f
+known p miles leg e f = ap (λ (q : Progress). within_leg q leg) e ∙ ap (λ (b : Bool). b && le miles leg) f
 
 pub returns-then-miles : goal.returns-then-miles
-returns-then-miles c = sym (known c.args.p c.p-1.given.0.0
-    c.args.leg c.p-1.given.1 c.if-miles.true)
+returns-then-miles c = sym (known c.args.p c.in-Flying.miles c.args.leg c.in-Flying.is c.if-miles.true)
 
 pub returns-else-miles : goal.returns-else-miles
-returns-else-miles c = sym (known c.args.p c.p-1.given.0.0
-    c.args.leg c.p-1.given.1 c.if-miles.false)
+returns-else-miles c = sym (known c.args.p c.in-Flying.miles c.args.leg c.in-Flying.is c.if-miles.false)
