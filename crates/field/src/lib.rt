@@ -1,5 +1,6 @@
 // The landing field: thirteen zones, the landing sequence, the next fix and the legs, by value.
 #![tactic(auto)]
+
 use leg::Progress;
 
 pub mod airspace;

@@ -2,12 +2,8 @@
 use mathlib.Core.Path.{refl}
 use lib.Ieee.{of_bits, of_int}
 use Rattle.field.specs.Airspace.{entering}
-use Rattle.field.proofs.airspace.entering.Statement.{statement}
-use Rattle.field.proofs.airspace.entering.Tie as tie
+use Rattle.field.proofs.airspace.entering.Goals as goal
 
-returns : tie.Need-returns
+pub returns : goal.returns
 unfolding entering of_bits of_int
 returns c = refl
-
-pub entering-spec : {M : Type 1} → statement M
-entering-spec = tie.close (tie.spec returns)
