@@ -11,4 +11,4 @@ use Rattle.binder.specs.contracts.counts.Counts as counts
 
 -- the table is the last of seven members
 pub table_known : (c : Counts) {vs : List Val} → Is counts.the_row c vs → length c.cells ≡ 273
-table_known c p = array_known struct.u64-field 273 c.cells p.1.1.1.1.1.1.1.1.0
+table_known c p = p.1.1.1.1.1.1.1.1.0.1.0.1

@@ -34,14 +34,14 @@ pub record ZoneKnown (q : Zone) : Type 0 where
   pub places : length q.aircraft ≡ 4
 
 pub zone_known : (q : Zone) {vs : List Val} → Is zone.the_row q vs → ZoneKnown q
-zone_known q p = record { places = array_known aircraft.the_field 4 q.aircraft p.1.1.0 }
+zone_known q p = record { places = p.1.1.0.1.0.1 }
 
 -- a sequence
 pub record SequenceKnown (s : Sequence) : Type 0 where
   pub places : length s.numbers ≡ 4
 
 pub sequence_known : (s : Sequence) {vs : List Val} → Is sequence.the_row s vs → SequenceKnown s
-sequence_known s p = record { places = array_known struct.u16-field 4 s.numbers p.1.1.0 }
+sequence_known s p = record { places = p.1.1.0.1.0.1 }
 
 -- a field, with each of its zones, and with what stands for a zone that is none
 pub record FieldKnown (f : Field) : Type 0 where
@@ -49,7 +49,7 @@ pub record FieldKnown (f : Field) : Type 0 where
   pub places : (z : ℕ) → length (zone_of f z).aircraft ≡ 4
   pub numbers : length f.sequence.numbers ≡ 4
 
-zones_known : (zones : List Zone) (us : List Val) (i : ℕ) → shadow (each (zone.the_field).row.Denot (zone.the_field).row.own_val (map (zone.the_field).into zones) us)
+zones_known : (zones : List Zone) (us : List Val) (i : ℕ) → shadow (each zone.the_row.Denot zone.the_row.own_val zones us)
     → length (get_or zones i empty_zone).aircraft ≡ 4
 zones_known [] us i p = refl
 zones_known (q ∷ zones) [] i p = absurd p
@@ -59,7 +59,7 @@ zones_known (q ∷ zones) (u ∷ us) (suc i) p = zones_known zones us i p.1
 pub field_known : (f : Field) {vs : List Val} → Is field.the_row f vs → FieldKnown f
 unfolding zone_of
 field_known f p = record {
-  zones = array_known zone.the_field 13 f.zones p.1.1.0;
+  zones = p.1.1.0.1.0.1;
   places = each_zone;
   numbers = (sequence_known f.sequence p.1.1.1.0).places;
 }

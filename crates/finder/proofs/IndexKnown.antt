@@ -13,4 +13,4 @@ pub record IndexKnown (i : Index) : Type 0 where
   pub places : length i.entries ≡ 5
 
 pub index_known : (i : Index) {vs : List Val} → Is index.the_row i vs → IndexKnown i
-index_known i p = record { places = array_known entry.the_field 5 i.entries p.1.1.0 }
+index_known i p = record { places = p.1.1.0.1.0.1 }

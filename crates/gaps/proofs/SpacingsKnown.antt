@@ -25,14 +25,14 @@ pub record SpacingsKnown (s : Spacings) : Type 0 where
   pub number : s.number < 65536
   pub small : Small s.pairs
 
-pairs_known : (ps : List Pair) (us : List Val) → shadow (each (pair.the_field).row.Denot (pair.the_field).row.own_val (map (pair.the_field).into ps) us) → Small ps
+pairs_known : (ps : List Pair) (us : List Val) → shadow (each pair.the_row.Denot pair.the_row.own_val ps us) → Small ps
 pairs_known [] us p = tt
 pairs_known (q ∷ ps) [] p = absurd p
 pairs_known (q ∷ ps) (u ∷ us) p = let h = p.0 in (omega (arith, h), omega (arith, h), pairs_known ps us p.1)
 
 pub spacings_known : (s : Spacings) {vs : List Val} → Is spacings.the_row s vs → SpacingsKnown s
 spacings_known s p = record {
-  places = array_known pair.the_field 3 s.pairs p.1.1.1.1.0;
+  places = p.1.1.1.1.0.1.0.1;
   number = omega (arith, p);
   small = pairs_known s.pairs _ p.1.1.1.1.0.1.1;
 }

@@ -13,4 +13,4 @@ pub record HistoryKnown (h : History) : Type 0 where
   pub places : length h.kept ≡ 8
 
 pub history_known : (h : History) {vs : List Val} → Is history.the_row h vs → HistoryKnown h
-history_known h p = record { places = array_known indexed.the_field 8 h.kept p.1.1.1.0 }
+history_known h p = record { places = p.1.1.1.0.1.0.1 }

@@ -24,14 +24,14 @@ pub record ListingKnown (l : Listing) : Type 0 where
   pub number : l.number < 65536
   pub small : Small l.entries
 
-entries_known : (es : List ListEntry) (us : List Val) → shadow (each (entry.the_field).row.Denot (entry.the_field).row.own_val (map (entry.the_field).into es) us) → Small es
+entries_known : (es : List ListEntry) (us : List Val) → shadow (each entry.the_row.Denot entry.the_row.own_val es us) → Small es
 entries_known [] us p = tt
 entries_known (e ∷ es) [] p = absurd p
 entries_known (e ∷ es) (u ∷ us) p = let h = p.0 in (omega (arith, h), omega (arith, h), omega (arith, h), omega (arith, h), entries_known es us p.1)
 
 pub listing_known : (l : Listing) {vs : List Val} → Is listing.the_row l vs → ListingKnown l
 listing_known l p = record {
-  places = array_known entry.the_field 5 l.entries p.1.1.1.1.0;
+  places = p.1.1.1.1.0.1.0.1;
   number = omega (arith, p);
   small = entries_known l.entries _ p.1.1.1.1.0.1.1;
 }

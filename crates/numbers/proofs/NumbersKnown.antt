@@ -13,4 +13,4 @@ pub record NumbersKnown (n : Numbers) : Type 0 where
   pub places : length n.list ≡ 52
 
 pub numbers_known : (n : Numbers) {vs : List Val} → Is the_row n vs → NumbersKnown n
-numbers_known n p = record { places = array_known u16-field 52 n.list p.1.1.0 }
+numbers_known n p = record { places = p.1.1.0.1.0.1 }

@@ -36,7 +36,7 @@ three_gaps (p ∷ q ∷ r ∷ s ∷ ps) d h e f g = absurd (omega arith)
 
 -- ---- five entries
 pub entries_places : (l : Listing) {vs : List Val} → Is listing.the_row l vs → length l.entries ≡ 5
-entries_places l p = array_known entry.the_field 5 l.entries p.1.1.1.1.0
+entries_places l p = p.1.1.1.1.0.1.0.1
 
 abbrev then_entry : WideEntry → List ℕ → List ℕ
 then_entry w ns = w.number ∷ w.location ∷ w.place ∷ w.fix ∷ ns

@@ -27,14 +27,14 @@ mul-fix-of : tie.Need-overflow-mul-fix-of
 unfolding order_length
 mul-fix-of c =
     let f = c.before.before.before.args.f in
-    let known = field_known f c.before.before.before.well-formed.0 in
+    let known = field_known f c.before.before.before.well_formed.0 in
     record { fits = omega (arith, c.before.order-length.ensures, order_fits f.sequence known.numbers) }
 
 element-copy-out-fix-of : tie.Need-element-copy-out-fix-of
 unfolding order_length
 element-copy-out-fix-of c =
     let f = c.before.before.before.args.f in
-    let known = field_known f c.before.before.before.well-formed.0 in
+    let known = field_known f c.before.before.before.well_formed.0 in
     omega (arith, c.before.order-length.ensures, order_fits f.sequence known.numbers)
 
 fix-of-requires : tie.Need-fix-of-requires

@@ -43,7 +43,7 @@ returns c =
     let start = c.before.before.before.before.before in
     let f = start.args.t1 in
     let l = c.before.before.before.before.loop in
-    let thirteen = (field_known f start.well-formed.0).zones in
+    let thirteen = (field_known f start.well_formed.0).zones in
     let same = c.before.queue-length.ensures ∙ length_read f l.zone _ thirteen (omega arith) (omega arith) in
     sym (passed_not (one f) 1 6 l.zone l.invariant (omega arith) (over same c.if1.true))
 
@@ -58,7 +58,7 @@ loop-again c =
     let start = c.before.before.before.before.before in
     let f = start.args.t1 in
     let l = c.before.before.before.before.loop in
-    let thirteen = (field_known f start.well-formed.0).zones in
+    let thirteen = (field_known f start.well_formed.0).zones in
     let same = c.before.queue-length.ensures ∙ length_read f l.zone _ thirteen (omega arith) (omega arith) in
     passed_more (one f) 1 6 l.zone l.invariant (omega arith) (at_most same c.if1.false)
 

@@ -28,7 +28,7 @@ returns c = sym (and_cut _ (lt-leb _ _ c.if1.true))
 loop-holds : tie.Need-loop-init invariant-loop decreases-loop
 loop-holds c =
     let a = c.before.args.t1 in
-    kept_none is_zero a.numbers a.length (sequence_known a c.before.well-formed.0).places (omega arith)
+    kept_none is_zero a.numbers a.length (sequence_known a c.before.well_formed.0).places (omega arith)
 
 mul-if2 : tie.Need-overflow-mul-if2 invariant-loop decreases-loop
 mul-if2 c = search rules

@@ -23,7 +23,7 @@ returns c = sym (and_cut _ (lt-leb _ _ c.if1.true))
 loop-holds : tie.Need-loop-init invariant-loop decreases-loop
 loop-holds c =
     let a = c.before.args.t1 in
-    kept_none is_nobody a.aircraft a.length (zone_known a c.before.well-formed.0).places (omega arith)
+    kept_none is_nobody a.aircraft a.length (zone_known a c.before.well_formed.0).places (omega arith)
 
 mul-a : tie.Need-overflow-mul-a invariant-loop decreases-loop
 mul-a c = search rules

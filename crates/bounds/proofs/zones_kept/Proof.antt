@@ -42,7 +42,7 @@ returns c =
     let start = c.before.before.before.before.before in
     let f = start.args.t1 in
     let l = c.before.before.before.before.loop in
-    let thirteen = (field_known f start.well-formed.0).zones in
+    let thirteen = (field_known f start.well_formed.0).zones in
     let same = c.before.zone-kept.ensures ∙ ap zone_kept (zone_read f l.zone _ thirteen (omega arith) (omega arith)) in
     sym (passed_not (kept f) 1 13 l.zone l.invariant (omega arith) (fails same c.if1.true))
 
@@ -57,7 +57,7 @@ loop-again c =
     let start = c.before.before.before.before.before in
     let f = start.args.t1 in
     let l = c.before.before.before.before.loop in
-    let thirteen = (field_known f start.well-formed.0).zones in
+    let thirteen = (field_known f start.well_formed.0).zones in
     let same = c.before.zone-kept.ensures ∙ ap zone_kept (zone_read f l.zone _ thirteen (omega arith) (omega arith)) in
     passed_more (kept f) 1 13 l.zone l.invariant (omega arith) (holds same c.if1.false)
 

@@ -25,7 +25,7 @@ loop-holds : tie.Need-loop-init invariant-loop decreases-loop
 unfolding order_length
 loop-holds c =
     let s = c.before.args.t1 in
-    let fits = order_fits s (sequence_known s c.before.well-formed.0).places in
+    let fits = order_fits s (sequence_known s c.before.well_formed.0).places in
     (omega arith, (omega (arith, c.order-length.ensures), (c.order-length.ensures, omega arith)))
 
 mul-if1 : tie.Need-overflow-mul-if1 invariant-loop decreases-loop

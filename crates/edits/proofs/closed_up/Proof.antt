@@ -31,7 +31,7 @@ array-read-t13 c = search rules
 returns : tie.Need-returns
 returns c =
     let s = c.before in
-    closed 0 s.args.t1 (numbers_known 4 s.args.t1 s.well-formed.0) c.if1.true
+    closed 0 s.args.t1 (numbers_known 4 s.args.t1 s.well_formed.0) c.if1.true
 
 array-read-t16 : tie.Need-array-read-t16
 array-read-t16 c = search rules
@@ -45,7 +45,7 @@ array-read-t22 c = search rules
 returns-2 : tie.Need-returns-2
 returns-2 c =
     let s = c.before.before in
-    closed 1 s.args.t1 (numbers_known 4 s.args.t1 s.well-formed.0) c.if2.true
+    closed 1 s.args.t1 (numbers_known 4 s.args.t1 s.well_formed.0) c.if2.true
 
 array-read-t25 : tie.Need-array-read-t25
 array-read-t25 c = search rules
@@ -59,7 +59,7 @@ array-read-t31 c = search rules
 returns-3 : tie.Need-returns-3
 returns-3 c =
     let s = c.before.before.before in
-    closed 2 s.args.t1 (numbers_known 4 s.args.t1 s.well-formed.0) c.if3.true
+    closed 2 s.args.t1 (numbers_known 4 s.args.t1 s.well_formed.0) c.if3.true
 
 array-read-t34 : tie.Need-array-read-t34
 array-read-t34 c = search rules
@@ -73,7 +73,7 @@ array-read-t40 c = search rules
 returns-4 : tie.Need-returns-4
 returns-4 c =
     let s = c.before.before.before in
-    closed 3 {j = s.args.k} s.args.t1 (numbers_known 4 s.args.t1 s.well-formed.0) (omega arith)
+    closed 3 {j = s.args.k} s.args.t1 (numbers_known 4 s.args.t1 s.well_formed.0) (omega arith)
 
 pub closed-up-spec : {M : Type 1} → statement M
 closed-up-spec =

@@ -37,7 +37,7 @@ closed-up-requires : tie.Need-closed-up-requires
 unfolding order_length
 closed-up-requires c κs =
     let s = c.before.before.before.before in
-    let fits = order_fits s.args.s (sequence_known s.args.s s.well-formed.0).places in
+    let fits = order_fits s.args.s (sequence_known s.args.s s.well_formed.0).places in
     omega (arith, c.before.before.order-length.ensures)
 
 sub-t8 : tie.Need-overflow-sub-t8

@@ -20,7 +20,7 @@ unfolding with_zone
 returns-2 c =
     let f = c.before.before.args.f in
     let z = c.before.before.args.zone in
-    let long : length f.zones ≡ 13 = (field_known f c.before.before.well-formed.0).zones in
+    let long : length f.zones ≡ 13 = (field_known f c.before.before.well_formed.0).zones in
     let over : length f.zones ≤ z - 1 = omega arith in
     let q = c.before.before.args.q in
     simp (set_from_one_lem f.zones z q (omega arith), set_out f.zones (z - 1) q over)

@@ -45,7 +45,7 @@ returns-2 : tie.Need-returns-2
 unfolding without_head
 returns-2 c =
     let s = c.before.before.before.before.before.before in
-    let long = (zone_known s.args.q s.well-formed.0).places in
+    let long = (zone_known s.args.q s.well_formed.0).places in
     shifted s.args.q.aircraft _ nobody _ _ long c.before.before.before.nobody.ensures
     ∙ sym (if_false s.args.q (record { aircraft = drop 1 s.args.q.aircraft ++ (nobody ∷ []); length = s.args.q.length - 1 })
     (ne_eqb _ _ c.before.before.before.before.before.if1.false))

@@ -15,7 +15,7 @@ abbrev decreases-loop : tie.decreases-loop
 decreases-loop out₀ at index end₀ i₀ out end i = 5 - i
 
 loop-holds : tie.Need-loop-init invariant-loop decreases-loop
-loop-holds c = each_none index_entry_bytes c.before.args.t3.entries _ _ (index_known c.before.args.t3 c.before.well-formed.1.1.0).places
+loop-holds c = each_none index_entry_bytes c.before.args.t3.entries _ _ (index_known c.before.args.t3 c.before.well_formed.1.1.0).places
 
 mul-e : tie.Need-overflow-mul-e invariant-loop decreases-loop
 mul-e c = search rules

@@ -15,7 +15,7 @@ abbrev decreases-loop : tie.decreases-loop
 decreases-loop out₀ at h end₀ i₀ out end i = 8 - i
 
 loop-holds : tie.Need-loop-init invariant-loop decreases-loop
-loop-holds c = each_none indexed_bytes c.before.args.t3.kept _ _ (history_known c.before.args.t3 c.before.well-formed.1.1.0).places
+loop-holds c = each_none indexed_bytes c.before.args.t3.kept _ _ (history_known c.before.args.t3 c.before.well_formed.1.1.0).places
 
 mul-x : tie.Need-overflow-mul-x invariant-loop decreases-loop
 mul-x c = search rules

@@ -15,7 +15,7 @@ abbrev decreases-loop : tie.decreases-loop
 decreases-loop out₀ at s end₀ i₀ out end i = 4 - i
 
 loop-holds : tie.Need-loop-init invariant-loop decreases-loop
-loop-holds c = each_none bytes16 c.before.args.t3.numbers _ _ (sequence_known c.before.args.t3 c.before.well-formed.1.1.0).places
+loop-holds c = each_none bytes16 c.before.args.t3.numbers _ _ (sequence_known c.before.args.t3 c.before.well_formed.1.1.0).places
 
 mul-n : tie.Need-overflow-mul-n invariant-loop decreases-loop
 mul-n c = search rules

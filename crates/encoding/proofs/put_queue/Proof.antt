@@ -15,7 +15,7 @@ abbrev decreases-loop : tie.decreases-loop
 decreases-loop out₀ at z end₀ i₀ out end i = 4 - i
 
 loop-holds : tie.Need-loop-init invariant-loop decreases-loop
-loop-holds c = each_none aircraft_bytes c.before.args.t3.aircraft _ _ (zone_known c.before.args.t3 c.before.well-formed.1.1.0).places
+loop-holds c = each_none aircraft_bytes c.before.args.t3.aircraft _ _ (zone_known c.before.args.t3 c.before.well_formed.1.1.0).places
 
 mul-a : tie.Need-overflow-mul-a invariant-loop decreases-loop
 mul-a c = search rules

@@ -15,7 +15,7 @@ abbrev decreases-loop : tie.decreases-loop
 decreases-loop out₀ at f end₀ i₀ out end i = 13 - i
 
 loop-holds : tie.Need-loop-init invariant-loop decreases-loop
-loop-holds c = each_none zone_bytes c.before.args.t3.zones _ _ (field_known c.before.args.t3 c.before.well-formed.1.1.0).zones
+loop-holds c = each_none zone_bytes c.before.args.t3.zones _ _ (field_known c.before.args.t3 c.before.well_formed.1.1.0).zones
 
 mul-z : tie.Need-overflow-mul-z invariant-loop decreases-loop
 mul-z c = search rules

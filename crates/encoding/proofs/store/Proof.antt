@@ -24,7 +24,7 @@ put-history-requires c κs = search rules
 returns : tie.Need-returns
 returns c =
     let s = c.before.before in
-    put-over 15605 c.put-history.ensures c.before.bytes.given.0.1 (state_size_lem s.args.h (history_held s.args.h s.well-formed.1.0))
+    put-over 15605 c.put-history.ensures c.before.bytes.given.0.1 (state_size_lem s.args.h (history_held s.args.h s.well_formed.1.0))
 
 pub store_spec : {M : Type 1} → statement M
 store_spec = tie.close (tie.spec put-history-requires returns)

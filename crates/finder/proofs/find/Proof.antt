@@ -24,7 +24,7 @@ returns c = sym (if_true _ _ (eq-eqb _ _ c.if1.true))
 
 loop-holds : tie.Need-loop-init invariant-loop decreases-loop
 loop-holds c =
-    let long = (index_known c.before.args.t1 c.before.well-formed.0).places in
+    let long = (index_known c.before.args.t1 c.before.well_formed.0).places in
     (long, walked_none _ _ 0 (omega arith))
 
 mul-e : tie.Need-overflow-mul-e invariant-loop decreases-loop

@@ -77,7 +77,7 @@ loop-again c =
     let at = c.before.before in
     let l = at.loop in
     let f = at.before.args.t1 in
-    let thirteen = (field_known f at.before.well-formed.0).zones in
+    let thirteen = (field_known f at.before.well_formed.0).zones in
     ⊎_elim
     (λ w. gathered f l.zone _ thirteen (omega arith) l.index.entries l.invariant (ap (λ (i : Index). i.entries) w.3 ∙ w.2.ensures))
     (λ w. empty f l.zone _ thirteen (omega arith) l.index.entries l.invariant (ap (λ (i : Index). i.entries) w.1) w.0.left)

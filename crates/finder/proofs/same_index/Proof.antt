@@ -55,8 +55,8 @@ loop-holds : tie.Need-loop-init invariant-loop decreases-loop
 loop-holds c =
     record {
       within = omega arith;
-      long = (index_known c.args.t1 c.well-formed.0).places;
-      wide = (index_known c.args.t2 c.well-formed.1.0).places;
+      long = (index_known c.args.t1 c.well_formed.0).places;
+      wide = (index_known c.args.t2 c.well_formed.1.0).places;
       rest = refl;
     }
 

@@ -14,7 +14,7 @@ abbrev decreases-loop : tie.decreases-loop
 decreases-loop entries₀ moved₀ i₀ entries moved i = 5 - i
 
 loop-holds : tie.Need-loop-init invariant-loop decreases-loop
-loop-holds c = let s = c.before in putting_none s.args.e s.args.index.entries (index_known s.args.index s.well-formed.0).places
+loop-holds c = let s = c.before in putting_none s.args.e s.args.index.entries (index_known s.args.index s.well_formed.0).places
 
 mul-here : tie.Need-overflow-mul-here invariant-loop decreases-loop
 mul-here c = search rules

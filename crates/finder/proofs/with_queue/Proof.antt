@@ -52,7 +52,7 @@ unfolding queue_length
 loop-holds c =
     let s = c.before in
     let q = s.args.t2 in
-    let fits = queue_fits q (zone_known q s.well-formed.1.0).places in
+    let fits = queue_fits q (zone_known q s.well_formed.1.0).places in
     let whole = c.queue-length.ensures in
     record { within = omega arith; few = omega (arith, whole, fits); whole = whole; rest = refl }
 

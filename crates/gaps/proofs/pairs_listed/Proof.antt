@@ -48,7 +48,7 @@ unfolding order_length
 loop-holds c =
     let s = c.before.before.before in
     let f = s.args.f in
-    let fits = order_fits f.sequence (field_known f s.well-formed.0).numbers in
+    let fits = order_fits f.sequence (field_known f s.well_formed.0).numbers in
     record {
       low = omega arith;
       whole = c.before.order-length.ensures;

@@ -35,7 +35,7 @@ returns c = sym (if_true _ _ (lt-ltb _ _ c.if1.true))
 loop-holds : tie.Need-loop-init invariant-loop decreases-loop
 loop-holds c =
     let s = c.before.before.before in
-    moving_none s.args.h.kept s.args.h.now (history_known s.args.h s.well-formed.0).places
+    moving_none s.args.h.kept s.args.h.now (history_known s.args.h s.well_formed.0).places
 
 add_kept : tie.Need-overflow-add-kept invariant-loop decreases-loop
 add_kept c = search rules

@@ -26,7 +26,7 @@ returns c = sym (and_cut _ (lt-leb _ _ c.if1.true))
 loop-holds : tie.Need-loop-init invariant-loop decreases-loop
 loop-holds c =
     let s = c.before in
-    let long = (history_known s.args.t1 s.well-formed.0).places in
+    let long = (history_known s.args.t1 s.well_formed.0).places in
     let few = c.if1.false in
     (tested_none within_bounds_indexed s.args.t1.kept s.args.t1.count (omega (arith, long, few)), few)
 

@@ -93,7 +93,7 @@ returns-5 c =
     let h = s.args.t1 in
     let few = few_kept h (bounded e) in
     let some = n.if4.false in
-    let long = (history_known h s.well-formed.0).places in
+    let long = (history_known h s.well_formed.0).places in
     given h c.before.number-and-zeros.ensures (read_any h.kept (h.count - 1) _ h.now (omega (arith, few, long, some)))
     ∙ back_let_through h s.args.desk (number_0 h s.args.desk (a-desk e.before.before) (bounded e) (lt-ltb 0 h.count (omega (arith, some))))
 

@@ -91,7 +91,7 @@ after c =
 
 -- ---- what is read of the field before
 known : (c : tie.After-check-number) → IndexedKnown (start c).args.x
-known c = indexed_known (start c).args.x (start c).well-formed.0 (start c).requires.0.1
+known c = indexed_known (start c).args.x (start c).well_formed.0 (start c).requires.0.1
 
 -- the side of the zone
 side-within : (c : tie.After-side-of) → Between 1 2 c.side-of.result

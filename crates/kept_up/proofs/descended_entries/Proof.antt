@@ -18,7 +18,7 @@ abbrev decreases-loop : tie.decreases-loop
 decreases-loop side entries₀ i₀ entries i = 5 - i
 
 loop-holds : tie.Need-loop-init invariant-loop decreases-loop
-loop-holds c = let s = c.before in written_none (descended_entry s.args.side) s.args.index.entries (index_known s.args.index s.well-formed.0).places
+loop-holds c = let s = c.before in written_none (descended_entry s.args.side) s.args.index.entries (index_known s.args.index s.well_formed.0).places
 
 mul-e : tie.Need-overflow-mul-e invariant-loop decreases-loop
 mul-e c = search rules

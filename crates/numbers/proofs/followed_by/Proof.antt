@@ -63,9 +63,9 @@ loop-holds c =
     let s = c.before.before in
     let q = s.args.t2 in
     let n = s.args.n in
-    let fits = queue_fits q (zone_known q s.well-formed.1.0).places in
+    let fits = queue_fits q (zone_known q s.well_formed.1.0).places in
     let all = c.before.queue-length.ensures in
-    let long = (numbers_known n s.well-formed.0).places in
+    let long = (numbers_known n s.well_formed.0).places in
     let made = ap (λ (k : ℕ). take k n.list) (add-zero n.length) ∙ sym (append-nil (take n.length n.list)) in
     record { within = omega arith; all = all; few = omega (arith, all); room = s.requires; long = long; made = made }
 

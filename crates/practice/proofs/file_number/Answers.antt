@@ -4,7 +4,7 @@ use mathlib.Core.Bool.{true}
 use lib.ListN.{take, drop}
 use Rattle.practice.specs.File.{opens, contents_allowed, legs_of, legs_allowed, file_number}
 use Rattle.practice.proofs.BranchTests.{fails, passes}
-use Rattle.practice.proofs.AcceptedFile.{opened}
+use Rattle.practice.proofs.AcceptedFile.{opened, long_enough}
 use Rattle.practice.proofs.file_number.Goals.{After-legs_allowed, Else-not-contents_allowed, Else-not-opens}
 use Rattle.practice.proofs.file_number.Goals as goal
 
@@ -27,6 +27,9 @@ contents_allowed-requires c = (opened _ (opens-read (goal.at.contents_allowed-re
 pub returns-then-not-contents_allowed : goal.returns-then-not-contents_allowed
 unfolding file_number
 returns-then-not-contents_allowed c = simp (opens-read (goal.at.returns-then-not-contents_allowed c).Else-not-opens, fails c.contents_allowed.ensures c.if-not-contents_allowed.true-raw)
+
+pub slice_bounds-legs_of-end : goal.slice_bounds-legs_of-end
+slice_bounds-legs_of-end c = long_enough _ (contents-read (goal.at.slice_bounds-legs_of-end c).Else-not-contents_allowed)
 
 pub returns-then-not-legs_allowed : goal.returns-then-not-legs_allowed
 unfolding file_number

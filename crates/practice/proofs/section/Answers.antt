@@ -19,5 +19,11 @@ long c = long_enough _ (accepted _ (sym c.file_number.ensures ∙ c.if-file_numb
 zero-read : (c : Else-file_number-ne0) → eqb (file_number c.args.file.now) 0 ≡ true
 zero-read c = agrees 0 c.file_number.ensures c.if-file_number-ne0.false
 
+pub slice_bounds-result-end-in-1 : goal.slice_bounds-result-end-in-1
+slice_bounds-result-end-in-1 c = let h = long (goal.at.slice_bounds-result-end-in-1 c).Else-file_number-ne0 in omega arith
+
 pub slice_bounds-result-count-in-2 : goal.slice_bounds-result-count-in-2
 slice_bounds-result-count-in-2 c = let h = long (goal.at.slice_bounds-result-count-in-2 c).Else-file_number-ne0 in omega arith
+
+pub slice_bounds-result-start-in-2 : goal.slice_bounds-result-start-in-2
+slice_bounds-result-start-in-2 c = let h = long (goal.at.slice_bounds-result-start-in-2 c).Else-file_number-ne0 in omega arith

@@ -46,7 +46,7 @@ returns c =
     let start = first.before.before in
     let l = start.args.t1 in
     ap (λ (ns : List ℕ). l.count ∷ ns)
-    (five_entries l.entries _ (entries_places l start.well-formed.0)
+    (five_entries l.entries _ (entries_places l start.well_formed.0)
     first.wide-entry.ensures second.wide-entry2.ensures third.wide-entry3.ensures fourth.wide-entry4.ensures c.wide-entry5.ensures)
 
 pub listing-numbers-spec : {M : Type 1} → statement M

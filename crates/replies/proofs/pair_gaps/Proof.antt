@@ -27,7 +27,7 @@ returns : tie.Need-returns
 returns c =
     let start = c.before.before.before.before.before.before in
     let s = start.args.t1 in
-    three_gaps s.pairs _ (spacings_known s start.well-formed.0).places c.before.before.gap-miles.ensures c.before.gap-miles2.ensures c.gap-miles3.ensures
+    three_gaps s.pairs _ (spacings_known s start.well_formed.0).places c.before.before.gap-miles.ensures c.before.gap-miles2.ensures c.gap-miles3.ensures
 
 pub pair-gaps-spec : {M : Type 1} → statement M
 pair-gaps-spec =

@@ -50,7 +50,7 @@ returns c =
     let near = next.before.before.before in
     let start = near.before.before.before.before.before.before in
     let s = start.args.t1 in
-    ap (λ (ns : List ℕ). s.count ∷ ns) (three_pairs s.pairs _ (spacings_known s start.well-formed.0).places near.close-mark.ensures next.close-mark2.ensures c.close-mark3.ensures)
+    ap (λ (ns : List ℕ). s.count ∷ ns) (three_pairs s.pairs _ (spacings_known s start.well_formed.0).places near.close-mark.ensures next.close-mark2.ensures c.close-mark3.ensures)
 
 pub spacing-numbers-spec : {M : Type 1} → statement M
 spacing-numbers-spec =

@@ -62,7 +62,7 @@ loop-again c =
     let f = s.args.f in
     let xs = f.zones in
     let amount = s.args.amount in
-    let long : length xs ≡ 13 = (field_known f s.well-formed.0).zones in
+    let long : length xs ≡ 13 = (field_known f s.well_formed.0).zones in
     let low = l.invariant.from in
     let ys = ticked_from amount 1 xs in
     let same = length_ticked amount 1 xs in
@@ -87,7 +87,7 @@ returns c =
     let s = c.before.before in
     let l = c.before.loop in
     let f = s.args.f in
-    let long : length f.zones ≡ 13 = (field_known f s.well-formed.0).zones in
+    let long : length f.zones ≡ 13 = (field_known f s.well_formed.0).zones in
     let e : l.i ≡ 12 = omega (arith, l.invariant.below) in
     let zones = twelve_written s.args.amount l.after.zones f.zones long (rw e at l.invariant.zones) in
     λ j. record { zones = zones j; sequence = l.invariant.sequence j; next = l.invariant.next j; legs = l.invariant.legs j }

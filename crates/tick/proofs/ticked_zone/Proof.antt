@@ -50,7 +50,7 @@ loop-again c =
     let g = ticked_aircraft s.args.amount in
     let q = s.args.q in
     let xs = q.aircraft in
-    let long : length xs ≡ 4 = (zone_known q s.well-formed.1.0).places in
+    let long : length xs ≡ 4 = (zone_known q s.well_formed.1.0).places in
     let here = filled_at l.after.aircraft (map g xs) xs l.i nobody _ (omega arith) (length-map xs g) l.invariant.1 in
     let ticked = c.ticked-aircraft in
     let right = ticked.ensures ∙ ap g here ∙ sym (get_d_map g xs l.i nobody nobody (omega arith)) in
@@ -64,7 +64,7 @@ returns c =
     let g = ticked_aircraft s.args.amount in
     let q = s.args.q in
     let xs = q.aircraft in
-    let long : length xs ≡ 4 = (zone_known q s.well-formed.1.0).places in
+    let long : length xs ≡ 4 = (zone_known q s.well_formed.1.0).places in
     let all = filled_all l.after.aircraft (map g xs) xs l.i (omega arith) (length-map xs g) l.invariant.1 in
     λ j. record { aircraft = all j; length = l.invariant.2 j }
 

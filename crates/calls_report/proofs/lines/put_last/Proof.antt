@@ -39,7 +39,7 @@ returns c =
     let t = k.before.before.before.before.before in
     let p = t.before.before.before in
     let s = p.before.before.before in
-    let size = last_length s.args.h (omega (arith, p.present-on.ensures, p.present-on.type-inv)) (count_known s.args.h s.well-formed.1.1.0) in (
+    let size = last_length s.args.h (omega (arith, p.present-on.ensures, p.present-on.type-inv)) (count_known s.args.h s.well_formed.1.1.0) in (
       subst (λ (n : ℕ). Put s.args.out.now s.args.at (101 ∷ 110 ∷ 100 ∷ space ∷ line_of (n ∷ s.args.h.count ∷ [])) k.put-line.new.0 k.put-line.result) p.present-on.ensures
           (put_more t.put-text.ensures k.put-line.ensures),
       size,

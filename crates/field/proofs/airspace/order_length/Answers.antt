@@ -8,11 +8,11 @@ use Rattle.field.proofs.airspace.order_length.Goals as goal
 pub returns-then-s-lt4 : goal.returns-then-s-lt4
 unfolding order_length order_of
 returns-then-s-lt4 c =
-    let four = (sequence_known c.args.s c.well-formed.0).places in
+    let four = (sequence_known c.args.s c.well_formed.0).places in
     simp length-take (omega arith)
 
 pub returns-else-s-lt4 : goal.returns-else-s-lt4
 unfolding order_length order_of
 returns-else-s-lt4 c =
-    let four = (sequence_known c.args.s c.well-formed.0).places in
+    let four = (sequence_known c.args.s c.well_formed.0).places in
     simp length-take (omega arith)

@@ -8,11 +8,11 @@ use Rattle.field.proofs.airspace.queue_length.Goals as goal
 pub returns-then-q-lt4 : goal.returns-then-q-lt4
 unfolding queue_length queue_of
 returns-then-q-lt4 c =
-    let four = (zone_known c.args.q c.well-formed.0).places in
+    let four = (zone_known c.args.q c.well_formed.0).places in
     simp length-take (omega arith)
 
 pub returns-else-q-lt4 : goal.returns-else-q-lt4
 unfolding queue_length queue_of
 returns-else-q-lt4 c =
-    let four = (zone_known c.args.q c.well-formed.0).places in
+    let four = (zone_known c.args.q c.well_formed.0).places in
     simp length-take (omega arith)

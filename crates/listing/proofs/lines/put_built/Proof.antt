@@ -27,7 +27,7 @@ returns c =
     let s = k.before.before.before.before.before in
     let b = s.args.b in
     let e = built_refused b k.before.before.if1.true in
-    let size = refusal_short b.number (omega (arith, s.well-formed.1.0)) in
+    let size = refusal_short b.number (omega (arith, s.well_formed.1.0)) in
     let long = ap length e in
     (subst⁻¹ (λ (bytes : List ℕ). Put s.args.out.now 0 bytes k.put-refusal.new.0 k.put-refusal.result) e k.put-refusal.ensures, omega arith)
 
@@ -56,7 +56,7 @@ returns-2 c =
     let b = s.args.b in
     let e = built_listed b passed.if1.false in
     let same = ap (λ (m : Listing). next_line b.after.field.next ++ list_report m) l.list_of.ensures ∙ sym e in
-    let size = both_short b.after.field.next l.list_of.result (omega (arith, s.well-formed.1.0)) (listing_known l.list_of.result l.list_of.type-inv) in
+    let size = both_short b.after.field.next l.list_of.result (omega (arith, s.well_formed.1.0)) (listing_known l.list_of.result l.list_of.type-inv) in
     let long = ap length same in (
       subst (λ (bytes : List ℕ). Put s.args.out.now 0 bytes k.put-list.new.0 k.put-list.result) same
           (put_more p.put_next.ensures k.put-list.ensures),

@@ -33,7 +33,7 @@ returns c =
 loop-holds : tie.Need-loop-init invariant-loop decreases-loop
 loop-holds c =
     let s = c.before.before in
-    record { accepted = c.if1.false; places = (listing_known s.args.t3 s.well-formed.1.1.0).places; within = omega arith; left = left_all _ _ _ }
+    record { accepted = c.if1.false; places = (listing_known s.args.t3 s.well_formed.1.1.0).places; within = omega arith; left = left_all _ _ _ }
 
 same-length-2 : tie.Need-same-length-2 invariant-loop decreases-loop
 same-length-2 c = c.before.before.loop.invariant.left.same

@@ -24,7 +24,7 @@ unfolding queue_length
 loop-holds c =
     let s = c.before.before in
     let q = s.args.t4 in
-    let fits = queue_fits q (zone_known q s.well-formed.1.1.1.0).places in
+    let fits = queue_fits q (zone_known q s.well_formed.1.1.1.0).places in
     record { within = omega arith; few = omega (arith, c.queue-length.ensures); long = c.queue-length.ensures; left = left_all _ _ _ }
 
 mul-a : tie.Need-overflow-mul-a invariant-loop decreases-loop

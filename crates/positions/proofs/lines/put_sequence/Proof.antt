@@ -30,7 +30,7 @@ unfolding order_length
 loop-holds c =
     let k = c.before.before.before.before in
     let s = k.before.before.args.t3 in
-    let fits = order_fits s (sequence_known s k.before.before.well-formed.1.1.0).places in
+    let fits = order_fits s (sequence_known s k.before.before.well_formed.1.1.0).places in
     record { within = omega arith; few = omega (arith, k.order-length.ensures); long = k.order-length.ensures; left = left_all _ _ _ }
 
 mul-put-another : tie.Need-overflow-mul-put-another invariant-loop decreases-loop

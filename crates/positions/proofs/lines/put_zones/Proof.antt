@@ -18,7 +18,7 @@ loop-holds : tie.Need-loop-init invariant-loop decreases-loop
 loop-holds c =
     let s = c.before in
     let f = s.args.t3 in
-    zones_none s.args.out.now s.args.at f (field_known f s.well-formed.1.1.0).zones
+    zones_none s.args.out.now s.args.at f (field_known f s.well_formed.1.1.0).zones
 
 sub-q : tie.Need-overflow-sub-q invariant-loop decreases-loop
 sub-q c = let h = c.before.loop.invariant.low in omega arith

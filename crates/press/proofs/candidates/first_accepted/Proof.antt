@@ -96,7 +96,7 @@ unfolding aircraft_at in_zone
 head_is c =
     let k = c.before.before in
     let f = field_of k in
-    let known = field_known f k.before.before.well-formed.0 in
+    let known = field_known f k.before.before.well_formed.0 in
     let z = get_or zones (index k) 0 in
     let low = zone_low (index k) k.loop-test.true in
     let high = zone-high (index k) k.loop-test.true in

@@ -36,7 +36,7 @@ loop-holds : tie.Need-loop-init invariant-loop decreases-loop
 unfolding queue_length
 loop-holds c =
     let q = c.before.args.t1 in
-    let fits = queue_fits q (zone_known q c.before.well-formed.0).places in
+    let fits = queue_fits q (zone_known q c.before.well_formed.0).places in
     (omega arith, (omega (arith, c.queue-length.ensures), (c.queue-length.ensures, (omega arith, omega arith))))
 
 mul-a : tie.Need-overflow-mul-a invariant-loop decreases-loop

@@ -19,7 +19,7 @@ how-many-requires-2 c κs = search rules
 
 add-result : tie.Need-overflow-add-result
 add-result c =
-    let few = how_many_fits (field_known c.before.before.args.f c.before.before.well-formed.0) in
+    let few = how_many_fits (field_known c.before.before.args.f c.before.before.well_formed.0) in
     let s = c.before.before.args.side in
     record { fits = omega (arith, c.before.how_many_lem.ensures, c.how-many2.ensures, few s, few (2 + s)) }
 
@@ -31,7 +31,7 @@ how-many-requires-3 c κs = search rules
 
 add-result-2 : tie.Need-overflow-add-result-2
 add-result-2 c =
-    let few = how_many_fits (field_known c.before.before.before.args.f c.before.before.before.well-formed.0) in
+    let few = how_many_fits (field_known c.before.before.before.args.f c.before.before.before.well_formed.0) in
     let s = c.before.before.before.args.side in
     record {
       fits =
@@ -48,7 +48,7 @@ how-many-requires-4 c κs = search rules
 add-result-3 : tie.Need-overflow-add-result-3
 add-result-3 c =
     let b = c.before.before.before.before in
-    let few = how_many_fits (field_known b.args.f b.well-formed.0) in
+    let few = how_many_fits (field_known b.args.f b.well_formed.0) in
     let s = b.args.side in
     let first = c.before.before.before.how_many_lem.ensures in
     let second = c.before.before.how-many2.ensures in

@@ -21,14 +21,14 @@ same : (c : tie.After-queue-length invariant-loop decreases-loop) → c.queue-le
 same c =
     let start = c.before.before.before.before in
     let f = start.args.t1 in
-    let thirteen = (field_known f start.well-formed.0).zones in
+    let thirteen = (field_known f start.well_formed.0).zones in
     c.queue-length.ensures ∙ length_read f c.before.before.before.loop.zone _ thirteen (omega arith) (omega arith)
 
 -- no more than four are added in a turn
 few : (c : tie.After-queue-length invariant-loop decreases-loop) → how_many c.before.before.before.before.args.t1 c.before.before.before.loop.zone ≤ 4
 few c =
     let start = c.before.before.before.before in
-    how_many_fits (field_known start.args.t1 start.well-formed.0) _
+    how_many_fits (field_known start.args.t1 start.well_formed.0) _
 
 loop-holds : tie.Need-loop-init invariant-loop decreases-loop
 loop-holds c = added_none _ 1 12 (omega arith)

@@ -25,7 +25,7 @@ add-result : tie.Need-overflow-add-result
 unfolding in_operation
 add-result c =
     let s = c.before.before in
-    let few = how_many_fits (field_known s.args.f s.well-formed.0) in
+    let few = how_many_fits (field_known s.args.f s.well_formed.0) in
     let runway : c.how_many_lem.result ≤ 4 = subst⁻¹ (λ (n : ℕ). n ≤ 4) c.how_many_lem.ensures (few _) in
     record { fits = omega (arith, c.before.in-operation.ensures, total_fits (how_many s.args.f) few 1 12) }
 

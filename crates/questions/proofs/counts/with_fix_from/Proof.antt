@@ -22,7 +22,7 @@ same : (c : tie.After-have-fix invariant-loop decreases-loop) → c.have-fix.res
 same c =
     let start = c.before.before.before.before in
     let f = start.args.t1 in
-    let thirteen = (field_known f start.well-formed.0).zones in
+    let thirteen = (field_known f start.well_formed.0).zones in
     c.have-fix.ensures ∙ fixes_read f start.args.side c.before.before.before.loop.zone _ thirteen (omega arith) (omega arith)
 
 -- no more than four are added in a turn
@@ -30,7 +30,7 @@ few : (c : tie.After-have-fix invariant-loop decreases-loop)
     → how_many_with_fix c.before.before.before.before.args.t1 c.before.before.before.before.args.side c.before.before.before.loop.zone ≤ 4
 few c =
     let start = c.before.before.before.before in
-    with_fix_fits (field_known start.args.t1 start.well-formed.0) _ _
+    with_fix_fits (field_known start.args.t1 start.well_formed.0) _ _
 
 loop-holds : tie.Need-loop-init invariant-loop decreases-loop
 loop-holds c = added_none _ c.args.first 12 (omega arith)

@@ -28,7 +28,7 @@ in_four : (c : tie.Then2) → c.before.before.before.args.place ≤ 4
 unfolding queue_length
 in_four c =
     let q = c.before.before.before.args.t1 in
-    let four = (zone_known q c.before.before.before.well-formed.0).places in
+    let four = (zone_known q c.before.before.before.well_formed.0).places in
     omega (arith, c.before.queue-length.ensures, queue_fits q four)
 
 mul-result : tie.Need-overflow-mul-result

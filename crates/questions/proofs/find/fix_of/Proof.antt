@@ -53,7 +53,7 @@ returns-2 c =
     let k = c.before.before.before.before in
     let s = k.before in
     let f = s.args.t1 in
-    let thirteen = (field_known f s.well-formed.0).zones in
+    let thirteen = (field_known f s.well_formed.0).zones in
     let at = k.place_of.result in
     let here = zone_read f at.zone _ thirteen (omega arith) (within k) in
     ap (λ (a : Aircraft). a.fix)

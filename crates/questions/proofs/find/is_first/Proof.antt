@@ -22,7 +22,7 @@ returns-2 : tie.Need-returns-2
 unfolding is_first order_of
 returns-2 c =
     let s = c.before.before.args.t1 in
-    let four = (sequence_known s c.before.before.well-formed.0).places in
+    let four = (sequence_known s c.before.before.well_formed.0).places in
     let h : 0 < length (order_of s) = omega (arith, length-take s.length s.numbers, c.before.if1.false) in
     sym (ap (is_head c.before.before.args.number) (order_next s 0 h))
 

@@ -36,7 +36,7 @@ loop-holds : tie.Need-loop-init invariant-loop decreases-loop
 unfolding order_length leader_of
 loop-holds c =
     let s = c.before.args.t1 in
-    let fits = order_fits s (sequence_known s c.before.well-formed.0).places in
+    let fits = order_fits s (sequence_known s c.before.well_formed.0).places in
     (omega arith, (omega (arith, c.order-length.ensures), (c.order-length.ensures, refl)))
 
 mul-n : tie.Need-overflow-mul-n invariant-loop decreases-loop
