@@ -1,5 +1,6 @@
 // The few changes of a queue, of the sequence and of the field that requests are made of (specs/Edits.antt).
 #![tactic(auto)]
+
 ghost use Rattle.std.specs.Prelude.{◌≡◌, [], ◌∷◌, ◌++◌, suc, ◌<◌, take, drop};
 ghost use Rattle.field.specs.Airspace.{order_of};
 ghost use Rattle.edits.specs.Edits.{without_head, with_tail, appended, before, removed, with_zone, with_sequence};

@@ -1,5 +1,6 @@
 // The questions that the rules ask of a field: where an aircraft is and whom it follows; how many are where.
 #![tactic(auto)]
+
 pub mod counts;
 pub mod find;
 

@@ -1,5 +1,6 @@
 // A tick (document 01, kind 12; document 02, 2.2 and 2.7): everyone flying advances (specs/Tick.antt).
 #![tactic(auto)]
+
 ghost use Rattle.std.specs.Prelude.{◌≡◌};
 ghost use Rattle.tick.specs.Tick.{ticked_aircraft, ticked_zone, ticked};
 

@@ -1,0 +1,34 @@
+-- `questions::counts::have_fix` meets its contract. The loop's invariant: those counted, with those that are left to count, are the whole count. Assumes nothing.
+use mathlib.Core.Path.{◌≡◌, ap}
+use mathlib.Core.Logic.{⊎_elim}
+use mathlib.Core.Bool.{Bool, cond}
+use Prim.Native.Nat.{ℕ, ◌+◌, ◌<◌}
+use native.Mathlib.Omega.{arith}
+use borrow.Author.Tests.{eq-eqb, ne_eqb}
+use lib.Dec.{eqb}
+use lib.ListN.{length, drop, get_or, drop_of_length-le}
+use Rattle.field.specs.declared.Aircraft.{Aircraft}
+use Rattle.field.specs.declared.Zone.{Zone}
+use Rattle.questions.specs.Counts.{have_fix}
+use Rattle.field.specs.Airspace.{queue_of, queue_length}
+use Rattle.field.proofs.FieldKnown.{zone_known}
+use Rattle.field.proofs.Shapes.{queue_next, queue_fits}
+use Rattle.questions.proofs.counts.have_fix.Goals as goal
+
+-- the place at i counted too: 1 where its fix is the one asked for, and else 0
+counted : (fix : ℕ) (q : Zone) (i n m all : ℕ) (d : Aircraft) → i < length (queue_of q) → cond (eqb (get_or q.aircraft i d).fix fix) 1 0 ≡ m
+    → n + have_fix fix (drop i (queue_of q)) ≡ all → n + m + have_fix fix (drop (i + 1) (queue_of q)) ≡ all
+counted fix q i n m all d h e sum = omega (arith, ap (have_fix fix) (queue_next q i d h))
+
+pub loop-i-init : goal.loop-i-init
+unfolding queue_length
+loop-i-init c =
+    let q = c.args.q in
+    let fits = queue_fits q (zone_known q c.well_formed.0).places in
+    (omega arith, (omega (arith, c.queue_length-end.ensures), (c.queue_length-end.ensures, (omega arith, omega arith))))
+
+pub offset_bounds-q-i : goal.offset_bounds-q-i
+offset_bounds-q-i c = record { fits = omega arith }
+
+pub overflow_add-n : goal.overflow_add-n
+overflow_add-n c = record { fits = omega arith }
