@@ -1,5 +1,6 @@
 // Document 01, "The bounds", g: who fits a zone, the next fix and the legs (specs/Fits.antt).
 #![tactic(auto)]
+
 ghost use Rattle.std.specs.Prelude.{◌≡◌, ◌&&◌, leb};
 ghost use Rattle.limits.specs.Limits.{desks};
 ghost use Rattle.field.specs.Airspace.{everywhere, queue_of, in_zone};

@@ -1,6 +1,5 @@
 -- `questions::counts::have_fix` meets its contract. The loop's invariant: those counted, with those that are left to count, are the whole count. Assumes nothing.
 use mathlib.Core.Path.{◌≡◌, ap}
-use mathlib.Core.Logic.{⊎_elim}
 use mathlib.Core.Bool.{Bool, cond}
 use Prim.Native.Nat.{ℕ, ◌+◌, ◌<◌}
 use native.Mathlib.Omega.{arith}
@@ -13,6 +12,7 @@ use Rattle.questions.specs.Counts.{have_fix}
 use Rattle.field.specs.Airspace.{queue_of, queue_length}
 use Rattle.field.proofs.FieldKnown.{zone_known}
 use Rattle.field.proofs.Shapes.{queue_next, queue_fits}
+use Rattle.questions.proofs.counts.have_fix.Goals.{then-a-fix, else-a-fix}
 use Rattle.questions.proofs.counts.have_fix.Goals as goal
 
 -- the place at i counted too: 1 where its fix is the one asked for, and else 0
@@ -32,3 +32,26 @@ offset_bounds-q-i c = record { fits = omega arith }
 
 pub overflow_add-n : goal.overflow_add-n
 overflow_add-n c = record { fits = omega arith }
+
+pub loop-i-preserved : goal.loop-i-preserved
+loop-i-preserved c =
+    let q = c.args.q in
+    let fix = c.args.fix in
+    let i = c.loop-i.i in
+    let n = c.loop-i.n in
+    let sum = c.loop-i.invariant.1.1.1.1 in
+    let one : Bool → ℕ = λ t. cond t 1 0 in
+    elim c.if-a-fix.branch [
+      | then-a-fix w ↦
+          let more = counted fix q i n 1 _ _ (omega arith) (ap one (eq-eqb _ _ w.if-a-fix.true)) sum in
+          (omega arith, (omega arith, (omega arith, (omega arith, omega arith))))
+      | else-a-fix w ↦
+          let more = counted fix q i n 0 _ _ (omega arith) (ap one (ne_eqb _ _ w.if-a-fix.false)) sum in
+          (omega arith, (omega arith, (omega arith, (omega arith, omega arith))))
+    ]
+
+pub returns : goal.returns
+returns c =
+    let a = c.args in
+    let i = c.loop-i.i in
+    omega (arith, ap (have_fix a.fix) (drop_of_length-le (queue_of a.q) {i = i} (omega arith)))

@@ -22,3 +22,17 @@ offset_bounds-q-place c = record { fits = omega (arith, in_four (goal.at.offset_
 
 pub bounds-q-place : goal.bounds-q-place
 bounds-q-place c = omega (arith, in_four (goal.at.bounds-q-place c).Then-place-queue_length)
+
+pub returns-then-place-queue_length : goal.returns-then-place-queue_length
+unfolding queue_length
+returns-then-place-queue_length c =
+    let a = c.args in
+    let h : a.place - 1 < length (queue_of a.q) = omega (arith, c.queue_length.ensures) in
+    sym (from_one nobody (queue_of a.q) a.place nobody (omega arith) ∙ read (queue_of a.q) (a.place - 1) nobody _ h ∙ queue_read a.q (a.place - 1) _ h)
+
+pub returns-else-place-queue_length : goal.returns-else-place-queue_length
+unfolding queue_length
+returns-else-place-queue_length c =
+    let a = c.args in
+    let h : length (nobody ∷ queue_of a.q) ≤ a.place = omega (arith, c.queue_length.ensures) in
+    c.nobody-else-place-queue_length.ensures ∙ sym (get_or-eq_default (nobody ∷ queue_of a.q) nobody h)

@@ -30,6 +30,24 @@ loop-i-init c =
 pub offset_bounds-s-i : goal.offset_bounds-s-i
 offset_bounds-s-i c = record { fits = omega arith }
 
+pub returns-then-n-number : goal.returns-then-n-number
+returns-then-n-number c =
+    let a = c.args in
+    let s = a.s in
+    let at = c.loop-i in
+    let on : ℕ = ahead_of (get_or s.numbers at.i 0) a.number (drop (at.i + 1) (order_of s)) in
+    let step = at.invariant.1.1.1 ∙ turn at.ahead a.number s at.i (omega arith) in
+    sym (step ∙ ap (λ (t : Bool). cond t at.ahead on) (eq-eqb _ _ c.if-n-number.true))
+
+pub loop-i-preserved : goal.loop-i-preserved
+loop-i-preserved c =
+    let a = c.args in
+    let s = a.s in
+    let at = c.loop-i in
+    let on : ℕ = ahead_of (get_or s.numbers at.i 0) a.number (drop (at.i + 1) (order_of s)) in
+    let step = at.invariant.1.1.1 ∙ turn at.ahead a.number s at.i (omega arith) in
+    (omega arith, (omega arith, (omega arith, step ∙ ap (λ (t : Bool). cond t at.ahead on) (ne_eqb _ _ c.if-n-number.false))))
+
 pub returns : goal.returns
 returns c =
     let s = c.args.s in

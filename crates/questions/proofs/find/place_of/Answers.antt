@@ -121,5 +121,14 @@ overflow_step-zone c = record { fits = omega arith }
 pub zones-preserved : goal.zones-preserved
 zones-preserved c = passed_on c.loop-i.invariant (omega arith)
 
+pub returns-after-zones : goal.returns-after-zones
+unfolding find_in
+returns-after-zones c =
+    let a = c.args in
+    let z = c.zones.zone in
+    let at = c.zones.invariant in
+    let none : 14 - z ≡ 0 = omega arith in
+    at.none ∙ sym (at.rest ∙ ap (λ (n : ℕ). find_in a.f a.number (zones_from z n)) none)
+
 pub returns-then-a-number : goal.returns-then-a-number
 returns-then-a-number c = sym (found_here _ c.loop-i.invariant (omega arith) c.if-a-number.true)
