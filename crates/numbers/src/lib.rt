@@ -1,5 +1,6 @@
 // The numbers of those on the field in a row, and what bound e asks of them (specs/Numbers.antt).
 #![tactic(auto)]
+
 ghost use Rattle.std.specs.Prelude.{◌≡◌, not, ◌++◌, map, ◌+◌, ◌≤◌, eqb, take};
 ghost use Rattle.field.specs.Airspace.{zones_from, queue_of};
 ghost use Rattle.field.specs.Lists.{is_in, every, all_different};

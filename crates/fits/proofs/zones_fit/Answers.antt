@@ -17,7 +17,7 @@ unfolding in_zone
 tested c =
     let f = c.args.f in
     let z = c.loop-zone.zone in
-    let thirteen = (field_known f c.good.0).zones in
+    let thirteen = (field_known f c.well_formed.0).zones in
     c.zone_fits.ensures ∙ ap (λ (q : Zone). every (fits_zone f.legs z) (queue_of q)) (zone_read f z _ thirteen (omega arith) (omega arith))
 
 pub loop-zone-init : goal.loop-zone-init
