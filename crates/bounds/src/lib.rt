@@ -1,5 +1,6 @@
 // Document 01, "The bounds", a to f, and all seven (specs/Bounds.antt); `fits` has g.
 #![tactic(auto)]
+
 ghost use Rattle.std.specs.Prelude.{◌≡◌, map, leb, get_or};
 ghost use Rattle.field.specs.Airspace.{zones_from, everywhere, zone_of, order_of};
 ghost use Rattle.questions.specs.Counts.{how_many};
