@@ -1,6 +1,7 @@
 // A binder of practice files, from the bytes that the caller lends: the number that refuses it, how many files it holds, and each file
 // as a stretch of those bytes.
 #![tactic(auto)]
+
 ghost use Rattle.std.specs.Prelude.{◌≡◌, true, ◌+◌, ◌≤◌, length};
 ghost use Rattle.practice.specs.File.{number16, number32};
 ghost use Rattle.practice.specs.Sections.{place_at};
