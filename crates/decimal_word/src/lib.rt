@@ -1,5 +1,6 @@
 // A number as a program's argument says it, a word in decimal (specs/DecimalWord.antt).
 #![tactic(auto)]
+
 ghost use Rattle.std.specs.Prelude.{◌≡◌};
 ghost use Rattle.decimal_word.specs.DecimalWord.{number_said};
 
