@@ -1,5 +1,6 @@
 // Numbers of 16, 32 and 64 bits and miles put into a lent buffer, the low byte first, and the miles of 64 bits.
 #![tactic(auto)]
+
 ghost use Rattle.std.specs.Prelude.{◌≡◌};
 ghost use Rattle.practice.specs.Practice.{bytes16, bytes32};
 ghost use Rattle.text.specs.Buffer.{Put};
