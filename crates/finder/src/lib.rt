@@ -1,5 +1,6 @@
 // A table that goes with a field and says of every number on it in which zone and place it stands (specs/Finder.antt).
 #![tactic(auto)]
+
 ghost use Rattle.std.specs.Prelude.{◌≡◌};
 ghost use Rattle.field.specs.Airspace.{queue_of};
 ghost use Rattle.finder.specs.Finder.{is_before, first_of, second_of, put_among, put_each, entries_from, index_of, found_in, same_entry, same_index, within_bounds_indexed};

@@ -1,6 +1,7 @@
 // The spacing along the path (document 02, 2.8): for each two neighbours of the landing sequence that are both on the approach, how much longer
 // the follower's way to the threshold is than the leader's, and whether that is close or clear (specs/Gaps.antt).
 #![tactic(auto)]
+
 ghost use Rattle.std.specs.Prelude.{◌≡◌, ◌&&◌};
 ghost use Rattle.field.specs.Airspace.{order_of};
 ghost use Rattle.gaps.specs.Gaps.{to_go, way_of, gap_of, spacing_of, on_approach, no_pair, pair_of, pairs_in, pairs_listed, spacing_refused, legal_spacing, gaps_of};

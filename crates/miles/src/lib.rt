@@ -1,6 +1,7 @@
 // Miles in decimal as document 02, 2.8, asks for them, put into a lent buffer (specs/Miles.antt). Each function that puts yields the place
 // after what it put.
 #![tactic(auto)]
+
 ghost use Rattle.std.specs.Prelude.{◌≡◌, ◌<◌};
 ghost use Rattle.text.specs.Buffer.{Put};
 ghost use Rattle.miles.specs.Miles.{decimals, fraction, in4096ths, miles_text};

@@ -1,5 +1,6 @@
 // What every request does: the types of an answer and of a step. The rules are the definitions of specs/.
 #![tactic(auto)]
+
 use field::Field;
 
 // An answer (01, "The requests"): the number, 0 where the request is accepted; the aircraft, with its zone, its fix and its leader after the step; and whom a

@@ -1,6 +1,7 @@
 // Writing a practice file (document 02, 2.11): from four legs and requests that are lent as bytes, the one file that is read as those, into a
 // lent buffer.
 #![tactic(auto)]
+
 ghost use Rattle.std.specs.Prelude.{◌≡◌, [], ◌∷◌, ◌++◌, ◌&&◌, ◌+◌, ◌*◌, ◌%◌, ◌/◌, ◌≤◌, eqb, leb, length, take, drop};
 ghost use Rattle.limits.specs.Limits.{most_requests, longest_body};
 ghost use Rattle.request.specs.Input.{first_refused};
