@@ -16,7 +16,7 @@ trap 'rm -rf "$made"' EXIT
 
 # Proves a library of a checkout and builds it: staticlib CHECKOUT LIBRARY
 staticlib() {
-    (cd "$1" && rt staticlib "$2") > "$made/log" 2>&1 || { cat "$made/log"; exit 1; }
+    (cd "$1" && tests/staticlib "$2") > "$made/log" 2>&1 || { cat "$made/log"; exit 1; }
 }
 
 staticlib . baguymo

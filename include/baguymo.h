@@ -1,5 +1,5 @@
 /* The airport module, for C: requests in, answers out, the state in the caller's own memory; and the reports that the programs print. Link
-   target/staticlib/libbaguymo.a, which `rt staticlib baguymo` makes (x86-64 Linux). It needs no other library than C's.
+   target/staticlib/libbaguymo.a, which `tools/build baguymo` makes (x86-64 Linux). It needs no other library than C's.
 
    No function keeps anything of its own, and each touches nothing but what it is lent. No pointer is null, not even where the length beside
    it is 0, and stretches that are lent to one call do not overlap.

@@ -12,23 +12,41 @@ import time
 from tried import CASES, COMMAND, ROOT, practice_file, run, without_rt, wrong
 from use import samples
 
-MAIN = "// Writes a line.\nuse libc::STDOUT_FILENO;\n\nfn main() {\n    io::write_all(STDOUT_FILENO, b\"%s\\n\");\n}\n"
+MAIN = """// Writes a line.
+#![tactic(auto)]
+
+use std::io;
+
+fn main(rt: HostRuntime) -> io::Result<()> {
+    println!(rt; "%s")?;
+    Ok(())
+}
+"""
 FILE = practice_file([[64] * 4])
-# An `rt` that notes when it begins and ends, and builds a program whose line the source has; it goes on when it may.
+# An `rt run` that notes when it begins and ends, and builds and runs a program whose line the source has; it goes on when it may.
 BUILDS = r"""#!/bin/sh
+[ "$*" = run ] || exit 2
 echo begin >> "$NOTES"
 while [ ! -e "$NOTES.go" ]; do sleep 0.05; done
-printf 'rt: first proved (1 s)\n'
+echo 'rt: chose --jobs 2 for first' >&2
 sleep 0.2
-mkdir -p target/bin target/stamp
-line=$(sed -n 's/.*b"\(.*\)\\n".*/\1/p' crates/play/src/main.rt)
-printf '#!/bin/sh\necho %s\n' "$line" > target/bin/play
-chmod 755 target/bin/play
-echo "$line" > target/stamp/play
-printf 'rt: play proved (1 s)\nrt: ok, 2 crates proved\n'
+echo 'rt: chose --jobs 2 for play' >&2
+mkdir -p out
+line=$(sed -n 's/.*println!(rt; "\(.*\)").*/\1/p' src/main.rt)
+printf '#!/bin/sh\necho %s\n' "$line" > out/play
+chmod 755 out/play
+echo "$line" > out/play.stamp
+echo 'rt: running out/play; to give it other input, run that file yourself' >&2
+out/play
 echo end >> "$NOTES"
 """
-FAILS = '#!/bin/sh\necho begin >> "$NOTES"\necho "rt: first NOT PROVED (exit 1, 1 s)"\necho end >> "$NOTES"\nexit 1\n'
+FAILS = r"""#!/bin/sh
+echo begin >> "$NOTES"
+echo 'fn first::one: no proof: expected answers in ./proofs/one/Answers.antt' >&2
+echo 'rt: the library first did not build, so nothing above it was checked' >&2
+echo end >> "$NOTES"
+exit 1
+"""
 
 
 class Sandbox:
@@ -83,7 +101,7 @@ def by_the_prover(folder):
     """With the real `rt`: ten commands where nothing is built, and ten at a time beside a build by hand."""
     real = shutil.which("rt")
     noted = f'#!/bin/sh\necho begin >> "$NOTES"\n"{real}" "$@"\nstatus=$?\necho end >> "$NOTES"\nexit $status\n'
-    box = Sandbox(folder, "play: io libc\n", noted)
+    box = Sandbox(folder, "play:\n", noted)
     shutil.rmtree(box.root / "crates/first")
     results = box.ten()
     yield "ten commands, nothing built", all_right(results, b"end 0 0 0 0 0")
@@ -91,8 +109,10 @@ def by_the_prover(folder):
     right = said.count(b"proved and built first") == 1 and said.count(b"waits for it") >= 1
     yield "one builds, and who waits says so", None if right else repr(said)
     yield "it is built once", None if box.builds() == 1 else box.builds()
-    (box.root / "target/stamp/play").unlink()
-    build = subprocess.Popen([real, "check", "play"], cwd=box.root, stdout=subprocess.DEVNULL, stderr=subprocess.DEVNULL)
+    for stamp in ("target/stamp/play", "crates/play/out/play.stamp"):
+        (box.root / stamp).unlink()
+    how = {"stdin": subprocess.DEVNULL, "stdout": subprocess.DEVNULL, "stderr": subprocess.DEVNULL}
+    build = subprocess.Popen([real, "run"], cwd=box.root / "crates/play", **how)
     rounds = 0
     while build.poll() is None or rounds == 0:
         rounds += 1
@@ -125,10 +145,11 @@ def when_to_build(folder):
     box.source("end 2 0 0 0 0")
     yield "changed back", wrong(box.play(), 0, b"end 2 0 0 0 0\n", rb"baguymo: play: proved[^\n]+\n")
     shutil.rmtree(box.root / "target/commands")
-    yield "built by `rt check` alone", wrong(box.play(env=without_rt(folder)), 0, b"end 2 0 0 0 0\n")
+    yield "built by tools/build alone", wrong(box.play(env=without_rt(folder)), 0, b"end 2 0 0 0 0\n")
     box.source("end 3 0 0 0 0")
     box.put_rt(FAILS)
-    failed = rb"baguymo: play: proved[^\n]+\nbaguymo: rt: first NOT PROVED[^\n]+\nbaguymo: play: the program could not be built; [^\n]*build.log [^\n]+\n"
+    failed = rb"baguymo: play: proved[^\n]+\nbaguymo: fn first::one: no proof[^\n]+\nbaguymo: rt: the library first did not build[^\n]+\n"
+    failed += rb"baguymo: play: the program could not be built; [^\n]*build.log [^\n]+\n"
     yield "a build that fails", wrong(box.play(), 1, b"", failed)
     box.put_rt(BUILDS)
     yield "and then one that does not", wrong(box.play(), 0, b"end 3 0 0 0 0\n", rb"baguymo: play: proved[^\n]+\n")

@@ -1,4 +1,4 @@
-//! Links the static library that `rt staticlib baguymo` writes.
+//! Links the static library that `tools/build baguymo` writes.
 
 use std::env;
 use std::path::Path;

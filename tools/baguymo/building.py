@@ -1,6 +1,7 @@
 """Proving and building the programs of the commands, one command at a time, under a lock."""
 import fcntl
 import os
+import re
 import shutil
 import subprocess
 import time
@@ -10,23 +11,23 @@ from .errors import Failure, reason
 from .files import say, tell
 
 LOG = os.path.join(programs.OWN, "build.log")
+BUILD = os.path.join(programs.ROOT, "tools/build")
 
 
-def plan_of(crates):
-    """The crates in the order in which `rt check` proves them: each after what it needs, by how many levels of that there are."""
-    level = {}
+def plan_of(names):
+    """All crates that some programs are made of, in the order in which they are proved: each after what it needs."""
+    plan = []
 
-    def visit(crate):
-        if crate not in level:
-            level[crate] = 0
-            level[crate] = 1 + max((visit(need) for need in crates[crate] if need in crates), default=0)
-            reached.append(crate)
-        return level[crate]
+    def visit(crate, crates):
+        if crate not in plan:
+            for need in crates[crate]:
+                if need in crates:
+                    visit(need, crates)
+            plan.append(crate)
 
-    reached = []
-    for crate in crates:
-        visit(crate)
-    return sorted(reached, key=level.get)
+    for name in names:
+        visit(name, programs.made_of(name))
+    return plan
 
 
 def locked():
@@ -53,10 +54,11 @@ class Progress:
             tell(f"\r\033[Kproving {self.done + 1} of {len(self.plan)}: {self.plan[self.done]}")
 
     def heard(self, line):
-        """Takes a line of `rt check`: whether a crate is done."""
-        words = line.split()
-        if len(words) > 2 and words[0] == "rt:" and words[1] in self.plan and words[2] in ("proved", "NOT"):
-            self.done = max(self.done, self.plan.index(words[1]) + 1)
+        """Takes a line of `rt`: whether it begins with a crate. Those before it are done, or were."""
+        begun = re.match(r"rt: chose --jobs [0-9]+ for (\w+)", line)
+        at = self.plan.index(begun[1]) if begun and begun[1] in self.plan else 0
+        if at > self.done:
+            self.done = at
             self.show()
 
     def end(self):
@@ -66,28 +68,28 @@ class Progress:
 
 
 def proved(names, lock):
-    """Has `rt check` prove and build programs. It has the lock open too, and writes to a file, so that it goes on, and the lock with it,
-    where this command is killed."""
+    """Has tools/build prove and build programs by `rt`. Both have the lock open too, and write to a file, so that they go on, and the lock with
+    them, where this command is killed."""
     if shutil.which("rt") is None:
         raise Failure(f"{', '.join(names)}: has to be proved and built first, and `rt`, the Rattle toolchain, is not on the path")
-    plan = plan_of({crate: needs for name in names for crate, needs in programs.made_of(name).items()})
+    plan = plan_of(names)
     say(f"{', '.join(names)}: proved and built first, which can take some minutes")
     progress = Progress(plan)
     progress.show()
     with open(LOG, "wb") as log, open(LOG, encoding="utf-8", errors="backslashreplace") as said:
-        rt = subprocess.Popen(["rt", "check", *names], cwd=programs.ROOT, stdin=subprocess.DEVNULL, stdout=log, stderr=log, pass_fds=[lock])
+        build = subprocess.Popen([BUILD, *names], cwd=programs.ROOT, stdin=subprocess.DEVNULL, stdout=log, stderr=log, pass_fds=[lock])
         ended = False
         while not ended:
-            ended = rt.poll() is not None
+            ended = build.poll() is not None
             for line in said:
                 progress.heard(line)
             if not ended:
                 time.sleep(0.1)
     progress.end()
-    if rt.returncode:
+    if build.returncode:
         with open(LOG, encoding="utf-8", errors="backslashreplace") as log:
             lines = [line.rstrip() for line in log]
-        told = [line for line in lines if line.startswith("rt: ") and ("NOT PROVED" in line or "FAILED" in line)]
+        told = [line for line in lines if re.match(r"fn \S+: (not proved|no proof|could not tell)|rt: the library \w+ did not build", line)]
         raise Failure(*(told[:10] or lines[-3:]), f"{', '.join(names)}: the program could not be built; {os.path.relpath(LOG)} has all that `rt` said")
 
 

@@ -20,7 +20,7 @@ def needs():
         for line in file:
             crate, colon, others = line.partition("#")[0].partition(":")
             if colon:
-                found[crate.strip()] = others.split()
+                found[crate.split()[0]] = others.split()
     return found
 
 
