@@ -4,10 +4,11 @@
 // flown of it, and the leg ahead.
 // Miles are the 16 hexadecimal digits of the `f64`'s bit pattern, other numbers decimal. Where the start is not within the leg there is no line.
 #![tactic(auto)]
+
 ghost use Rattle.std.specs.Prelude.{◌<◌};
 
 use leg::Progress;
-use libc::STDOUT_FILENO;
+use std::io;
 
 // Speeds, in 64ths of a mile a minute.
 const SPEEDS: [u16; 12] = [1, 2, 3, 63, 64, 65, 127, 255, 256, 333, 511, 512];
@@ -65,31 +66,37 @@ fn amount_of(list: usize, j: usize) -> u16
 }
 
 // Writes miles as the 16 hexadecimal digits of their bit pattern.
-fn print_miles(miles: f64) {
-    if miles == miles {
-        io::print_hex(STDOUT_FILENO, f64::to_bits(miles), 16);
+fn print_miles(rt: &impl Print, miles: f64) -> io::Result<()> {
+    if miles.is_nan() {
+        print!(rt; "NaN")
     } else {
-        io::write_all(STDOUT_FILENO, b"NaN");
+        print!(rt; "{:016x}", miles.to_bits())
     }
 }
 
 // Writes a space, and miles.
-fn print_next(miles: f64) {
-    io::write_all(STDOUT_FILENO, b" ");
-    print_miles(miles);
+fn print_next(rt: &impl Print, miles: f64) -> io::Result<()> {
+    print!(rt; " ")?;
+    print_miles(rt, miles)
 }
 
 // Writes a tick amount, the miles after that tick, those past the end and the miles waited.
-fn print_tick(amount: u16, miles: f64, past: f64, waited: f64) {
-    io::write_all(STDOUT_FILENO, b" ");
-    io::print_decimal(STDOUT_FILENO, amount as u64);
-    print_next(miles);
-    print_next(past);
-    print_next(waited);
+fn print_tick(rt: &impl Print, amount: u16, miles: f64, past: f64, waited: f64) -> io::Result<()> {
+    print!(rt; " {amount}")?;
+    print_next(rt, miles)?;
+    print_next(rt, past)?;
+    print_next(rt, waited)
 }
 
 // Writes the four ticks of one list of amounts, and yields the miles after them.
-fn ticks(start: f64, before: f64, speed: u16, list: usize, length: f64) -> f64 {
+fn ticks(
+    rt: &impl Print,
+    start: f64,
+    before: f64,
+    speed: u16,
+    list: usize,
+    length: f64,
+) -> io::Result<f64> {
     let mut miles = start;
     let mut waited = before;
     for j in 0..4 {
@@ -97,66 +104,73 @@ fn ticks(start: f64, before: f64, speed: u16, list: usize, length: f64) -> f64 {
         let after = leg::advance(miles, speed, amount, length);
         miles = after.miles;
         waited = leg::waited_after(waited, after.past);
-        print_tick(amount, miles, after.past, waited);
+        print_tick(rt, amount, miles, after.past, waited)?;
     }
-    miles
+    Ok(miles)
 }
 
 // Writes the line of one combination.
-fn line(length: f64, speed: u16, start: f64, before: f64, list: usize) {
-    print_miles(length);
-    io::write_all(STDOUT_FILENO, b" ");
-    io::print_decimal(STDOUT_FILENO, speed as u64);
-    print_next(start);
-    print_next(before);
-    let end = ticks(start, before, speed, list, length);
-    if leg::flown_out(Progress::Flying(end), length) {
-        io::write_all(STDOUT_FILENO, b" 1\n");
-    } else {
-        io::write_all(STDOUT_FILENO, b" 0\n");
-    }
+fn line(
+    rt: &impl Print,
+    length: f64,
+    speed: u16,
+    start: f64,
+    before: f64,
+    list: usize,
+) -> io::Result<()> {
+    print_miles(rt, length)?;
+    print!(rt; " {speed}")?;
+    print_next(rt, start)?;
+    print_next(rt, before)?;
+    let end = ticks(rt, start, before, speed, list, length)?;
+    let flown_out = leg::flown_out(Progress::Flying(end), length);
+    println!(rt; " {}", u8::from(flown_out))
 }
 
 // Writes the line of combination i: the start changes first, then the speed, then the leg. The tick amounts and the miles waited before change with each.
-fn combination(i: usize) {
+fn combination(rt: &impl Print, i: usize) -> io::Result<()> {
     let length = length_of(i / 72);
     let speed = SPEEDS[i / 6 % 12];
     let start = start_of(i % 6, length);
     if leg::within(Progress::Flying(start), length) {
-        line(length, speed, start, waited_of(i % 3), i % 7);
+        line(rt, length, speed, start, waited_of(i % 3), i % 7)?;
     }
+    Ok(())
 }
 
 // Writes the line of miss i: the miles flown change first, then the leg of final, then the missed leg.
-fn miss(i: usize) {
+fn miss(rt: &impl Print, i: usize) -> io::Result<()> {
     let missed = length_of(i / 78);
     let final_leg = length_of(i / 6 % 13);
     let p = Progress::Flying(start_of(i % 6, final_leg));
     if leg::within(p, final_leg) {
-        print_miles(missed);
-        print_next(final_leg);
-        print_next(start_of(i % 6, final_leg));
-        print_next(leg::leg_after_miss(missed, p, final_leg));
-        io::write_all(STDOUT_FILENO, b"\n");
+        print_miles(rt, missed)?;
+        print_next(rt, final_leg)?;
+        print_next(rt, start_of(i % 6, final_leg))?;
+        print_next(rt, leg::leg_after_miss(missed, p, final_leg))?;
+        println!(rt)?;
     }
+    Ok(())
 }
 
 // Writes the lines of all combinations of ticks.
-fn combinations() {
+fn combinations(rt: &impl Print) -> io::Result<()> {
     for i in 0..936 {
-        combination(i);
+        combination(rt, i)?;
     }
+    Ok(())
 }
 
 // Writes the lines of all misses.
-fn misses() {
+fn misses(rt: &impl Print) -> io::Result<()> {
     for i in 0..1014 {
-        miss(i);
+        miss(rt, i)?;
     }
+    Ok(())
 }
 
 // Writes all lines.
-fn main() {
-    combinations();
-    misses();
+fn main(rt: HostRuntime) -> io::Result<()> {
+    combinations(&rt)?;
+    misses(&rt)
 }
