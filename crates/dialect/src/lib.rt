@@ -1,5 +1,6 @@
 // The classroom dialect (document 02, 2.12): a field as a list in sequence order.
 #![tactic(auto)]
+
 pub mod going;
 
 // One of the list: a number, its location (the zone's number), its place in the landing sequence from 1, 0 on the runway, and its fix.
