@@ -27,3 +27,10 @@ put_file-end-requires c =
     let p = passed (goal.at.put_file-end-requires c).Else-number-ne0 in
     let n = count c.args.requests.now in
     omega arith
+
+pub returns : goal.returns
+returns c =
+    let a = c.args in
+    let file = file_of a.legs a.requests.now in
+    let same = file_bytes a.legs a.requests.now (known (goal.at.returns c).After-writing_number-number) (passed (goal.at.returns c).Else-number-ne0).whole in
+    let fits = (passed (goal.at.returns c).Else-number-ne0).fits in record { value = answer_written a.legs a.requests.now (length a.out.now) (zero (goal.at.returns c).Else-number-ne0) (put_end file c.put_file-end.ensures same fits); out_after = buffer_written a.legs a.requests.now a.out.now (zero (goal.at.returns c).Else-number-ne0) (put_whole file c.put_file-end.ensures same fits) }
