@@ -1,5 +1,6 @@
 // What the program `author` prints (document 02, 2.11): from the bytes of four legs and requests to those of their practice file.
 #![tactic(auto)]
+
 ghost use Rattle.std.specs.Prelude.{◌≡◌, ◌++◌, ◌≤◌, length, drop};
 ghost use Rattle.text.specs.Buffer.{Put};
 ghost use Rattle.authored.specs.Authored.{file_room, legs_given, refused_line, authored_of};

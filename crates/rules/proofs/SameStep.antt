@@ -339,10 +339,10 @@ step_same {f} {g} s r =
 -- ---- every list of requests
 pub played_same : {f g : Field} → Same f g → (rs : List Request) → played f rs ≡ played g rs
 played_same s [] = refl
-played_same {f} {g} s (r ∷ rs) =
+played_same {f = f} {g = g} s (r ∷ rs) =
     ap (λ (a : Answer). (r, a) ∷ played (step_of f r).field rs) (answer_same s r)
-    ∙ ap (λ (ps : List (Request × Answer)). (r, (step_of g r).answer) ∷ ps) (played_same (step_same s r) rs)
+    ∙ ap (λ (ps : List (Request × Answer)). (r, (step_of g r).answer) ∷ ps) (played_same {f = (step_of f r).field} {g = (step_of g r).field} (step_same s r) rs)
 
 pub after_same : {f g : Field} → Same f g → (rs : List Request) → Same (field_after f rs) (field_after g rs)
 after_same s [] = s
-after_same s (r ∷ rs) = after_same (step_same s r) rs
+after_same {f = f} {g = g} s (r ∷ rs) = after_same {f = (step_of f r).field} {g = (step_of g r).field} (step_same s r) rs
