@@ -1,5 +1,6 @@
 // Document 01, "Turned away by the field": what each kind of request needs, in order (rules' specs/Kinds.antt).
 #![tactic(auto)]
+
 ghost use Rattle.std.specs.Prelude.{◌≡◌, cond, ◌||◌, [], ◌∷◌, eqb};
 ghost use Rattle.request.specs.Input.{within, first_refused};
 ghost use Rattle.field.specs.Airspace.{at3000, at2000, lateral, missed};

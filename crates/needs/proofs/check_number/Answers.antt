@@ -12,9 +12,7 @@ use Rattle.field.proofs.TestLaws.{if_true, if_false}
 use Rattle.rules.specs.Kinds.{belongs_to, presence_checks}
 use Rattle.rules.specs.Step.{needs_for, checks_for}
 use Rattle.rules.proofs.Checks.{refused_append, presence_refuses}
-use borrow.Author.Rules.{rules}
-use Rattle.needs.proofs.check_number.Statement.{statement}
-use Rattle.needs.proofs.check_number.Tie as tie
+use Rattle.needs.proofs.check_number.Goals as goal
 
 -- the first number that refuses, by that of what stands first
 split : (f : Field) (r : Request) (at : Place) (ahead : ℕ) {n : ℕ} {own : Bool} → own ≡ belongs_to f at r.desk → n ≡ first_refused (presence_checks r.kind at own)
@@ -23,28 +21,13 @@ split f r at ahead o e =
     refused_append (presence_checks r.kind at (belongs_to f at r.desk)) (needs_for r.kind f r at ahead) (presence_refuses r.kind at (belongs_to f at r.desk))
     ∙ ap (λ (n : ℕ). cond (eqb n 0) (first_refused (needs_for r.kind f r at ahead)) n) (sym (e ∙ ap (λ (b : Bool). first_refused (presence_checks r.kind at b)) o))
 
-belongs-to-requires : tie.Need-belongs-to-requires
-belongs-to-requires c κs = search rules
+pub returns-then-n-ne0 : goal.returns-then-n-ne0
+returns-then-n-ne0 c =
+    let a = c.args in
+    sym (split a.f a.r a.at a.ahead c.belongs_to-own.ensures c.presence_number-n.ensures ∙ if_false _ _ (ne_eqb _ _ c.if-n-ne0.true))
 
-presence-number-requires : tie.Need-presence-number-requires
-presence-number-requires c κs = search rules
-
-returns : tie.Need-returns
+pub returns : goal.returns
 returns c =
-    let owner = c.before.before in
-    let a = owner.before.args in
-    sym (split a.f a.r a.at a.ahead owner.belongs-to.ensures c.before.presence-number.ensures ∙ if_false _ _ (ne_eqb _ _ c.if1.true))
-
-needs-number-requires : tie.Need-needs-number-requires
-needs-number-requires c κs = search rules
-
-returns-2 : tie.Need-returns-2
-returns-2 c =
-    let owner = c.before.before.before in
-    let a = owner.before.args in
-    c.needs-number.ensures
-    ∙ sym (split a.f a.r a.at a.ahead owner.belongs-to.ensures c.before.before.presence-number.ensures ∙ if_true _ _ (eq-eqb _ _ c.before.if1.false))
-
-pub check-number-spec : {M : Type 1} → statement M
-check-number-spec =
-    tie.close (tie.spec belongs-to-requires presence-number-requires returns needs-number-requires returns-2)
+    let a = c.args in
+    c.needs_number.ensures
+    ∙ sym (split a.f a.r a.at a.ahead c.belongs_to-own.ensures c.presence_number-n.ensures ∙ if_true _ _ (eq-eqb _ _ c.if-n-ne0.false))
