@@ -241,8 +241,8 @@ module _ {w : WholeLegs} {s : ℕ → Flight} {f : Side} {line : List Placed} {r
 
 exact_runs : {w : WholeLegs} {s : ℕ → Flight} {g : Field} (rs : List Request) → KnownOn w s g → KnownOn w (λ n. flight_after w n (s n) (played g rs)) (field_after g rs)
 exact_runs [] k = k
-exact_runs {w} {s} {g} (r ∷ rs) k =
-    exact_runs rs (subst⁻¹ (λ (h : Field). KnownOn w (λ n. flight_with w n (s n) (r, (step_of h r).answer)) (step_of h r).field) k.stands (step_known k.known r))
+exact_runs {w = w} {s = s} {g = g} (r ∷ rs) k =
+    exact_runs {w = w} {s = λ n. flight_with w n (s n) (r, (step_of g r).answer)} {g = (step_of g r).field} rs (subst⁻¹ (λ (h : Field). KnownOn w (λ n. flight_with w n (s n) (r, (step_of h r).answer)) (step_of h r).field) k.stands (step_known k.known r))
 
 -- ---- by zone
 module _ (w : WholeLegs) (s : ℕ → Flight) where
