@@ -1,5 +1,6 @@
 // Document 01, "The requests": what each kind does to the field (rules' specs/Kinds.antt).
 #![tactic(auto)]
+
 ghost use Rattle.std.specs.Prelude.{◌≡◌, cond, ◌&&◌};
 ghost use Rattle.field.specs.Airspace.{at2000, base};
 ghost use Rattle.rules.specs.Kinds.{may_approach, base_free, head_gone, tail_put, moved, descended, out_of_sequence, fix_taken, entered, made_room};

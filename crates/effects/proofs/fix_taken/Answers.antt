@@ -1,0 +1,15 @@
+-- `effects::fix_taken` meets its contract: the definition takes the arm of the test. Assumes nothing.
+use mathlib.Core.Path.{sym}
+use Rattle.field.specs.Airspace.{order_length}
+use Rattle.field.proofs.TestParts.{is, is_not}
+use Rattle.rules.specs.Kinds.{fix_taken}
+use Rattle.field.proofs.TestLaws.{if_true, if_false}
+use Rattle.effects.proofs.fix_taken.Goals as goal
+
+pub returns-then-order_length-eq0 : goal.returns-then-order_length-eq0
+unfolding order_length fix_taken
+returns-then-order_length-eq0 c = sym (if_true _ _ (is c.order_length.ensures c.if-order_length-eq0.true))
+
+pub returns-else-order_length-eq0 : goal.returns-else-order_length-eq0
+unfolding order_length fix_taken
+returns-else-order_length-eq0 c = sym (if_false _ _ (is_not c.order_length.ensures c.if-order_length-eq0.false))
