@@ -1,5 +1,6 @@
 // The step of any request on any field (rules' specs/Step.antt).
 #![tactic(auto)]
+
 ghost use Rattle.std.specs.Prelude.{◌≡◌, cond, T, eqb};
 ghost use Rattle.request.specs.Input.{within, first_refused, input_number};
 ghost use Rattle.bounds.specs.Bounds.{within_bounds};

@@ -13,9 +13,7 @@ use Rattle.rules.specs.declared.Stepped.{Stepped}
 use Rattle.rules.specs.Kinds.{place_before}
 use Rattle.rules.specs.Step.{effect_of, number_and_zeros, acceptance_on, along_for, answer_of}
 use Rattle.step.proofs.StepsByTests.{checked, effected}
-use borrow.Author.Rules.{rules}
-use Rattle.step.proofs.unjudged.Statement.{statement}
-use Rattle.step.proofs.unjudged.Tie as tie
+use Rattle.step.proofs.unjudged.Goals as goal
 
 -- the step by the field after it and the answer
 made : (f : Field) (r : Request) {at : Place} {along : ℕ} {g : Field} {a : Answer} → at ≡ place_before f r → along ≡ along_for r.kind f r at.zone → g ≡ effect_of f r
@@ -33,59 +31,19 @@ made f r {at} {along} {g} {a} p el eg ea =
     answered : Field → ℕ → Answer
     answered h n = cond (eqb r.kind 12) (number_and_zeros 0) (acceptance_on h r n)
 
-place-of-requires : tie.Need-place-of-requires
-place-of-requires c κs = search rules
-
-zone-ahead-requires : tie.Need-zone-ahead-requires
-zone-ahead-requires c κs = search rules
-
-check-number-requires : tie.Need-check-number-requires
-check-number-requires c κs = search rules
-
-turned-away-requires : tie.Need-turned-away-requires
-turned-away-requires c κs = search rules
-
-returns : tie.Need-returns
-returns c =
-    let k = c.before.before in
-    let z = k.before in
-    let a = z.before.before.args in
-    let need = checked a.f a.r z.before.place_of.ensures z.zone-ahead.ensures k.check-number.ensures in
-    c.turned-away.ensures
+pub returns-then-need-ne0 : goal.returns-then-need-ne0
+returns-then-need-ne0 c =
+    let a = c.args in
+    let need = checked a.f a.r c.place_of-at.ensures c.zone_ahead-ahead.ensures c.check_number-need.ensures in
+    c.turned_away.ensures
     ∙ ap (λ (n : ℕ). record { answer = number_and_zeros n; field = a.f }) need
-    ∙ sym (if_false _ _ (is_not need c.before.if1.true))
+    ∙ sym (if_false _ _ (is_not need c.if-need-ne0.true))
 
-along-of-requires : tie.Need-along-of-requires
-along-of-requires c κs = search rules
-
-effect-requires : tie.Need-effect-requires
-effect-requires c κs = search rules
-
-answer-requires : tie.Need-answer-requires
-answer-requires c κs = search rules
-
-returns-2 : tie.Need-returns-2
-returns-2 c =
-    let l = c.before.before in
-    let k = l.before.before in
-    let z = k.before in
-    let a = z.before.before.args in
-    let placed = z.before.place_of.ensures in
-    let led = z.zone-ahead.ensures in
-    let need = checked a.f a.r placed led k.check-number.ensures in
-    made a.f a.r placed l.along-of.ensures (effected a.f a.r placed led c.before.effect.ensures) c.answer.ensures
-    ∙ sym (if_true _ _ (is need l.before.if1.false))
-
-pub unjudged-spec : {M : Type 1} → statement M
-unjudged-spec =
-    tie.close
-    (tie.spec
-    place-of-requires
-    zone-ahead-requires
-    check-number-requires
-    turned-away-requires
-    returns
-    along-of-requires
-    effect-requires
-    answer-requires
-    returns-2)
+pub returns : goal.returns
+returns c =
+    let a = c.args in
+    let placed = c.place_of-at.ensures in
+    let led = c.zone_ahead-ahead.ensures in
+    let need = checked a.f a.r placed led c.check_number-need.ensures in
+    made a.f a.r placed c.along_of-along.ensures (effected a.f a.r placed led c.effect-g.ensures) c.answer.ensures
+    ∙ sym (if_true _ _ (is need c.if-need-ne0.false))

@@ -9,9 +9,7 @@ use Rattle.request.specs.declared.Request.{Request}
 use Rattle.rules.specs.Kinds.{shown_to}
 use Rattle.rules.specs.declared.Answer.{Answer}
 use Rattle.rules.specs.Step.{acceptance}
-use borrow.Author.Rules.{rules}
-use Rattle.step.proofs.acceptance.Statement.{statement}
-use Rattle.step.proofs.acceptance.Tie as tie
+use Rattle.step.proofs.acceptance.Goals as goal
 
 -- an answer whose aircraft and leader are those of the places
 made : (f : Field) (at ahead : Place) (r : Request) (along : ℕ) {a b : Aircraft} {leader : ℕ} → a ≡ aircraft_at f at.zone at.place
@@ -23,30 +21,7 @@ made f at ahead r along {a} {b} {leader} ea eb el = ap (λ (x : Aircraft). answe
     answered : ℕ → ℕ → Answer
     answered fix leader = record { number = 0; aircraft = r.number; zone = at.zone; fix = fix; leader = leader; along = along }
 
-cast-aircraft-at : tie.Need-overflow-cast-aircraft-at
-cast-aircraft-at c = search rules
-
-aircraft-at-requires : tie.Need-aircraft-at-requires
-aircraft-at-requires c κs = search rules
-
-cast-aircraft-at-2 : tie.Need-overflow-cast-aircraft-at-2
-cast-aircraft-at-2 c = search rules
-
-aircraft-at-requires-2 : tie.Need-aircraft-at-requires-2
-aircraft-at-requires-2 c κs = search rules
-
-cast-t8 : tie.Need-overflow-cast-t8
-cast-t8 c = search rules
-
-shown-to-requires : tie.Need-shown-to-requires
-shown-to-requires c κs = search rules
-
-returns : tie.Need-returns
+pub returns : goal.returns
 returns c =
-    let leader = c.before.before in
-    let own = leader.before.before in
-    let a = own.before.before.args in
-    made a.f a.at a.ahead a.r a.along own.aircraft-at.ensures leader.aircraft-at2.ensures c.shown-to.ensures
-
-pub acceptance-spec : {M : Type 1} → statement M
-acceptance-spec = tie.close (tie.spec cast-aircraft-at aircraft-at-requires cast-aircraft-at-2 aircraft-at-requires-2 cast-t8 shown-to-requires returns)
+    let a = c.args in
+    made a.f a.at a.ahead a.r a.along c.aircraft_at-a.ensures c.aircraft_at-b.ensures c.shown_to.ensures
