@@ -1,5 +1,6 @@
 // Document 02, 2.9: the index kept up by a request (specs/KeptUp.antt).
 #![tactic(auto)]
+
 ghost use Rattle.std.specs.Prelude.{◌≡◌, ◌≤◌};
 ghost use Rattle.kept_up.specs.KeptUp.{approach_to, hold_to, leads_to, place_in, led_to, moved_entry, moved_entries, descended_entry, descended_entries, without, arrived_at, kept_up};
 

@@ -3,7 +3,6 @@ use mathlib.Core.Path.{◌≡◌, refl, sym, ap, ◌∙◌}
 use mathlib.Core.List.{List, [], ◌∷◌}
 use Prim.Native.Nat.{ℕ}
 use native.Mathlib.Omega.{arith}
-use borrow.Author.Rules.{rules}
 use borrow.Author.Tests.{eq-eqb, ne_eqb}
 use lib.ListN.{length, get_or}
 use Rattle.field.proofs.TestLaws.{if_true, if_false}
@@ -12,8 +11,7 @@ use Rattle.finder.specs.declared.Index.{Index}
 use Rattle.finder.specs.Finder.{unused}
 use Rattle.finder.proofs.IndexKnown.{index_known}
 use Rattle.kept_up.specs.KeptUp.{without}
-use Rattle.kept_up.proofs.without.Statement.{statement}
-use Rattle.kept_up.proofs.without.Tie as tie
+use Rattle.kept_up.proofs.without.Goals as goal
 
 -- a list of five is its elements in a row
 five : (xs : List Entry) (d : Entry) → length xs ≡ 5 → xs ≡ get_or xs 0 d ∷ get_or xs 1 d ∷ get_or xs 2 d ∷ get_or xs 3 d ∷ get_or xs 4 d ∷ []
@@ -72,85 +70,30 @@ module _ (i : Index) (n : ℕ) (d : Entry) (long : length i.entries ≡ 5) where
       ∙ ap (λ (l : List Entry). rest (at 0 ∷ at 1 ∷ at 2 ∷ at 3 ∷ l)) (if_false _ _ (ne_eqb _ _ f))
       ∙ ap rest (sym (five i.entries d long))
 
-element-copy-out-a : tie.Need-element-copy-out-a
-element-copy-out-a c = search rules
+pub returns-then-a-number : goal.returns-then-a-number
+returns-then-a-number c =
+    sym (first c.args.index c.args.number _ (index_known c.args.index c.well_formed.0).places c.if-a-number.true)
 
-element-copy-out-b : tie.Need-element-copy-out-b
-element-copy-out-b c = search rules
+pub returns-then-b-number : goal.returns-then-b-number
+returns-then-b-number c =
+    sym (second c.args.index c.args.number _ (index_known c.args.index c.well_formed.0).places c.if-a-number.false c.if-b-number.true)
 
-element-copy-out-c : tie.Need-element-copy-out-c
-element-copy-out-c c = search rules
+pub returns-then-c-number : goal.returns-then-c-number
+returns-then-c-number c =
+    sym (third c.args.index c.args.number _ (index_known c.args.index c.well_formed.0).places c.if-a-number.false c.if-b-number.false c.if-c-number.true)
 
-element-copy-out-d : tie.Need-element-copy-out-d
-element-copy-out-d c = search rules
+pub returns-then-d-number : goal.returns-then-d-number
+returns-then-d-number c =
+    sym (fourth c.args.index c.args.number _ (index_known c.args.index c.well_formed.0).places c.if-a-number.false c.if-b-number.false c.if-c-number.false c.if-d-number.true)
 
-element-copy-out-e : tie.Need-element-copy-out-e
-element-copy-out-e c = search rules
+pub returns-then-e-number : goal.returns-then-e-number
+returns-then-e-number c =
+    sym
+    (fifth c.args.index c.args.number _ (index_known c.args.index c.well_formed.0).places c.if-a-number.false c.if-b-number.false c.if-c-number.false c.if-d-number.false
+    c.if-e-number.true)
 
--- ---- the way back to the start
-abbrev start : tie.After-struct-known → tie.Start
-start c = c.before.before.before.before.before.before
-
-returns : tie.Need-returns
+pub returns : goal.returns
 returns c =
-    let s = start c.before in
-    sym (first s.args.t1 s.args.number _ (index_known s.args.t1 s.good.0).places c.if1.true)
-
-returns-2 : tie.Need-returns-2
-returns-2 c =
-    let at1 = c.before.before in
-    let s = start at1.before in
-    sym (second s.args.t1 s.args.number _ (index_known s.args.t1 s.good.0).places at1.if1.false c.if2.true)
-
-returns-3 : tie.Need-returns-3
-returns-3 c =
-    let at2 = c.before.before in
-    let at1 = at2.before.before in
-    let s = start at1.before in
-    sym (third s.args.t1 s.args.number _ (index_known s.args.t1 s.good.0).places at1.if1.false at2.if2.false c.if3.true)
-
-returns-4 : tie.Need-returns-4
-returns-4 c =
-    let at3 = c.before.before in
-    let at2 = at3.before.before in
-    let at1 = at2.before.before in
-    let s = start at1.before in
-    sym (fourth s.args.t1 s.args.number _ (index_known s.args.t1 s.good.0).places at1.if1.false at2.if2.false at3.if3.false c.if4.true)
-
-returns-5 : tie.Need-returns-5
-returns-5 c =
-    let at4 = c.before.before in
-    let at3 = at4.before.before in
-    let at2 = at3.before.before in
-    let at1 = at2.before.before in
-    let s = start at1.before in
     sym
-    (fifth s.args.t1 s.args.number _ (index_known s.args.t1 s.good.0).places at1.if1.false at2.if2.false at3.if3.false at4.if4.false
-    c.if5.true)
-
-returns-6 : tie.Need-returns-6
-returns-6 c =
-    let at4 = c.before.before in
-    let at3 = at4.before.before in
-    let at2 = at3.before.before in
-    let at1 = at2.before.before in
-    let s = start at1.before in
-    sym
-    (none s.args.t1 s.args.number _ (index_known s.args.t1 s.good.0).places at1.if1.false at2.if2.false at3.if3.false at4.if4.false
-    c.if5.false)
-
-pub without-spec : {M : Type 1} → statement M
-without-spec =
-    tie.close
-    (tie.spec
-    element-copy-out-a
-    element-copy-out-b
-    element-copy-out-c
-    element-copy-out-d
-    element-copy-out-e
-    returns
-    returns-2
-    returns-3
-    returns-4
-    returns-5
-    returns-6)
+    (none c.args.index c.args.number _ (index_known c.args.index c.well_formed.0).places c.if-a-number.false c.if-b-number.false c.if-c-number.false c.if-d-number.false
+    c.if-e-number.false)
