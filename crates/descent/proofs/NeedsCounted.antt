@@ -62,6 +62,7 @@ each_fix legs z (a ∷ l) t =
     one_of : (b c : Bool) → T (b || c) → 1 ≤ cond {A = ℕ} b 1 0 + cond {A = ℕ} c 1 0
     one_of true c t = omega arith
     one_of false true t = omega arith
+    one_of false false t = elim t [ ]
 
 total_two : (g h k : ℕ → ℕ) (zs : List ℕ) → ((z : ℕ) → is_in z zs ≡ true → g z ≤ h z + k z) → total g zs ≤ total h zs + total k zs
 total_two g h k [] e = omega arith
