@@ -1,5 +1,6 @@
 // Who goes now (document 02, 2.6): what the button proposes on a field, one press, and the button held down.
 #![tactic(auto)]
+
 mod candidates;
 
 ghost use Rattle.std.specs.Prelude.{◌≡◌, ◌*◌, ◌≤◌, T, length};
