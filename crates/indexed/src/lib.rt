@@ -1,5 +1,6 @@
 // A field with an index beside it, and the step of any request on it: the look-ups go through the index (specs/Indexed.antt).
 #![tactic(auto)]
+
 ghost use Rattle.std.specs.Prelude.{◌≡◌, true, false, cond, T, eqb};
 ghost use Rattle.request.specs.Input.{within, input_number};
 ghost use Rattle.questions.specs.Find.{leader_of};
