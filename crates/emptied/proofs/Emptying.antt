@@ -48,7 +48,7 @@ use Rattle.press.specs.Press.{long_tick, proposal_of}
 use Rattle.press.specs.HeldDown.{then_pressed, presses, held_requests, held_of}
 use Rattle.press.proofs.Proposals.{Proposed, proposed, proposal_is, tick_accepted, button_kind_moves}
 use Rattle.press.proofs.Pressing.{presses_none, presses_more, presses_play, presses_end, held_is}
-use Rattle.emptied.specs.Emptied.{leading_ticks, ticks_in_arow, EmptiedOn, Emptied}
+use Rattle.emptied.specs.Emptied.{leading_ticks, ticks_in_a_row, EmptiedOn, Emptied}
 use Rattle.emptied.proofs.SamePresses.{emptied_same}
 use Rattle.emptied.proofs.OnePress.{pressed_on}
 use Rattle.emptied.proofs.Arriving.{FlownAfter, all_arrive, after_tick, all_flown}
@@ -231,21 +231,21 @@ module _ (legs : Legs) where
       let here = ap leading_ticks (presses_play n g long_tick e) in
       omega (arith, rest, here))
 
-  rows : {w : ℕ} (n : ℕ) (g : Field) → Stands legs g w → ticks_in_arow (presses n g) ≤ most_ticks
-  rows zero g s = let e = ap ticks_in_arow (presses_none g) in omega (arith, e)
+  rows : {w : ℕ} (n : ℕ) (g : Field) → Stands legs g w → ticks_in_a_row (presses n g) ≤ most_ticks
+  rows zero g s = let e = ap ticks_in_a_row (presses_none g) in omega (arith, e)
   rows {w} (suc n) g s =
       by (λ f h. rows {w = w} n f h) (row (suc n) most_ticks g s (all_arrive g (bounded s) most_ticks (omega arith))) (proposal_of g) refl
       (subst⁻¹ (Proposed g) (proposal_is g (bounded s)) (proposed g (bounded s)))
     where
-      by : ((f : Field) → Stands legs f w → ticks_in_arow (presses n f) ≤ most_ticks) → leading_ticks (presses (suc n) g) ≤ most_ticks
-          → (p : Proposal) → proposal_of g ≡ p → Proposed g p → ticks_in_arow (presses (suc n) g) ≤ most_ticks
+      by : ((f : Field) → Stands legs f w → ticks_in_a_row (presses n f) ≤ most_ticks) → leading_ticks (presses (suc n) g) ≤ most_ticks
+          → (p : Proposal) → proposal_of g ≡ p → Proposed g p → ticks_in_a_row (presses (suc n) g) ≤ most_ticks
       by rest first Refused e q = absurd q
-      by rest first None e q = let h = ap ticks_in_arow (presses_end (suc n) g e) in omega (arith, h)
+      by rest first None e q = let h = ap ticks_in_a_row (presses_end (suc n) g e) in omega (arith, h)
       by rest first (Play r) e q =
           let others = presses n (step_of g r).field in
           let is = presses_play n g r e in
-          subst⁻¹ (λ (rs : List Request). ticks_in_arow rs ≤ most_ticks) is
-          (either_way (λ (m : ℕ). m ≤ most_ticks) (ltb (ticks_in_arow others) (leading_ticks (r ∷ others))) (leading_ticks (r ∷ others)) (ticks_in_arow others)
+          subst⁻¹ (λ (rs : List Request). ticks_in_a_row rs ≤ most_ticks) is
+          (either_way (λ (m : ℕ). m ≤ most_ticks) (ltb (ticks_in_a_row others) (leading_ticks (r ∷ others))) (leading_ticks (r ∷ others)) (ticks_in_a_row others)
           (λ b. subst (λ (rs : List Request). leading_ticks rs ≤ most_ticks) is first)
           (λ b. rest (step_of g r).field (stands_after s r q.0 (no_adding r q.1) w (omega arith))))
 

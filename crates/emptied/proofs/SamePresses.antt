@@ -20,7 +20,7 @@ use Rattle.press.specs.declared.Ending.TheVariants as ending
 use Rattle.press.specs.Press.{candidates, head_move, long_tick, first_accepted, proposal_of}
 use Rattle.press.specs.HeldDown.{then_pressed, presses, held_requests, held_of}
 use Rattle.press.proofs.Pressing.{presses_none, presses_more}
-use Rattle.emptied.specs.Emptied.{ticks_in_arow, EmptiedOn}
+use Rattle.emptied.specs.Emptied.{ticks_in_a_row, EmptiedOn}
 
 -- ---- what is proposed
 module _ {f g : Field} (s : Same f g) where
@@ -62,5 +62,5 @@ emptied_same {f} {g} s e =
       nobody = present_same ended ∙ e.nobody;
       few = subst⁻¹ (λ (l : List Request). length l ≤ most_presses) rs e.few;
       few_moves = subst⁻¹ (λ (ps : List (Request × Answer)). moves ps ≤ most_moves) answers e.few_moves;
-      few_ticks = subst⁻¹ (λ (l : List Request). ticks_in_arow l ≤ most_ticks) rs e.few_ticks;
+      few_ticks = subst⁻¹ (λ (l : List Request). ticks_in_a_row l ≤ most_ticks) rs e.few_ticks;
     }

@@ -32,9 +32,9 @@ leading_ticks [] = 0
 leading_ticks (r ∷ rs) = cond (is_tick r.kind) (suc (leading_ticks rs)) 0
 
 -- the most ticks that stand in a row in it
-abbrev pub ticks_in_arow : List Request → ℕ
-ticks_in_arow [] = 0
-ticks_in_arow (r ∷ rs) = cond (ltb (ticks_in_arow rs) (leading_ticks (r ∷ rs))) (leading_ticks (r ∷ rs)) (ticks_in_arow rs)
+abbrev pub ticks_in_a_row : List Request → ℕ
+ticks_in_a_row [] = 0
+ticks_in_a_row (r ∷ rs) = cond (ltb (ticks_in_a_row rs) (leading_ticks (r ∷ rs))) (leading_ticks (r ∷ rs)) (ticks_in_a_row rs)
 
 -- held down, the button empties the field, and says none, within its bound
 pub record EmptiedOn (f : Field) : Type 0 where
@@ -46,7 +46,7 @@ pub record EmptiedOn (f : Field) : Type 0 where
   -- its moves are as few as those of any list without an entry or a miss
   pub few_moves : moves (played f (held_requests f)) ≤ most_moves
   -- and each of them comes after so many ticks at the most (02, 2.6 and 2.7): no more stand in a row
-  pub few_ticks : ticks_in_arow (held_requests f) ≤ most_ticks
+  pub few_ticks : ticks_in_a_row (held_requests f) ≤ most_ticks
 
 -- that is so after every list of requests, from every empty field that a list may start from
 abbrev pub Emptied : Type 0
