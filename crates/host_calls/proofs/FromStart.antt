@@ -31,7 +31,7 @@ use Rattle.press.specs.declared.Ending.{Ending}
 use Rattle.press.specs.declared.Ending.TheVariants as ending
 use Rattle.press.specs.HeldDown.{then_pressed, held_requests, ending_number}
 use Rattle.press_kept.specs.PressKept.{proposal_kept, played_kept, press_kept, presses_kept, held_kept}
-use Rattle.emptied.specs.Emptied.{ticks_in_arow, EmptiedOn}
+use Rattle.emptied.specs.Emptied.{ticks_in_a_row, EmptiedOn}
 use Rattle.emptied.proofs.Emptying.{emptied}
 use Rattle.gaps.specs.declared.Spacings.{Spacings}
 use Rattle.gaps.specs.Gaps as gaps
@@ -159,7 +159,7 @@ emptied_kept h k w e =
       nobody = ap present_on held.field ∙ e.nobody;
       few = subst⁻¹ (λ (n : ℕ). n ≤ most_presses) held.played e.few;
       few_moves = subst⁻¹ (λ (rs : List Request). moves (played f rs) ≤ most_moves) same e.few_moves;
-      few_ticks = subst⁻¹ (λ (rs : List Request). ticks_in_arow rs ≤ most_ticks) same e.few_ticks;
+      few_ticks = subst⁻¹ (λ (rs : List Request). ticks_in_a_row rs ≤ most_ticks) same e.few_ticks;
     }
 
 pub from_start : FromStart

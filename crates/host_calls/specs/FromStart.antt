@@ -11,7 +11,7 @@ use Rattle.rules.specs.declared.Answer.{Answer}
 use Rattle.rules.specs.Play.{field_after, played, moves}
 use Rattle.demand.specs.Exact.{WholeLegs, in_miles, ExactOf}
 use Rattle.gaps.specs.Gaps.{legal_spacing, gaps_of}
-use Rattle.emptied.specs.Emptied.{ticks_in_arow}
+use Rattle.emptied.specs.Emptied.{ticks_in_a_row}
 use Rattle.exact_gaps.specs.ExactGaps.{ExactGapsOf}
 use Rattle.dialect_field.specs.Coming.{field_of_list}
 use Rattle.history.specs.declared.History.{History}
@@ -90,7 +90,7 @@ pub record EmptiedKept (h : History) : Type 0 where
   pub few : (held_kept h).played ≤ most_presses
   -- of what it plays no more than 27 are moves (02, 2.14), each after no more than 8,192 ticks (02, 2.6 and 2.7)
   pub few_moves : moves (played h.now.field (presses_kept most_presses h)) ≤ most_moves
-  pub few_ticks : ticks_in_arow (presses_kept most_presses h) ≤ most_ticks
+  pub few_ticks : ticks_in_a_row (presses_kept most_presses h) ≤ most_ticks
 
 -- what holds after a list of calls from a start
 pub record FromStartOf (first : History) (cs : List HostCall) : Type 0 where
