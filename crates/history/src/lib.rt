@@ -1,5 +1,6 @@
 // A field with the eight fields before the last accepted requests, and one step back (specs/History.antt).
 #![tactic(auto)]
+
 ghost use Rattle.std.specs.Prelude.{◌≡◌};
 ghost use Rattle.rules.specs.Step.{number_and_zeros};
 ghost use Rattle.history.specs.History.{start_with, start_of, kept_within_bounds, within_bounds_history, keeping, step_history, step_back};
