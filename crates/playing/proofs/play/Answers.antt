@@ -1,0 +1,95 @@
+-- `playing::play` meets its contract: nothing of a refused file, or the session that the file holds. Assumes nothing.
+use mathlib.Core.Path.{◌≡◌, sym, ap, ◌∙◌, subst⁻¹}
+use mathlib.Core.List.{List, ◌++◌}
+use Prim.Native.Nat.{ℕ, ◌*◌, ◌-◌}
+use native.Mathlib.Omega.{arith}
+use lib.Dec.{T}
+use lib.ListN.{length, take, drop}
+use lib.Seq.{sets}
+use borrow.Author.Rules.{part_to_end}
+use borrow.Author.Rules.{rules}
+use Rattle.request.specs.declared.Request.{Request}
+use Rattle.practice.specs.File.{legs_of, legs_body, file_number}
+use Rattle.practice.specs.Requests.{requests_of}
+use Rattle.practice.proofs.Meaning.{Held, held}
+use Rattle.field.specs.declared.Legs.{Legs}
+use Rattle.field.specs.Airspace.{empty_field}
+use Rattle.fits.specs.Fits.{legal_legs}
+use Rattle.playing.specs.declared.Played.{Played}
+use Rattle.playing.specs.Playing.{legs_in_miles, no_legs, answers_from, present_from, field_from}
+use Rattle.playing.specs.Log.{log_of}
+use Rattle.playing.proofs.PlayedFiles.{legs_held, requests_inside, practice_holds, answers_held, played_held, answers_none, played_none, file_legs_legal}
+use Rattle.playing.proofs.Logs.{log_written}
+use Rattle.playing.proofs.Playing.{length_answers}
+use Rattle.playing.proofs.play.Goals.{After-legs_in_miles, Else-number-ne0, Then-number-ne0}
+use Rattle.playing.proofs.play.Goals as goal
+
+requests-read : (file : List ℕ) → requests_of (take (length file - 34) (drop 34 file)) ≡ requests_inside file
+requests-read file = ap requests_of (part_to_end file 34)
+
+refused : (c : Then-number-ne0) → file_number (c.args.file.now) ≡ 0 → ⊥
+refused c e = c.if-number-ne0.true (c.file_number-number.ensures ∙ e)
+
+accepted : (c : Else-number-ne0) → file_number (c.args.file.now) ≡ 0
+accepted c = sym c.file_number-number.ensures ∙ c.if-number-ne0.false
+
+holding : (c : Else-number-ne0) → Held (c.args.file.now) (legs_of (legs_body (c.args.file.now))) (requests_inside (c.args.file.now))
+holding c =
+    let file = c.args.file.now in
+    held file (legs_of (legs_body file)) (requests_inside file) (practice_holds file (accepted c))
+
+accepted_10 : (c : After-legs_in_miles) → file_number (c.args.file.now) ≡ 0
+accepted_10 c = sym c.file_number-number.ensures ∙ c.if-number-ne0.false
+
+holding_10 : (c : After-legs_in_miles) → Held (c.args.file.now) (legs_of (legs_body (c.args.file.now))) (requests_inside (c.args.file.now))
+holding_10 c =
+    let file = c.args.file.now in
+    held file (legs_of (legs_body file)) (requests_inside file) (practice_holds file (accepted_10 c))
+
+legs_read : (c : After-legs_in_miles) → c.legs_in_miles.result ≡ legs_held (c.args.file.now)
+legs_read c = c.legs_in_miles.ensures ∙ ap legs_in_miles (c.file_legs.ensures ∙ (holding_10 c).legs_read)
+
+pub returns-then-number-ne0 : goal.returns-then-number-ne0
+returns-then-number-ne0 c =
+    let file = c.args.file.now in
+    let n = c.file_number-number.ensures in
+    let log = c.args.log.now in
+    let told = c.nothing_played.ensures ∙ ap (λ (m : ℕ). record { number = m; requests = 0; present = 0; field = empty_field (legs_in_miles no_legs) }) n in
+    let none : c.nothing_played.result.requests ≡ 0 = ap (λ (p : Played). p.requests) told in record { value = told ∙ sym (played_none file (refused (goal.at.returns-then-number-ne0 c).Then-number-ne0)); log_after = sym (ap (λ ps. log_of ps ++ drop (7 * c.nothing_played.result.requests) log) (answers_none file (refused (goal.at.returns-then-number-ne0 c).Then-number-ne0)) ∙ ap (λ (m : ℕ). drop (7 * m) log) none) }
+
+pub slice_bounds-play_body-count : goal.slice_bounds-play_body-count
+slice_bounds-play_body-count c = (holding (goal.at.slice_bounds-play_body-count c).Else-number-ne0).long
+
+pub slice_bounds-play_body-start : goal.slice_bounds-play_body-start
+slice_bounds-play_body-start c = (holding (goal.at.slice_bounds-play_body-start c).Else-number-ne0).long
+
+pub play_body-requires : goal.play_body-requires
+play_body-requires c =
+    let file = c.args.file.now in
+    let n = ap length (requests-read file) in record { body_len_bound = (omega (arith, (holding (goal.at.play_body-requires c).Else-number-ne0).few), search rules); t = subst⁻¹ (λ (l : Legs). T (legal_legs l)) (legs_read (goal.at.play_body-requires c).After-legs_in_miles) (file_legs_legal (legs_of (legs_body file)) (holding (goal.at.play_body-requires c).Else-number-ne0).legs_legal) }
+
+pub returns : goal.returns
+returns c =
+    let file = c.args.file.now in
+    let legs = legs_read (goal.at.returns c).After-legs_in_miles in
+    let rs = requests-read file in
+    let log = c.args.log.now in
+    let answers = answers_from (legs_held file) (requests_inside file) in
+    let count : c.play_body.result.requests ≡ length answers =
+    ap (λ (p : Played). p.requests) c.play_body.ensures.value ∙ ap length rs ∙ sym (length_answers (legs_held file) (requests_inside file)) in
+    let n = length_answers (legs_held file) (requests_inside file) in record {
+      value = c.play_body.ensures.value
+          ∙ ap (λ (l : Legs). record {
+            number = 0;
+            requests = length (requests_of (take (length file - 34) (drop 34 file)));
+            present = present_from l (requests_of (take (length file - 34) (drop 34 file)));
+            field = field_from l (requests_of (take (length file - 34) (drop 34 file)));
+          }) legs
+          ∙ ap (λ (r : List Request). record { number = 0; requests = length r; present = present_from (legs_held file) r; field = field_from (legs_held file) r }) rs
+          ∙ sym (played_held file (accepted (goal.at.returns c).Else-number-ne0));
+      log_after = c.play_body.ensures.log_after
+          ∙ ap (λ (l : Legs). sets log 0 (log_of (answers_from l (requests_of (take (length file - 34) (drop 34 file)))))) legs
+          ∙ ap (λ (r : List Request). sets log 0 (log_of (answers_from (legs_held file) r))) rs
+          ∙ log_written log answers c.play_body.result.requests count (omega (arith, count, n, (holding (goal.at.returns c).Else-number-ne0).few))
+          ∙ sym (ap (λ ps. log_of ps ++ drop (7 * c.play_body.result.requests) log) (answers_held file (accepted (goal.at.returns c).Else-number-ne0)));
+    }
