@@ -1,5 +1,6 @@
 // A session: from the bytes of a practice file to the bytes of the report.
 #![tactic(auto)]
+
 pub mod lines;
 mod tally;
 
