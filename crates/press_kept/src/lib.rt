@@ -1,5 +1,6 @@
 // The button on a field with its kept ones: one press, and the button held down (specs/PressKept.antt).
 #![tactic(auto)]
+
 ghost use Rattle.std.specs.Prelude.{◌≡◌};
 ghost use Rattle.press.specs.HeldDown.{ending_number};
 ghost use Rattle.press_kept.specs.PressKept.{proposal_kept, press_kept, number_held_kept, ending_kept, held_kept};
