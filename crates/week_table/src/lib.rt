@@ -1,5 +1,6 @@
 // The table of a binder's report: the place of an answer in it, and what counts as a move and as a landing (specs/Table.antt).
 #![tactic(auto)]
+
 ghost use Rattle.std.specs.Prelude.{◌≡◌, cond, eqb};
 ghost use Rattle.request.specs.Input.{within};
 ghost use Rattle.playing.specs.Log.{of_kinds};
