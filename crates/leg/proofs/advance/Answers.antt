@@ -7,7 +7,6 @@ use Rattle.leg.specs.Progress.{up_to, beyond, advanced, past_end, advancing}
 use Rattle.leg.specs.declared.Advanced.{Advanced}
 use Rattle.leg.proofs.advance.Goals as goal
 
--- `leg::advance` meets its contract, by those of `up_to` and `beyond`. Assumes nothing.
 -- the sum as MIR has it, with 64.0 by its bit pattern
 abbrev written : Float → ℕ → ℕ → Float
 written miles speed amount =

@@ -5,7 +5,6 @@ use lib.Ieee.{Float, binary64, lt, sub, of_bits, of_int}
 use Rattle.leg.specs.Progress.{whole, beyond}
 use Rattle.leg.proofs.beyond.Goals as goal
 
--- `leg::beyond` meets its contract: each arm returns what the definition picks where the test is as the arm found it. Assumes nothing.
 -- `beyond` by what the test gave, 0 by its bit pattern
 known : (limit x : Float) {t : Bool} → lt limit x ≡ t → beyond limit x ≡ cond t (sub binary64 x limit) (of_bits binary64 0)
 unfolding of_bits of_int

@@ -5,7 +5,6 @@ use lib.Ieee.{Float, binary64, le, div, of_bits, of_int}
 use Rattle.leg.specs.Progress.{sixty_fourths}
 use Rattle.leg.proofs.leg_up_to.Goals as goal
 
--- `leg::leg_up_to` meets its contract: each arm returns what the contract gives where the first test is as the arm found it. Assumes nothing.
 -- both tests by what the first gave, 1/64 by its bit pattern
 known : (most leg : Float) {t : Bool} → le (of_bits binary64 0x3F90_0000_0000_0000) leg ≡ t → (le (sixty_fourths 1) leg && le leg most) ≡ (t && le leg most)
 unfolding of_bits of_int div

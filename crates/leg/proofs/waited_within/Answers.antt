@@ -6,7 +6,6 @@ use Rattle.limits.specs.Limits.{most_waited}
 use Rattle.leg.specs.Progress.{waited_within, whole}
 use Rattle.leg.proofs.waited_within.Goals as goal
 
--- `leg::waited_within` meets its contract: each arm returns what the definition gives where the first test is as the arm found it. Assumes nothing.
 -- `waitedWithin` by what the first test gave, the two numbers by their bit patterns
 known : (waited : Float) {t : Bool} → le (of_bits binary64 0) waited ≡ t → waited_within waited ≡ (t && le waited (of_bits binary64 0x40B0_0000_0000_0000))
 unfolding of_bits of_int
