@@ -3,13 +3,9 @@ use mathlib.Core.Path.{sym, ap, ◌∙◌}
 use mathlib.Core.Bool.{not}
 use Prim.Native.Nat.{ℕ}
 use lib.Dec.{eqb}
-use lib.ListN.{length}
 use Rattle.field.specs.Lists.{every, all_different}
 use Rattle.numbers.specs.Numbers.{numbers_differ}
 use Rattle.field.proofs.TestParts.{and_then, and_cut, holds, fails}
-use Rattle.numbers.proofs.NumbersKnown.{numbers_known}
-use Rattle.field.proofs.Arrays.{part_length}
-use native.Mathlib.Omega.{arith}
 use Rattle.numbers.proofs.numbers_differ.Goals as goal
 
 pub returns-then-not-all_nonzero : goal.returns-then-not-all_nonzero

@@ -9,7 +9,6 @@ use Rattle.field.specs.Lists.{is_in, every, all_different}
 use Rattle.questions.specs.Find.{numbers_in}
 use Rattle.numbers.specs.Numbers.{sequence_exact}
 use Rattle.field.proofs.TestParts.{and_then, and_cut, holds, fails}
-use Rattle.numbers.proofs.NumbersKnown.{numbers_known}
 use Rattle.field.proofs.Arrays.{part_length, part_of, part_fits}
 use native.Mathlib.Omega.{arith}
 use Rattle.numbers.proofs.sequence_exact.Goals.{After-all_different, After-each_in, After-order_length-end}
