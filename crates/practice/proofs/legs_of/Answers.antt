@@ -6,7 +6,6 @@ use Rattle.practice.specs.declared.FileLegs.{FileLegs}
 use Rattle.practice.specs.File.{number16, legs_of}
 use Rattle.practice.proofs.legs_of.Goals as goal
 
--- `practice::legs_of` meets its contract. Assumes nothing.
 -- legs that are the four numbers of the body
 made : (body : List ℕ) {b i l m : ℕ} → b ≡ number16 body 0 → i ≡ number16 body 2 → l ≡ number16 body 4 → m ≡ number16 body 6
     → ◌≡◌ {A = FileLegs} (record { base = b; intermediate = i; final_approach = l; missed = m }) (legs_of body)
