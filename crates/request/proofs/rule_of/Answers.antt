@@ -1,9 +1,8 @@
 -- `request::rule_of` meets its contract, arm by arm. Assumes nothing.
 use mathlib.Core.Path.{◌≡◌, sym, ap, ◌∙◌}
-use mathlib.Core.Logic.{inl, inr, ⊎_elim}
+use mathlib.Core.Logic.{⊎_elim}
 use native.Mathlib.Omega.{arith}
 use Rattle.request.specs.Input.{rule_of}
-use Rattle.request.proofs.Rules.{past, rule_of_entry, rule_of_none}
 use Rattle.request.proofs.rule_of.Goals as goal
 
 pub returns-in-3 : goal.returns-in-3
