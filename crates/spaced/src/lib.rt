@@ -1,5 +1,6 @@
 // The spacing along the path after a practice file (document 02, 2.8): from the bytes of the file and a spacing to the bytes of the report.
 #![tactic(auto)]
+
 mod lines;
 
 ghost use Rattle.std.specs.Prelude.{◌≡◌, ◌≤◌, ◌++◌, length, drop};
