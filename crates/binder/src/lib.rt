@@ -1,5 +1,6 @@
 // The report of a binder, from the binder's bytes: what was answered in the files that play, by kind and number.
 #![tactic(auto)]
+
 mod counts;
 mod lines;
 
