@@ -1,5 +1,6 @@
 // The classroom dialect (document 02, 2.12): a list in sequence order as a field.
 #![tactic(auto)]
+
 use finder::Indexed;
 
 pub mod coming;
