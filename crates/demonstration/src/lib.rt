@@ -1,5 +1,6 @@
 // The button held down after a practice file (document 02, 2.6): from the bytes of the file to the bytes of the report.
 #![tactic(auto)]
+
 ghost use Rattle.std.specs.Prelude.{◌≡◌, ◌≤◌, ◌++◌, length, drop};
 ghost use Rattle.text.specs.Buffer.{Put, room};
 ghost use Rattle.demonstration.specs.Demonstration.{end_word, ending_line, button_of};
