@@ -1,5 +1,6 @@
 // The field after each request of a practice file, in numbers: from the bytes of the file to the bytes of the report.
 #![tactic(auto)]
+
 pub mod lines;
 
 ghost use Rattle.std.specs.Prelude.{◌≡◌, ◌++◌, ◌≤◌, length, drop};
