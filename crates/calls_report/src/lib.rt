@@ -1,5 +1,6 @@
 // What the program `desks` prints: the answers to calls by two desks, requests and steps back (document 02, 2.10 and 2.13), from their bytes.
 #![tactic(auto)]
+
 mod lines;
 
 ghost use Rattle.std.specs.Prelude.{◌≡◌, ◌++◌, ◌+◌, ◌/◌, ◌≤◌, length, drop};
