@@ -1,5 +1,6 @@
 // The reports of the program `classroom` (document 02, 2.12): the list of the field after a practice file, and the field that a list builds.
 #![tactic(auto)]
+
 mod lines;
 
 ghost use Rattle.std.specs.Prelude.{◌≡◌, ◌++◌, ◌≤◌, length, drop};
