@@ -1,5 +1,6 @@
 // The numbers and gaps that a host's calls put into the memory that they are lent (specs/Replies.antt).
 #![tactic(auto)]
+
 ghost use Rattle.std.specs.Prelude.{◌≡◌};
 ghost use Rattle.press.specs.HeldDown.{ending_number};
 ghost use Rattle.replies.specs.Replies.{answer_numbers, request_numbers, spent_mark, held_numbers, close_mark, gap_miles, pair_gaps, spacing_numbers, wide_entry, listing_numbers};
