@@ -6,7 +6,7 @@ use denote.Shadow.{shadow}
 use denote.Laws.{Is}
 use denote.Floats.{FloatOf, passes}
 use denote.Array.{each}
-use denote.Struct.Field as struct
+use denote.RattleType.{RattleType}
 use Rattle.leg.specs.contracts.Progress as progress
 use Rattle.field.specs.contracts.Aircraft as aircraft
 use Rattle.field.specs.contracts.Zone as zone
@@ -28,8 +28,8 @@ use Rattle.field.specs.Lists.{Each}
 use Rattle.layout.specs.Held.{MilesHeld, ProgressWith, AircraftWith, ZoneWith, LegsWith, FieldWith, IndexedWith, HistoryHeld}
 
 -- what each element of an array is known to have
-module _ (F : struct.Field) (P : F.Value → Type 0) (known : (x : F.Value) (v : Val) → Is F.row (F.into x) (v ∷ []) → P x) where
-  each_known : (xs : List F.Value) (us : List Val) → shadow (each F.row.Denot F.row.own_val (map F.into xs) us) → Each P xs
+module _ (R : RattleType) (P : R.Denot → Type 0) (known : (x : R.Denot) (v : Val) → Is R x (v ∷ []) → P x) where
+  each_known : (xs : List R.Denot) (us : List Val) → shadow (each R.Denot R.own_val xs us) → Each P xs
   each_known [] us p = tt
   each_known (x ∷ xs) [] p = absurd p
   each_known (x ∷ xs) (u ∷ us) p = (known x u p.0, each_known xs us p.1)
@@ -48,8 +48,8 @@ aircraft_held a k =
 
 zone_held : (z : Zone) {vs : List Val} → Is zone.the_row z vs → ZoneWith MilesHeld z
 zone_held z k = record {
-  places = array_known aircraft.the_field 4 z.aircraft k.1.1.0;
-  aircraft = each_known aircraft.the_field (AircraftWith MilesHeld) (λ a v. aircraft_held a) z.aircraft _ k.1.1.0.1.1;
+  places = k.1.1.0.1.0.1;
+  aircraft = each_known aircraft.the_row (AircraftWith MilesHeld) (λ a v. aircraft_held a) z.aircraft _ k.1.1.0.1.1;
 }
 
 legs_held_lem : (l : Legs) {vs : List Val} → Is legs.the_row l vs → LegsWith MilesHeld l
@@ -66,8 +66,8 @@ field_held : (f : Field) {vs : List Val} → Is field.the_row f vs → FieldWith
 field_held f k =
     let m = k.1.1 in
     record {
-      places = array_known zone.the_field 13 f.zones m.0;
-      zones = each_known zone.the_field (ZoneWith MilesHeld) (λ z v. zone_held z) f.zones _ m.0.1.1;
+      places = m.0.1.0.1;
+      zones = each_known zone.the_row (ZoneWith MilesHeld) (λ z v. zone_held z) f.zones _ m.0.1.1;
       numbers = (sequence_known f.sequence m.1.0).places;
       legs = legs_held_lem f.legs m.1.1.1.0;
     }
@@ -80,6 +80,6 @@ history_held h k =
     let m = k.1.1 in
     record {
       now = indexed_held h.now m.0;
-      places = array_known indexed.the_field 8 h.kept m.1.0;
-      kept = each_known indexed.the_field (IndexedWith MilesHeld) (λ x v. indexed_held x) h.kept _ m.1.0.1.1;
+      places = m.1.0.1.0.1;
+      kept = each_known indexed.the_row (IndexedWith MilesHeld) (λ x v. indexed_held x) h.kept _ m.1.0.1.1;
     }
