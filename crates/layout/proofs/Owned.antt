@@ -1,5 +1,5 @@
 -- What owning a history tells of it: `HistoryHeld`. `Is the_row x vs` is what field's proofs/FieldKnown.antt says it is. Assumes nothing.
-use mathlib.Core.List.{List, [], ◌∷◌, map}
+use mathlib.Core.List.{List, [], ◌∷◌}
 use lib.Ieee.{Float, binary64}
 use mir.Val.{Val}
 use denote.Shadow.{shadow}
@@ -14,7 +14,7 @@ use Rattle.field.specs.contracts.Legs as legs
 use Rattle.field.specs.contracts.Field as field
 use Rattle.finder.specs.contracts.Indexed as indexed
 use Rattle.history.specs.contracts.History as history
-use Rattle.field.proofs.FieldKnown.{array_known, sequence_known}
+use Rattle.field.proofs.FieldKnown.{sequence_known}
 use Rattle.leg.specs.declared.Progress.{Progress}
 use Rattle.leg.specs.declared.Progress.TheVariants.{Waiting, Flying}
 use Rattle.field.specs.declared.Aircraft.{Aircraft}
