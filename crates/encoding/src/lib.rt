@@ -1,5 +1,6 @@
 // The state that a host lends, put into its bytes. Each function that puts a part yields the place after it.
 #![tactic(auto)]
+
 ghost use Rattle.std.specs.Prelude.{◌≡◌};
 ghost use Rattle.practice.specs.Practice.{bytes16};
 ghost use Rattle.text.specs.Buffer.{Put};

@@ -1,0 +1,22 @@
+-- `encoding::put_aircraft` meets its contract: its parts, one after the other. Assumes nothing.
+use mathlib.Core.Path.{ap}
+use Rattle.words.specs.Words.{bytes64}
+use Rattle.words.proofs.Puts.{put_as}
+use Rattle.layout.specs.Written.{aircraft_bytes}
+use Rattle.text.proofs.Texts.{put_more, put_same}
+use Rattle.encoding.proofs.put_aircraft.Goals as goal
+
+pub shape_of-out : goal.shape_of-out
+shape_of-out c =
+    let first = put_more (put_more c.put_number16-fix.ensures c.put_byte-desk.ensures) c.put_byte-speed.ensures in
+    let flown = put_as (ap bytes64 c.progress_bits.ensures) c.put_number64-waited.ensures in
+    let whole = put_more (put_more (put_more (put_more first c.put_number16-progress.ensures) flown) c.put_bits-leg.ensures) c.put_bits.ensures in
+    put_same whole
+
+pub returns : goal.returns
+unfolding aircraft_bytes
+returns c =
+    let first = put_more (put_more c.put_number16-fix.ensures c.put_byte-desk.ensures) c.put_byte-speed.ensures in
+    let flown = put_as (ap bytes64 c.progress_bits.ensures) c.put_number64-waited.ensures in
+    let whole = put_more (put_more (put_more (put_more first c.put_number16-progress.ensures) flown) c.put_bits-leg.ensures) c.put_bits.ensures in
+    whole
