@@ -1,5 +1,6 @@
 // The state that a host lends, read from its bytes (layout's specs/Read.antt).
 #![tactic(auto)]
+
 ghost use Rattle.std.specs.Prelude.{◌≡◌, ◌+◌, ◌≤◌, length};
 ghost use Rattle.practice.specs.File.{number16, number32};
 ghost use Rattle.words.specs.Words.{number64};
