@@ -1,6 +1,7 @@
 // The calls of a host's program on a state that it lends as bytes, by the numbers of the rules (`baguymo` has them for C): the start, a request, a step
 // back, and a field of the classroom dialect.
 #![tactic(auto)]
+
 pub mod button;
 pub mod views;
 
