@@ -30,7 +30,8 @@ extern "C" {
    as the one NaN, which is written as 0x7ff8000000000000: within the bounds one can stand only in a kept field that does not count, and
    there the next accepted call that writes changes any other pattern to this one. The bounds are no checksum: a flipped bit may lead to
    another state within them. After a step back the first 1,733 bytes are those before the request, and a kept field that no longer counts
-   keeps its bytes. Of the caller's stack a request takes up to some 150 KB, a press 170 KB and the button held down 190 KB.
+   keeps its bytes. Of the caller's stack a request takes up to some 150 KB, a press 170 KB and the button held down 190 KB, as measured, as
+   all sizes of stack here, with an older kit of the toolchain.
 
    The floating-point environment: a call computes in the processor's rounding direction, as every operation on doubles does, and leaves the
    environment as it was. On a state that a start wrote, and that requests, steps back and the button have changed since, no result is ever
