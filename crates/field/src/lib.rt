@@ -1,6 +1,9 @@
 // The landing field: thirteen zones, the landing sequence, the next fix and the legs, by value.
 #![tactic(auto)]
 
+ghost use Rattle.std.specs.Prelude.{◌≡◌};
+ghost use Rattle.field.specs.Airspace.{queue_of, order_of};
+
 use leg::Progress;
 
 pub mod airspace;
@@ -28,11 +31,29 @@ pub struct Zone {
     pub length: usize,
 }
 
+impl Zone {
+    // Those in the zone, within its length and its four places: first who came first, the head.
+    pub fn queue(&self) -> &[Aircraft]
+        ensures { result.now ≡ queue_of self.now }
+    {
+        &self.aircraft[..self.length.min(4)]
+    }
+}
+
 // The landing sequence (01, "The boxes"): the numbers of those in the operation area, first to land first, at index 0, and how many they are.
 #[derive(Clone, Copy)]
 pub struct Sequence {
     pub numbers: [u16; 4],
     pub length: usize,
+}
+
+impl Sequence {
+    // The numbers within the length and the four places: first to land first.
+    pub fn order(&self) -> &[u16]
+        ensures { result.now ≡ order_of self.now }
+    {
+        &self.numbers[..self.length.min(4)]
+    }
 }
 
 // The lengths of the legs in miles, the same for either side (01, "The boxes").
