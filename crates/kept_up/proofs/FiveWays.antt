@@ -8,7 +8,7 @@ use Rattle.leg.specs.Ticks.{Between}
 use Rattle.request.specs.Input.{within}
 use Rattle.request.specs.declared.Request.{Request}
 use Rattle.field.specs.declared.Field.{Field}
-use Rattle.field.specs.Airspace.{left, side_of, opposite, at3000, at2000, base, final_approach_zone, in_zone}
+use Rattle.field.specs.Airspace.{side_of, opposite, at3000, at2000, base, final_approach_zone, in_zone}
 use Rattle.questions.specs.Counts.{how_many}
 use Rattle.questions.specs.Find.{aircraft_at}
 use Rattle.questions.proofs.FindLaws.{at}

@@ -1,4 +1,5 @@
-pub mod EntriesWritten
+pub mod ArrayMapped
+pub mod ClosedUp
 pub mod Entries
 pub mod Moved
 pub mod Queues

@@ -1,27 +1,14 @@
--- `kept_up::descended_entries` meets its contract: the places that the loop has passed are written. Assumes nothing.
-use mathlib.Core.Path.{ap}
-use mathlib.Core.List.{List}
-use native.Mathlib.Omega.{arith}
+-- `kept_up::descended_entries` meets its contract: each entry becomes what `descended_entry` makes of it. Assumes nothing.
+use Rattle.std.proofs.Common.{rules, ap, List}
 use Rattle.finder.specs.declared.Entry.{Entry}
+use Rattle.finder.specs.Finder.{unused}
 use Rattle.finder.proofs.IndexKnown.{index_known}
 use Rattle.kept_up.specs.KeptUp.{descended_entry}
-use Rattle.kept_up.proofs.EntriesWritten.{written_none, written_more, written_all}
+use Rattle.kept_up.proofs.ArrayMapped.{mapped}
 use Rattle.kept_up.proofs.descended_entries.Goals as goal
-
-pub loop-i-init : goal.loop-i-init
-loop-i-init c = written_none (descended_entry c.args.side) c.args.index.entries (index_known c.args.index c.well_formed.0).places
-
-pub descended_entry-requires : goal.descended_entry-requires
-descended_entry-requires c = c.requires
-
-pub loop-i-preserved : goal.loop-i-preserved
-loop-i-preserved c =
-    let a = c.args in
-    let l = c.loop-i in
-    written_more (descended_entry a.side) a.index.entries l.entries l.i _ l.invariant (omega arith) c.descended_entry.ensures
 
 pub returns : goal.returns
 returns c =
-    let l = c.loop-i in
     let a = c.args in
-    ap (λ (es : List Entry). record { entries = es }) (written_all (descended_entry a.side) a.index.entries l.entries l.i l.invariant (omega arith))
+    ap (λ (es : List Entry). record { entries = es })
+    (mapped _ (descended_entry a.side) (λ x y q k. search rules) _ _ 5 unused (index_known a.index c.well_formed.0).places c.map.ensures.items)

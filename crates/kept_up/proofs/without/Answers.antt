@@ -1,99 +1,70 @@
--- `kept_up::without` meets its contract: the first place with the number is left out. Assumes nothing.
+-- `kept_up::without` meets its contract: the entries behind the first with the number move up by a place, and the last place is unused. Assumes nothing.
+use mathlib.Core.Logic.{inl, inr}
+use mathlib.Core.Bool.{Bool, true, false}
 use mathlib.Core.Path.{◌≡◌, refl, sym, ap, ◌∙◌}
-use mathlib.Core.List.{List, [], ◌∷◌}
-use Prim.Native.Nat.{ℕ}
+use mathlib.Core.List.{List, [], ◌∷◌, ◌++◌}
+use Prim.Native.Nat.{ℕ, zero, suc, ◌+◌, ◌<◌}
 use native.Mathlib.Omega.{arith}
-use borrow.Author.Tests.{eq-eqb, ne_eqb}
-use lib.ListN.{length, get_or}
-use Rattle.field.proofs.TestLaws.{if_true, if_false}
+use borrow.Author.Tests.{tests}
+use lib.Dec.{eqb}
+use lib.ListN.{length, get_or, take, drop, set}
+use Rattle.std.proofs.Common.{rules, None}
+use Rattle.std.proofs.lemmas.Iterator.{YieldsList-from_slice}
+use Rattle.std.proofs.lemmas.Iterator.Adapters.{position_from-zero}
+use Rattle.std.proofs.lemmas.Iterator.Search.{position_from_yields_List}
+use Rattle.std.proofs.lemmas.List.Quantifiers.{position-Some}
+use Rattle.std.proofs.lemmas.Option.{none-some}
+use Rattle.std.specs.List.{position, position_from}
+use Rattle.field.proofs.TestLaws.{decided, if_true, if_false}
 use Rattle.finder.specs.declared.Entry.{Entry}
-use Rattle.finder.specs.declared.Index.{Index}
 use Rattle.finder.specs.Finder.{unused}
 use Rattle.finder.proofs.IndexKnown.{index_known}
 use Rattle.kept_up.specs.KeptUp.{without}
+use Rattle.kept_up.proofs.ClosedUp.{closed_up}
 use Rattle.kept_up.proofs.without.Goals as goal
+use Rattle.kept_up.proofs.without.Goals.{After-position}
 
--- a list of five is its elements in a row
-five : (xs : List Entry) (d : Entry) → length xs ≡ 5 → xs ≡ get_or xs 0 d ∷ get_or xs 1 d ∷ get_or xs 2 d ∷ get_or xs 3 d ∷ get_or xs 4 d ∷ []
-five [] d h = absurd (omega arith)
-five (a ∷ []) d h = absurd (omega arith)
-five (a ∷ b ∷ []) d h = absurd (omega arith)
-five (a ∷ b ∷ c ∷ []) d h = absurd (omega arith)
-five (a ∷ b ∷ c ∷ e ∷ []) d h = absurd (omega arith)
-five (a ∷ b ∷ c ∷ e ∷ f ∷ []) d h = refl
-five (a ∷ b ∷ c ∷ e ∷ f ∷ g ∷ fs) d h = absurd (omega arith)
+module _ (number : ℕ) where
+  abbrev has : Entry → Bool
+  has e = eqb e.number number
 
--- the index by its five entries
-module _ (i : Index) (n : ℕ) (d : Entry) (long : length i.entries ≡ 5) where
-  abbrev at : ℕ → Entry
-  at k = get_or i.entries k d
+  -- where none has the number they stay as they are, ..
+  stays : (xs : List Entry) (i : ℕ) → position_from has i xs ≡ None → xs ≡ without number xs
+  stays [] i e = refl
+  stays (x ∷ xs) i e =
+      elim (decided (has x)) [
+        | inl t ↦ absurd (none-some i (sym e ∙ if_true _ _ t))
+        | inr t ↦ ap (λ (es : List Entry). x ∷ es) (stays xs (i + 1) (sym (if_false _ _ t) ∙ e)) ∙ sym (if_false _ _ t)
+      ]
 
-  abbrev rest : List Entry → Index
-  rest es = record { entries = es }
+  -- .. and the first that has it is left out
+  left_out : (xs : List Entry) (k : ℕ) (d : Entry) → k < length xs → has (get_or xs k d) ≡ true → ((j : ℕ) → j < k → has (get_or xs j d) ≡ false)
+      → take k xs ++ drop (suc k) xs ++ (unused ∷ []) ≡ without number xs
+  left_out [] k d h e f = absurd (omega arith)
+  left_out (x ∷ xs) zero d h e f = sym (if_true _ _ e)
+  left_out (x ∷ xs) (suc k) d h e f =
+      ap (λ (es : List Entry). x ∷ es) (left_out xs k d (omega arith) e (λ j q. f (suc j) (omega arith))) ∙ sym (if_false _ _ (f 0 (omega arith)))
 
-  of-five : rest (without n i.entries) ≡ rest (without n (at 0 ∷ at 1 ∷ at 2 ∷ at 3 ∷ at 4 ∷ []))
-  of-five = ap (λ (es : List Entry). rest (without n es)) (five i.entries d long)
+-- the place of the first entry with the number
+place_is : (c : After-position) → c.position.result ≡ position (has c.args.number) c.args.index.entries
+place_is c =
+    position_from_yields_List (has c.args.number) _ _ c.position.result c.position.ensures.ran (YieldsList-from_slice c.args.index.entries cc)
+    (λ x b q k. search (rules, tests))
 
-  abbrev Not : ℕ → Type 0
-  Not k = (at k).number ≡ n → ⊥
+pub returns-in-Some : goal.returns-in-Some
+returns-in-Some c =
+    let a = c.args in
+    let k = c.in-Some.k in
+    let found = position-Some (has a.number) a.index.entries k unused (sym (place_is (goal.at.returns-in-Some c).After-position) ∙ c.in-Some.is) in
+    let long = (index_known a.index c.well_formed.0).places in
+    let below = found.0 in
+    ap (λ (es : List Entry). record { entries = es })
+    (ap (λ (es : List Entry). set es 4 unused) c.copy_within.ensures.after ∙ closed_up a.index.entries k 4 unused long (omega (arith, long, below))
+    ∙ left_out a.number a.index.entries k unused found.0 found.1 found.2)
 
-  first : (at 0).number ≡ n → rest (without n i.entries) ≡ rest (at 1 ∷ at 2 ∷ at 3 ∷ at 4 ∷ unused ∷ [])
-  first e = of-five ∙ ap rest (if_true _ _ (eq-eqb _ _ e))
-
-  past_first : Not 0 → rest (without n i.entries) ≡ rest (at 0 ∷ without n (at 1 ∷ at 2 ∷ at 3 ∷ at 4 ∷ []))
-  past_first e = of-five ∙ ap rest (if_false _ _ (ne_eqb _ _ e))
-
-  second : Not 0 → (at 1).number ≡ n → rest (without n i.entries) ≡ rest (at 0 ∷ at 2 ∷ at 3 ∷ at 4 ∷ unused ∷ [])
-  second a e = past_first a ∙ ap (λ (l : List Entry). rest (at 0 ∷ l)) (if_true _ _ (eq-eqb _ _ e))
-
-  past-second : Not 0 → Not 1 → rest (without n i.entries) ≡ rest (at 0 ∷ at 1 ∷ without n (at 2 ∷ at 3 ∷ at 4 ∷ []))
-  past-second a e = past_first a ∙ ap (λ (l : List Entry). rest (at 0 ∷ l)) (if_false _ _ (ne_eqb _ _ e))
-
-  third : Not 0 → Not 1 → (at 2).number ≡ n → rest (without n i.entries) ≡ rest (at 0 ∷ at 1 ∷ at 3 ∷ at 4 ∷ unused ∷ [])
-  third a b e = past-second a b ∙ ap (λ (l : List Entry). rest (at 0 ∷ at 1 ∷ l)) (if_true _ _ (eq-eqb _ _ e))
-
-  past-third : Not 0 → Not 1 → Not 2 → rest (without n i.entries) ≡ rest (at 0 ∷ at 1 ∷ at 2 ∷ without n (at 3 ∷ at 4 ∷ []))
-  past-third a b e = past-second a b ∙ ap (λ (l : List Entry). rest (at 0 ∷ at 1 ∷ l)) (if_false _ _ (ne_eqb _ _ e))
-
-  fourth : Not 0 → Not 1 → Not 2 → (at 3).number ≡ n → rest (without n i.entries) ≡ rest (at 0 ∷ at 1 ∷ at 2 ∷ at 4 ∷ unused ∷ [])
-  fourth a b c e = past-third a b c ∙ ap (λ (l : List Entry). rest (at 0 ∷ at 1 ∷ at 2 ∷ l)) (if_true _ _ (eq-eqb _ _ e))
-
-  past-fourth : Not 0 → Not 1 → Not 2 → Not 3 → rest (without n i.entries) ≡ rest (at 0 ∷ at 1 ∷ at 2 ∷ at 3 ∷ without n (at 4 ∷ []))
-  past-fourth a b c e = past-third a b c ∙ ap (λ (l : List Entry). rest (at 0 ∷ at 1 ∷ at 2 ∷ l)) (if_false _ _ (ne_eqb _ _ e))
-
-  fifth : Not 0 → Not 1 → Not 2 → Not 3 → (at 4).number ≡ n → rest (without n i.entries) ≡ rest (at 0 ∷ at 1 ∷ at 2 ∷ at 3 ∷ unused ∷ [])
-  fifth a b c e f = past-fourth a b c e ∙ ap (λ (l : List Entry). rest (at 0 ∷ at 1 ∷ at 2 ∷ at 3 ∷ l)) (if_true _ _ (eq-eqb _ _ f))
-
-  none : Not 0 → Not 1 → Not 2 → Not 3 → Not 4 → rest (without n i.entries) ≡ i
-  none a b c e f =
-      past-fourth a b c e
-      ∙ ap (λ (l : List Entry). rest (at 0 ∷ at 1 ∷ at 2 ∷ at 3 ∷ l)) (if_false _ _ (ne_eqb _ _ f))
-      ∙ ap rest (sym (five i.entries d long))
-
-pub returns-then-a-number : goal.returns-then-a-number
-returns-then-a-number c =
-    sym (first c.args.index c.args.number _ (index_known c.args.index c.well_formed.0).places c.if-a-number.true)
-
-pub returns-then-b-number : goal.returns-then-b-number
-returns-then-b-number c =
-    sym (second c.args.index c.args.number _ (index_known c.args.index c.well_formed.0).places c.if-a-number.false c.if-b-number.true)
-
-pub returns-then-c-number : goal.returns-then-c-number
-returns-then-c-number c =
-    sym (third c.args.index c.args.number _ (index_known c.args.index c.well_formed.0).places c.if-a-number.false c.if-b-number.false c.if-c-number.true)
-
-pub returns-then-d-number : goal.returns-then-d-number
-returns-then-d-number c =
-    sym (fourth c.args.index c.args.number _ (index_known c.args.index c.well_formed.0).places c.if-a-number.false c.if-b-number.false c.if-c-number.false c.if-d-number.true)
-
-pub returns-then-e-number : goal.returns-then-e-number
-returns-then-e-number c =
-    sym
-    (fifth c.args.index c.args.number _ (index_known c.args.index c.well_formed.0).places c.if-a-number.false c.if-b-number.false c.if-c-number.false c.if-d-number.false
-    c.if-e-number.true)
-
-pub returns : goal.returns
-returns c =
-    sym
-    (none c.args.index c.args.number _ (index_known c.args.index c.well_formed.0).places c.if-a-number.false c.if-b-number.false c.if-c-number.false c.if-d-number.false
-    c.if-e-number.false)
+pub returns-in_default : goal.returns-in_default
+returns-in_default c =
+    let a = c.args in
+    ap (λ (es : List Entry). record { entries = es })
+    (stays a.number a.index.entries 0
+    (sym (position_from-zero (has a.number) a.index.entries) ∙ sym (place_is (goal.at.returns-in_default c).After-position) ∙ c.in_default.is))
