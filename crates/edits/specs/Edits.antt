@@ -7,6 +7,12 @@ use Rattle.field.specs.declared.Field.{Field}
 use Rattle.field.specs.Airspace.{nobody, order_of}
 use Rattle.field.specs.Lists.{set_from_one}
 
+-- ---- a row
+
+-- the one at index k taken out: those behind it move up by one place, and `last` stands at the end; past its end the row stays as it is
+unfoldable pub closed_up : {A : Type 0} → List A → ℕ → A → List A
+closed_up row k last = cond (ltb k (length row)) (take k row ++ drop (suc k) row ++ (last ∷ [])) row
+
 -- ---- a queue
 
 -- the head taken off: those behind it move up by one place; an empty queue stays as it is

@@ -1,16 +1,15 @@
 -- The zones after a tick, one by one. Assumes nothing.
 use mathlib.Core.Path.{◌≡◌, refl, sym, ap, ◌∙◌}
 use mathlib.Core.Bool.{cond}
-use mathlib.Core.List.{List, [], ◌∷◌, ◌++◌}
+use mathlib.Core.List.{List, [], ◌∷◌, ◌++◌, map}
 use Prim.Native.Nat.{ℕ, zero, suc, ◌+◌, ◌≤◌, ◌<◌}
 use native.Mathlib.Nat.{zero-add}
 use native.Mathlib.Omega.{arith}
-use lib.ListN.{length, get_or, set, take, drop}
-use lib.Seq.{set-get_or}
-use borrow.Author.Tests.{le-leb}
+use lib.ListN.{length, get_or, set, take, drop, length-map}
+use borrow.Rule.Slice.PartMut.{put_mid}
 use Rattle.field.specs.declared.Zone.{Zone}
-use Rattle.field.specs.Airspace.{empty_zone, is_flying_zone}
-use Rattle.field.proofs.Arrays.{filled_at, filled_more, filled_all}
+use Rattle.field.specs.Airspace.{is_flying_zone}
+use Rattle.field.proofs.Arrays.{filled_at, filled_more, filled_all, get_d_map}
 use Rattle.tick.specs.Tick.{ticked_zone, ticked_from}
 
 -- zone z after a tick
@@ -30,27 +29,35 @@ module _ (amount : ℕ) where
       let next : i + suc z ≡ suc i + z = omega arith in
       get_d_ticked (suc z) qs i d (omega arith) ∙ ap (λ (n : ℕ). ticked_in amount n (get_or qs i d)) next
 
-  -- a zone that is flown in
-  pub flown_in : (z : ℕ) (q : Zone) → 7 ≤ z → z ≤ 12 → ticked_in amount z q ≡ ticked_zone amount q
+  -- the six zones that are flown in stand behind six that stay, and one stays behind them
+  pub six_written : (qs : List Zone) → length qs ≡ 13 → put_mid 6 6 qs (map (ticked_zone amount) (take 6 (drop 6 qs))) ≡ ticked_from amount 1 qs
   unfolding is_flying_zone
-  flown_in z q h g = simp (le-leb 7 z h, le-leb z 12 g)
+  six_written [] p = refl
+  six_written (a ∷ []) p = refl
+  six_written (a ∷ b ∷ []) p = refl
+  six_written (a ∷ b ∷ c ∷ []) p = refl
+  six_written (a ∷ b ∷ c ∷ d ∷ []) p = refl
+  six_written (a ∷ b ∷ c ∷ d ∷ e ∷ []) p = refl
+  six_written (a ∷ b ∷ c ∷ d ∷ e ∷ f ∷ []) p = refl
+  six_written (a ∷ b ∷ c ∷ d ∷ e ∷ f ∷ g ∷ []) p = refl
+  six_written (a ∷ b ∷ c ∷ d ∷ e ∷ f ∷ g ∷ h ∷ []) p = refl
+  six_written (a ∷ b ∷ c ∷ d ∷ e ∷ f ∷ g ∷ h ∷ i ∷ []) p = refl
+  six_written (a ∷ b ∷ c ∷ d ∷ e ∷ f ∷ g ∷ h ∷ i ∷ j ∷ []) p = refl
+  six_written (a ∷ b ∷ c ∷ d ∷ e ∷ f ∷ g ∷ h ∷ i ∷ j ∷ k ∷ []) p = refl
+  six_written (a ∷ b ∷ c ∷ d ∷ e ∷ f ∷ g ∷ h ∷ i ∷ j ∷ k ∷ l ∷ []) p = refl
+  six_written (a ∷ b ∷ c ∷ d ∷ e ∷ f ∷ g ∷ h ∷ i ∷ j ∷ k ∷ l ∷ m ∷ []) p = refl
+  six_written (a ∷ b ∷ c ∷ d ∷ e ∷ f ∷ g ∷ h ∷ i ∷ j ∷ k ∷ l ∷ m ∷ n ∷ qs) p = absurd (omega arith)
 
-  -- the first six zones are as they were
-  pub six_kept : (qs : List Zone) → qs ≡ take 6 (ticked_from amount 1 qs) ++ drop 6 qs
-  unfolding is_flying_zone
-  six_kept [] = refl
-  six_kept (a ∷ []) = refl
-  six_kept (a ∷ b ∷ []) = refl
-  six_kept (a ∷ b ∷ c ∷ []) = refl
-  six_kept (a ∷ b ∷ c ∷ d ∷ []) = refl
-  six_kept (a ∷ b ∷ c ∷ d ∷ e ∷ []) = refl
-  six_kept (a ∷ b ∷ c ∷ d ∷ e ∷ f ∷ qs) = refl
+-- a row of which each before place i is as g makes it, and each from there on as it was
+pub record Ticking {A : Type 0} (g : A → A) (first row : List A) (i : ℕ) : Type 0 where
+  pub so_far : row ≡ take i (map g first) ++ drop i first
 
-  -- and so is the thirteenth: when the first twelve are written, all are
-  pub twelve_written : (zs qs : List Zone) → length qs ≡ 13 → zs ≡ take 12 (ticked_from amount 1 qs) ++ drop 12 qs → zs ≡ ticked_from amount 1 qs
-  unfolding is_flying_zone
-  twelve_written zs qs n e =
-      let ys = ticked_from amount 1 qs in
-      let same = length_ticked 1 qs in
-      let here : get_or zs 12 empty_zone ≡ get_or ys 12 empty_zone = filled_at zs ys qs 12 empty_zone empty_zone (omega arith) same e ∙ sym (get_d_ticked 1 qs 12 empty_zone (omega arith)) in
-      sym (set-get_or zs 12 empty_zone) ∙ filled_all (set zs 12 (get_or zs 12 empty_zone)) ys qs 13 (omega arith) same (filled_more zs ys qs 12 empty_zone (get_or zs 12 empty_zone) (omega arith) same e here)
+module _ {A : Type 0} (g : A → A) (first row : List A) (i : ℕ) (h : Ticking g first row i) where
+  pub ticking_more : (d y : A) → i < length first → y ≡ g (get_or row i d) → Ticking g first (set row i y) (i + 1)
+  ticking_more d y k e =
+      let many = length-map first g in
+      let made = e ∙ ap g (filled_at row (map g first) first i d d k many h.so_far) ∙ sym (get_d_map g first i d d k) in
+      record { so_far = filled_more row (map g first) first i d y k many h.so_far made }
+
+  pub ticking_all : length first ≤ i → row ≡ map g first
+  ticking_all k = filled_all row (map g first) first i k (length-map first g) h.so_far

@@ -12,19 +12,14 @@ use leg::{Progress, advance, waited_after};
 pub fn ticked_aircraft(amount: u16, a: Aircraft) -> Aircraft
     ensures { result ≡ ticked_aircraft amount a }
 {
-    let p = a.progress;
-    match p {
+    match a.progress {
         Progress::Waiting => a,
         Progress::Flying(miles) => {
             let after = advance(miles, a.speed, amount, a.leg);
             Aircraft {
-                number: a.number,
-                fix: a.fix,
-                speed: a.speed,
                 progress: Progress::Flying(after.miles),
                 waited: waited_after(a.waited, after.past),
-                leg: a.leg,
-                desk: a.desk,
+                ..a
             }
         }
     }
@@ -35,11 +30,8 @@ pub fn ticked_zone(amount: u16, q: Zone) -> Zone
     ensures { result ≡ ticked_zone amount q }
 {
     let mut after = q;
-    let mut i = 0;
-    while i < 4 {
-        let a = after.aircraft[i];
-        after.aircraft[i] = ticked_aircraft(amount, a);
-        i += 1;
+    for a in &mut after.aircraft {
+        *a = ticked_aircraft(amount, *a);
     }
     after
 }
@@ -49,11 +41,8 @@ pub fn ticked(f: Field, amount: u16) -> Field
     ensures { result ≡ ticked f amount }
 {
     let mut after = f;
-    let mut i = 6;
-    while i < 12 {
-        let q = after.zones[i];
-        after.zones[i] = ticked_zone(amount, q);
-        i += 1;
+    for q in &mut after.zones[6..12] {
+        *q = ticked_zone(amount, *q);
     }
     after
 }

@@ -3,10 +3,10 @@ use borrow.Author.Tests.{lt-ltb, le-ltb}
 use Rattle.edits.specs.Edits.{appended}
 use Rattle.edits.proofs.appended.Goals as goal
 
-pub returns-then-length-lt4 : goal.returns-then-length-lt4
+pub returns-then-s-lt4 : goal.returns-then-s-lt4
 unfolding appended
-returns-then-length-lt4 c = simp (lt-ltb _ _ c.if-length-lt4.true)
+returns-then-s-lt4 c = simp (lt-ltb _ _ c.if-s-lt4.true)
 
-pub returns : goal.returns
+pub returns-else-s-lt4 : goal.returns-else-s-lt4
 unfolding appended
-returns c = simp (le-ltb _ _ c.if-length-lt4.false)
+returns-else-s-lt4 c = simp (le-ltb _ _ c.if-s-lt4.false)

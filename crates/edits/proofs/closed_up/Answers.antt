@@ -1,34 +1,27 @@
--- `edits::closed_up` meets its contract: an array of four is its elements in a row. Assumes nothing.
-use mathlib.Core.Path.{◌≡◌, sym, ap, ◌∙◌}
-use mathlib.Core.List.{List, [], ◌∷◌, ◌++◌}
-use Prim.Native.Nat.{ℕ, suc}
-use lib.ListN.{length, get_or, take, drop}
-use Rattle.field.proofs.FieldKnown.{numbers_known}
-use Rattle.field.proofs.Arrays.{four}
-use native.Mathlib.Omega.{arith}
+-- `edits::closed_up` meets its contract: what stands at index k gives way to the last, which is then turned to the end. Assumes nothing.
+use Rattle.std.proofs.Common.{◌≡◌, ℕ, suc, List, [], ◌∷◌, ◌++◌, length, ◌≤◌, ◌<◌, ◌∙◌, arith, rules}
+use Rattle.std.proofs.Math.ListN.{get_or, set, length-set}
+use Rattle.std.proofs.lemmas.List.{take-set-le, drop-set-lt, get_or-set_same}
+use Rattle.std.proofs.lemmas.Slice.{put_mid-rotated}
+use Rattle.std.specs.List.{remove}
+use borrow.Author.Tests.{lt-ltb, le-ltb}
+use Rattle.edits.specs.Edits.{closed_up}
 use Rattle.edits.proofs.closed_up.Goals as goal
 
--- a list without the one at index k, and 0 at its end
-abbrev without : ℕ → List ℕ → List ℕ
-without k l = take k l ++ drop (suc k) l ++ (0 ∷ [])
+taken_out : {A : Type 0} (row : List A) (k : ℕ) (last : A) → k < length row → remove (set row k last) k ++ get_or (set row k last) k last ∷ [] ≡ closed_up row k last
+unfolding closed_up
+taken_out row k last h =
+    simp (take-set-le k row k last (omega arith), drop-set-lt (suc k) row k last (omega arith), get_or-set_same row k last last h, lt-ltb k (length row) h)
 
--- of the elements in a row it computes, where k is a numeral
-closed : (k : ℕ) {j : ℕ} (xs : List ℕ) → length xs ≡ 4 → j ≡ k
-    → without k (get_or xs 0 0 ∷ get_or xs 1 0 ∷ get_or xs 2 0 ∷ get_or xs 3 0 ∷ []) ≡ without j xs
-closed k xs h e = ap (without k) (sym (four xs 0 h)) ∙ ap (λ (i : ℕ). without i xs) (sym e)
+pub returns-then-k : goal.returns-then-k
+returns-then-k g c =
+    let a = c.args in
+    let h : a.k < length a.row = search rules in
+    let long = length-set a.row a.k a.last in
+    put_mid-rotated a.k _ (set a.row a.k a.last) _ a.last (omega arith) (omega arith) c.rotate_left.ensures.after ∙ taken_out a.row a.k a.last h
 
-pub returns-then-k-eq0 : goal.returns-then-k-eq0
-returns-then-k-eq0 c =
-    closed 0 c.args.numbers (numbers_known 4 c.args.numbers c.well_formed.0) c.if-k-eq0.true
-
-pub returns-then-k-eq1 : goal.returns-then-k-eq1
-returns-then-k-eq1 c =
-    closed 1 c.args.numbers (numbers_known 4 c.args.numbers c.well_formed.0) c.if-k-eq1.true
-
-pub returns-then-k-eq2 : goal.returns-then-k-eq2
-returns-then-k-eq2 c =
-    closed 2 c.args.numbers (numbers_known 4 c.args.numbers c.well_formed.0) c.if-k-eq2.true
-
-pub returns : goal.returns
-returns c =
-    closed 3 {j = c.args.k} c.args.numbers (numbers_known 4 c.args.numbers c.well_formed.0) (omega arith)
+pub returns-else-k : goal.returns-else-k
+unfolding closed_up
+returns-else-k g c =
+    let h : length c.args.row ≤ c.args.k = search rules in
+    simp (le-ltb c.args.k (length c.args.row) h)

@@ -1,5 +1,5 @@
 -- `edits::with_sequence` meets its contract. Assumes nothing.
-use mathlib.Core.Path.{refl}
+use Rattle.std.proofs.Common.{refl}
 use Rattle.edits.specs.Edits.{with_sequence}
 use Rattle.edits.proofs.with_sequence.Goals as goal
 

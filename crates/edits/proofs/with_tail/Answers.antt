@@ -3,10 +3,10 @@ use borrow.Author.Tests.{lt-ltb, le-ltb}
 use Rattle.edits.specs.Edits.{with_tail}
 use Rattle.edits.proofs.with_tail.Goals as goal
 
-pub returns-then-length-lt4 : goal.returns-then-length-lt4
+pub returns-then-q-lt4 : goal.returns-then-q-lt4
 unfolding with_tail
-returns-then-length-lt4 c = simp (lt-ltb _ _ c.if-length-lt4.true)
+returns-then-q-lt4 c = simp (lt-ltb _ _ c.if-q-lt4.true)
 
-pub returns : goal.returns
+pub returns-else-q-lt4 : goal.returns-else-q-lt4
 unfolding with_tail
-returns c = simp (le-ltb _ _ c.if-length-lt4.false)
+returns-else-q-lt4 c = simp (le-ltb _ _ c.if-q-lt4.false)

@@ -1,28 +1,28 @@
--- `edits::with_zone` meets its contract: the definition takes the arm of the tests. Assumes nothing.
-use mathlib.Core.Path.{◌≡◌}
-use Prim.Native.Nat.{◌-◌, ◌≤◌}
-use lib.ListN.{length}
+-- `edits::with_zone` meets its contract: the definition takes the arm of the test. Assumes nothing.
+use Rattle.std.proofs.Common.{◌≡◌, ℕ, zero, suc, ◌≤◌, ◌<◌, ◌⊎◌, length, refl, arith, rules}
+use Rattle.std.proofs.lemmas.Bool.Decides.{nat_tests}
 use lib.Seq.{set_out}
-use Rattle.edits.specs.Edits.{with_zone}
+use Rattle.field.specs.declared.Zone.{Zone}
+use Rattle.field.specs.declared.Field.{Field}
 use Rattle.field.proofs.Arrays.{set_from_one_lem}
-use native.Mathlib.Omega.{arith}
-use Rattle.field.proofs.FieldKnown.{field_known}
+use Rattle.edits.specs.Edits.{with_zone}
 use Rattle.edits.proofs.with_zone.Goals as goal
 
-pub returns-then-zone-eq0 : goal.returns-then-zone-eq0
+-- what is no zone leaves the field as it is
+stays : (f : Field) (zone : ℕ) (q : Zone) → length f.zones ≡ 13 → (zone < 1) ⊎ (13 < zone) → f ≡ with_zone f zone q
 unfolding with_zone
-returns-then-zone-eq0 c = simp c.if-zone-eq0.true
+stays f zero q long out = refl
+stays f (suc i) q long out = simp (set_out f.zones i q (omega arith))
 
-pub returns-then-zone-gt-RUNWAY : goal.returns-then-zone-gt-RUNWAY
+pub returns-then-contains : goal.returns-then-contains
 unfolding with_zone
-returns-then-zone-gt-RUNWAY c =
-    let f = c.args.f in
-    let z = c.args.zone in
-    let long : length f.zones ≡ 13 = (field_known f c.well_formed.0).zones in
-    let over : length f.zones ≤ z - 1 = omega arith in
-    let q = c.args.q in
-    simp (set_from_one_lem f.zones z q (omega arith), set_out f.zones (z - 1) q over)
+returns-then-contains c =
+    let within = c.if-contains.ensures.cases in
+    let low : 1 ≤ c.args.zone = grind (arith, nat_tests) in
+    simp (set_from_one_lem c.args.f.zones c.args.zone c.args.q low)
 
-pub returns : goal.returns
-unfolding with_zone
-returns c = simp (set_from_one_lem c.args.f.zones c.args.zone c.args.q (omega arith))
+pub returns-else-contains : goal.returns-else-contains
+returns-else-contains c =
+    let within = c.if-contains.ensures.cases in
+    let out : (c.args.zone < 1) ⊎ (13 < c.args.zone) = grind (arith, nat_tests) in
+    stays c.args.f c.args.zone c.args.q (search rules) out
