@@ -14,10 +14,8 @@ fn in_4096ths(miles: f64) -> u64
     ensures { result ≡ in4096ths miles }
 {
     let n = miles * 4096.0;
-    if n > -1.0 {
-        if n < 18446744073709551616.0 {
-            return truncating_f64_to_u64(n);
-        }
+    if n > -1.0 && n < 18446744073709551616.0 {
+        return truncating_f64_to_u64(n);
     }
     0
 }
@@ -29,14 +27,12 @@ fn put_decimals(out: &mut [u8], at: usize, part: usize) -> usize
 {
     let mut end = at;
     let mut rest = part;
-    let mut i: usize = 0;
-    while i < 12 {
+    for _place in 0..12usize {
         if rest == 0 {
             return end;
         }
         end = put_byte(out, end, 48 + (rest * 10 / 4096) as u8);
         rest = rest * 10 % 4096;
-        i += 1;
     }
     end
 }

@@ -1,7 +1,7 @@
 -- Laws of the text: the digits of a number, one and more, and how many; bytes put one after the other. Assumes nothing.
 use mathlib.Core.Path.{◌≡◌, refl, sym, ap, ◌∙◌}
 use mathlib.Core.Bool.{Bool, true, false, cond}
-use mathlib.Core.List.{List, [], ◌∷◌, ◌++◌}
+use mathlib.Core.List.{List, [], ◌∷◌, ◌++◌, append-nil}
 use Prim.Native.Nat.{ℕ, zero, suc, ◌+◌, ◌*◌, ◌/◌, ◌%◌, ◌^◌, ◌≤◌, ◌<◌}
 use native.Mathlib.Nat.{pow-succ'}
 use native.Mathlib.Numerals.{add-one}
@@ -150,23 +150,29 @@ past_all [] i h = drop-nil i
 past_all (x ∷ l) zero h = absurd (omega arith)
 past_all (x ∷ l) (suc i) h = past_all l i (omega arith)
 
--- ---- a line of numbers, from the i-th on
-pub line_here : (l : List ℕ) (i : ℕ) (mark : ℕ) → i < length l → mark_before (drop (i + 1) l) ≡ mark → line_of (drop i l) ≡ decimal (get_or l i 0) ++ (mark ∷ []) ++ line_of (drop (i + 1) l)
-line_here l i mark h e =
-    let n = decimal (get_or l i 0) in
-    let rest = line_of (drop (i + 1) l) in
-    ap line_of (from_here l i h) ∙ ap (λ (m : ℕ). n ++ (m ∷ rest)) e ∙ sym (append_snoc n mark rest)
+-- ---- a line of numbers: the last one, and those before it from the i-th on
+mark_between : (ns : List ℕ) (last : ℕ) → mark_before (ns ++ (last ∷ [])) ≡ space
+mark_between [] last = refl
+mark_between (n ∷ ns) last = refl
 
-pub mark_between : (l : List ℕ) (i : ℕ) → i < length l → mark_before (drop i l) ≡ space
-mark_between l i h = ap mark_before (from_here l i h)
+line_here : (ns : List ℕ) (last i : ℕ) → i < length ns
+    → line_of (drop i ns ++ (last ∷ [])) ≡ (decimal (get_or ns i 0) ++ (space ∷ [])) ++ line_of (drop (i + 1) ns ++ (last ∷ []))
+line_here ns last i h =
+    let n = decimal (get_or ns i 0) in
+    let rest = drop (i + 1) ns in
+    ap (λ (l : List ℕ). line_of (l ++ (last ∷ []))) (from_here ns i h)
+    ∙ ap (λ (m : ℕ). n ++ (m ∷ line_of (rest ++ (last ∷ [])))) (mark_between rest last)
+    ∙ sym (append_snoc n space (line_of (rest ++ (last ∷ []))))
 
-pub mark_last : (l : List ℕ) (i : ℕ) → length l ≤ i → mark_before (drop i l) ≡ newline
-mark_last l i h = ap mark_before (past_all l i h)
+-- the i-th number and the space behind it are put
+pub line_more : {b m n o all : List ℕ} {at e f g : ℕ} (ns : List ℕ) (last i : ℕ) → i < length ns → Left b at all m e (line_of (drop i ns ++ (last ∷ [])))
+    → Put m e (decimal (get_or ns i 0)) n f → Put n f (space ∷ []) o g → Left b at all o g (line_of (drop (i + 1) ns ++ (last ∷ [])))
+line_more ns last i h rest p q = left_more (decimal (get_or ns i 0) ++ (space ∷ [])) (line_of (drop (i + 1) ns ++ (last ∷ []))) rest (line_here ns last i h) (put_more p q)
 
--- the i-th number and its mark are put
-pub line_more : {b m n o all : List ℕ} {at e f g : ℕ} (l : List ℕ) (i mark : ℕ) → i < length l → mark_before (drop (i + 1) l) ≡ mark
-    → Left b at all m e (line_of (drop i l)) → Put m e (decimal (get_or l i 0)) n f → Put n f (mark ∷ []) o g → Left b at all o g (line_of (drop (i + 1) l))
-line_more l i mark h k rest p q = left_more (decimal (get_or l i 0) ++ (mark ∷ [])) (line_of (drop (i + 1) l)) rest (line_here l i mark h k) (put_more p q)
+-- the last number and the newline are put
+pub line_end : {b m n o all : List ℕ} {at e f g : ℕ} (ns : List ℕ) (last i : ℕ) → length ns ≤ i → Left b at all m e (line_of (drop i ns ++ (last ∷ [])))
+    → Put m e (decimal last) n f → Put n f (newline ∷ []) o g → Put b at all o g
+line_end ns last i h rest p q = left_none (left_more (line_of (last ∷ [])) [] rest (ap (λ (l : List ℕ). line_of (l ++ (last ∷ []))) (past_all ns i h) ∙ sym (append-nil _)) (put_more p q)) refl
 
 -- ---- how long a line is
 pub line_length : (n : ℕ) (ns : List ℕ) (k : ℕ) → n < 10 ^ suc k → length (line_of (n ∷ ns)) ≤ suc (suc k) + length (line_of ns)

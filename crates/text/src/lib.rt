@@ -1,7 +1,7 @@
 // Text put into a lent buffer, from a place on. Each function yields the place after what it put; a byte that finds no room is left out.
 #![tactic(auto)]
 
-ghost use Rattle.std.specs.Prelude.{[], ◌∷◌};
+ghost use Rattle.std.specs.Prelude.{[], ◌∷◌, ◌++◌};
 ghost use Rattle.text.specs.Text.{decimal, line_of};
 ghost use Rattle.text.specs.Buffer.{Put};
 
@@ -24,10 +24,8 @@ pub fn put_text(out: &mut [u8], at: usize, text: &[u8]) -> usize
     ensures { Put out.old at text.now out.new result }
 {
     let mut end = at;
-    let mut i = 0;
-    while i < text.len() {
-        end = put_byte(out, end, text[i]);
-        i += 1;
+    for byte in text {
+        end = put_byte(out, end, *byte);
     }
     end
 }
@@ -47,16 +45,22 @@ pub fn put_number(out: &mut [u8], at: usize, n: usize) -> usize
 pub fn put_line(out: &mut [u8], at: usize, numbers: &[usize]) -> usize
     ensures { Put out.old at (line_of numbers.now) out.new result }
 {
+    let Some((last, others)) = numbers.split_last() else {
+        return at;
+    };
     let mut end = at;
-    let mut i = 0;
-    while i < numbers.len() {
-        end = put_number(out, end, numbers[i]);
-        i += 1;
-        if i < numbers.len() {
-            end = put_byte(out, end, b' ');
-        } else {
-            end = put_byte(out, end, b'\n');
-        }
+    for n in others {
+        end = put_number(out, end, *n);
+        end = put_byte(out, end, b' ');
     }
-    end
+    end = put_number(out, end, *last);
+    put_byte(out, end, b'\n')
+}
+
+// A name, and the line of one number.
+pub fn put_named(out: &mut [u8], at: usize, name: &[u8], n: usize) -> usize
+    ensures { Put out.old at (name.now ++ line_of (n ∷ [])) out.new result }
+{
+    let next = put_text(out, at, name);
+    put_line(out, next, &[n])
 }

@@ -1,12 +1,9 @@
--- `decimal_word::number_said` meets its contract. The loop's invariant: the rest of the word, behind the number read, says what the word says.
-use Prim.Native.Nat.{◌-◌}
-use lib.ListN.{length}
-use Rattle.decimal_word.proofs.Said.{Saying}
+-- `decimal_word::number_said` meets its contract. The loop's invariant: the bytes from this one on, behind the number read, say what the word says.
+-- Assumes nothing.
+use mathlib.Core.Path.{◌≡◌}
+use lib.ListN.{drop}
+use Rattle.decimal_word.specs.DecimalWord.{said_from, number_said}
 use Rattle.decimal_word.proofs.number_said.Given as goal
 
--- Assumes nothing.
-abbrev pub invariant-loop-i : goal.invariant-loop-i
-invariant-loop-i l = Saying l.word l.n l.i
-
-abbrev pub decreases-loop-i : goal.decreases-loop-i
-decreases-loop-i l = length l.word - l.i
+abbrev pub invariant-loop-byte : goal.invariant-loop-byte
+invariant-loop-byte l = number_said l.word ≡ said_from l.n (drop l.byte-index l.word)

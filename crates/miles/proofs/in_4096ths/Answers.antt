@@ -2,6 +2,7 @@
 use Rattle.std.proofs.Common.{◌≡◌, Bool, cond, ◌&&◌, T, sym, refl, ◌∙◌, subst}
 use lib.Ieee.{Float, binary64, mul, neg, lt, to_unsigned, of_bits, of_int}
 use Rattle.miles.specs.Miles.{in4096ths}
+use Rattle.miles.proofs.in_4096ths.Goals.{else-n-via-then-n+else-n-2, else-n-via-else-n}
 use Rattle.miles.proofs.in_4096ths.Goals as goal
 
 -- 4096 times the miles, with 4096.0 by its bit pattern
@@ -17,11 +18,12 @@ known miles e f = λ i. cond (e i && f i) (to_unsigned 64 (times miles)) 0
 pub returns-then-n-2 : goal.returns-then-n-2
 returns-then-n-2 c = c.truncating_f64_to_u64.ensures ∙ sym (known c.args.miles c.if-n.true c.if-n-2.true)
 
-pub returns-else-n-2 : goal.returns-else-n-2
-returns-else-n-2 c = sym (known c.args.miles c.if-n.true c.if-n-2.false)
-
-pub returns-else-n : goal.returns-else-n
-returns-else-n c = sym (known c.args.miles c.if-n.false refl)
+pub returns : goal.returns
+returns c =
+    elim c.else-n.branch [
+      else-n-via-then-n+else-n-2 w ↦ sym (known c.args.miles w.if-n.true w.if-n-2.false)
+    | else-n-via-else-n w ↦ sym (known c.args.miles w.if-n.false refl)
+    ]
 
 pub truncating_f64_to_u64-requires-clause-lower_bound : goal.truncating_f64_to_u64-requires-clause-lower_bound
 unfolding of_bits neg

@@ -1,23 +1,18 @@
--- `text::put_text` meets its contract. The loop's invariant: what is left to put are the bytes from i on. Assumes nothing.
+-- `text::put_text` meets its contract. The loop's invariant: what is left to put are the bytes from this one on. Assumes nothing.
 use mathlib.Core.List.{[], ◌∷◌}
 use Prim.Native.Nat.{◌+◌}
-use native.Mathlib.Omega.{arith}
 use lib.ListN.{get_or, drop}
 use Rattle.text.proofs.Texts.{left_all, left_more, left_none, from_here, past_all}
 use Rattle.text.proofs.put_text.Goals as goal
 
-pub loop-i-init : goal.loop-i-init
-loop-i-init c = (omega arith, left_all _ _ _)
+pub loop-byte-init : goal.loop-byte-init
+loop-byte-init c = left_all _ _ _
 
-pub loop-i-preserved : goal.loop-i-preserved
-loop-i-preserved c =
+pub loop-byte-preserved : goal.loop-byte-preserved
+loop-byte-preserved c =
+    let l = c.loop-byte in
     let text = c.args.text.now in
-    (omega arith, left_more (get_or text c.loop-i.i 0 ∷ []) (drop (c.loop-i.i + 1) text) c.loop-i.invariant.1 (from_here text c.loop-i.i (omega arith)) c.put_byte-end.ensures)
-
-pub shape_of-out : goal.shape_of-out
-shape_of-out c = c.loop-i.invariant.1.same
+    left_more (get_or text l.byte-index 0 ∷ []) (drop (l.byte-index + 1) text) l.invariant (from_here text l.byte-index c.loop-byte-test.true) c.put_byte-end.ensures
 
 pub returns : goal.returns
-returns c =
-    let l = c.loop-i in
-    left_none l.invariant.1 (past_all c.args.text.now l.i (omega arith))
+returns c = left_none c.loop-byte.invariant (past_all c.args.text.now c.loop-byte.byte-index c.loop-byte-test.false)
