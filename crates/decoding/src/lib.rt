@@ -12,6 +12,7 @@ use history::History;
 use layout::State;
 use leg::Progress;
 use request::word;
+use std::array::from_fn;
 use words::miles_of;
 
 // The number of 16 bits at a place of the bytes.
@@ -42,7 +43,7 @@ fn number64(bytes: &[u8], at: usize) -> u64
 fn progress_of(bits: u64) -> Progress
     ensures { result ≡ progress_of bits }
 {
-    if bits == 18446744073709551615 {
+    if bits == u64::MAX {
         return Progress::Waiting;
     }
     Progress::Flying(miles_of(bits))
@@ -53,13 +54,12 @@ fn read_aircraft(bytes: &[u8], at: usize) -> Aircraft
     requires { at + 30 ≤ length bytes.now }
     ensures { result ≡ read_aircraft bytes.now at }
 {
-    let progress = progress_of(number64(bytes, at + 6));
     Aircraft {
         number: number16(bytes, at),
         fix: bytes[at + 2],
         desk: bytes[at + 3],
         speed: number16(bytes, at + 4),
-        progress: progress,
+        progress: progress_of(number64(bytes, at + 6)),
         waited: miles_of(number64(bytes, at + 14)),
         leg: miles_of(number64(bytes, at + 22)),
     }
@@ -70,12 +70,8 @@ fn read_zone(bytes: &[u8], at: usize) -> Zone
     requires { at + 128 ≤ length bytes.now }
     ensures { result ≡ read_zone bytes.now at }
 {
-    let first = read_aircraft(bytes, at);
-    let second = read_aircraft(bytes, at + 30);
-    let third = read_aircraft(bytes, at + 60);
-    let fourth = read_aircraft(bytes, at + 90);
     Zone {
-        aircraft: [first, second, third, fourth],
+        aircraft: from_fn(|i| read_aircraft(bytes, at + 30 * i)),
         length: number64(bytes, at + 120) as usize,
     }
 }
@@ -85,12 +81,8 @@ fn read_sequence(bytes: &[u8], at: usize) -> Sequence
     requires { at + 16 ≤ length bytes.now }
     ensures { result ≡ read_sequence bytes.now at }
 {
-    let first = number16(bytes, at);
-    let second = number16(bytes, at + 2);
-    let third = number16(bytes, at + 4);
-    let fourth = number16(bytes, at + 6);
     Sequence {
-        numbers: [first, second, third, fourth],
+        numbers: from_fn(|i| number16(bytes, at + 2 * i)),
         length: number64(bytes, at + 8) as usize,
     }
 }
@@ -113,13 +105,8 @@ fn read_field(bytes: &[u8], at: usize) -> Field
     requires { at + 1713 ≤ length bytes.now }
     ensures { result ≡ read_field bytes.now at }
 {
-    let first = read_zone(bytes, at);
-    let mut zones = [first; 13];
-    for i in 1..13 {
-        zones[i] = read_zone(bytes, at + 128 * i);
-    }
     Field {
-        zones: zones,
+        zones: from_fn(|i| read_zone(bytes, at + 128 * i)),
         sequence: read_sequence(bytes, at + 1664),
         next: bytes[at + 1680],
         legs: read_legs(bytes, at + 1681),
@@ -143,16 +130,11 @@ fn read_indexed(bytes: &[u8], at: usize) -> Indexed
     requires { at + 1733 ≤ length bytes.now }
     ensures { result ≡ read_indexed bytes.now at }
 {
-    let field = read_field(bytes, at);
-    let first = read_entry(bytes, at + 1713);
-    let second = read_entry(bytes, at + 1717);
-    let third = read_entry(bytes, at + 1721);
-    let fourth = read_entry(bytes, at + 1725);
-    let fifth = read_entry(bytes, at + 1729);
-    let entries = [first, second, third, fourth, fifth];
     Indexed {
-        field: field,
-        index: Index { entries: entries },
+        field: read_field(bytes, at),
+        index: Index {
+            entries: from_fn(|i| read_entry(bytes, at + 1713 + 4 * i)),
+        },
     }
 }
 
@@ -161,15 +143,9 @@ pub fn read_history(state: &State) -> History
     ensures { result ≡ read_history state.now }
 {
     let bytes: &[u8] = state;
-    let now = read_indexed(bytes, 0);
-    let first = read_indexed(bytes, 1733);
-    let mut kept = [first; 8];
-    for i in 1..8 {
-        kept[i] = read_indexed(bytes, 1733 + 1733 * i);
-    }
     History {
-        now: now,
-        kept: kept,
+        now: read_indexed(bytes, 0),
+        kept: from_fn(|i| read_indexed(bytes, 1733 + 1733 * i)),
         count: number64(bytes, 15597) as usize,
     }
 }

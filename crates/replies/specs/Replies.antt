@@ -11,7 +11,6 @@ use Rattle.gaps.specs.declared.Pair.{Pair}
 use Rattle.gaps.specs.declared.Spacings.{Spacings}
 use Rattle.dialect.specs.declared.ListEntry.{ListEntry}
 use Rattle.dialect.specs.declared.Listing.{Listing}
-use Rattle.replies.specs.declared.WideEntry.{WideEntry}
 
 -- ---- an answer
 
@@ -69,10 +68,6 @@ spacing_numbers s = s.count ∷ pair_numbers s.pairs
 abbrev pub entry_numbers : List ListEntry → List ℕ
 entry_numbers [] = []
 entry_numbers (e ∷ es) = e.number ∷ e.location ∷ e.place ∷ e.fix ∷ entry_numbers es
-
--- the same four of one entry, as the code has them
-abbrev pub wide_entry : ListEntry → WideEntry
-wide_entry e = record { number = e.number; location = e.location; place = e.place; fix = e.fix }
 
 -- how many entries, and their numbers
 abbrev pub listing_numbers : Listing → List ℕ

@@ -1,9 +1,9 @@
 // The numbers and gaps that a host's calls put into the memory that they are lent (specs/Replies.antt).
 #![tactic(auto)]
 
-ghost use Rattle.std.specs.Prelude.{◌≡◌};
+ghost use Rattle.std.specs.Prelude.{◌≡◌, [], ◌∷◌};
 ghost use Rattle.press.specs.HeldDown.{ending_number};
-ghost use Rattle.replies.specs.Replies.{answer_numbers, request_numbers, spent_mark, held_numbers, close_mark, gap_miles, pair_gaps, spacing_numbers, wide_entry, listing_numbers};
+ghost use Rattle.replies.specs.Replies.{answer_numbers, request_numbers, spent_mark, held_numbers, close_mark, gap_miles, pair_gaps, spacing_numbers, listing_numbers};
 
 use dialect::{ListEntry, Listing};
 use gaps::{Pair, Spacing, Spacings};
@@ -30,8 +30,7 @@ pub fn request_numbers(p: Proposal) -> [usize; 5]
     ensures { result ≡ request_numbers p }
 {
     match p {
-        Proposal::Refused => [0, 0, 0, 0, 0],
-        Proposal::None => [0, 0, 0, 0, 0],
+        Proposal::Refused | Proposal::None => [0; 5],
         Proposal::Play(r) => [
             r.desk as usize,
             r.kind as usize,
@@ -48,8 +47,7 @@ pub fn end_number(e: Ending) -> u16
 {
     match e {
         Ending::Refused => 10,
-        Ending::None => 0,
-        Ending::Spent => 0,
+        Ending::None | Ending::Spent => 0,
     }
 }
 
@@ -58,8 +56,7 @@ fn spent_mark(e: Ending) -> usize
     ensures { result ≡ spent_mark e }
 {
     match e {
-        Ending::Refused => 0,
-        Ending::None => 0,
+        Ending::Refused | Ending::None => 0,
         Ending::Spent => 1,
     }
 }
@@ -86,99 +83,54 @@ fn gap_miles(s: Spacing) -> f64
     ensures { result ≡ gap_miles s }
 {
     match s {
-        Spacing::Close(gap) => gap,
-        Spacing::Clear(gap) => gap,
+        Spacing::Close(gap) | Spacing::Clear(gap) => gap,
     }
+}
+
+// The three numbers of a pair.
+fn numbers_of_pair(p: Pair) -> [usize; 3]
+    ensures { result ≡ p.leader ∷ p.follower ∷ close_mark p.spacing ∷ [] }
+{
+    [
+        p.leader as usize,
+        p.follower as usize,
+        close_mark(p.spacing),
+    ]
 }
 
 // The count and the numbers of three pairs.
 pub fn spacing_numbers(s: Spacings) -> [usize; 10]
     ensures { result ≡ spacing_numbers s }
 {
-    let first = s.pairs[0];
-    let second = s.pairs[1];
-    let third = s.pairs[2];
-    let near = first.spacing;
-    let next = second.spacing;
-    let far = third.spacing;
-    [
-        s.count,
-        first.leader as usize,
-        first.follower as usize,
-        close_mark(near),
-        second.leader as usize,
-        second.follower as usize,
-        close_mark(next),
-        third.leader as usize,
-        third.follower as usize,
-        close_mark(far),
-    ]
+    let mut numbers = [s.count; 10];
+    numbers[1..].copy_from_slice(s.pairs.map(numbers_of_pair).as_flattened());
+    numbers
 }
 
 // The gaps of three pairs.
 pub fn pair_gaps(s: Spacings) -> [f64; 3]
     ensures { result ≡ pair_gaps s.pairs }
 {
-    let first = s.pairs[0];
-    let second = s.pairs[1];
-    let third = s.pairs[2];
-    let near = first.spacing;
-    let next = second.spacing;
-    let far = third.spacing;
-    [gap_miles(near), gap_miles(next), gap_miles(far)]
+    s.pairs.map(|p| gap_miles(p.spacing))
 }
 
-// The four numbers of an entry of a list, each as wide as a reply has it.
-#[derive(Clone, Copy)]
-struct WideEntry {
-    number: usize,
-    location: usize,
-    place: usize,
-    fix: usize,
-}
-
-// The four numbers of an entry.
-fn wide_entry(e: ListEntry) -> WideEntry
-    ensures { result ≡ wide_entry e }
+// The four numbers of an entry of a list.
+fn numbers_of_entry(e: ListEntry) -> [usize; 4]
+    ensures { result ≡ e.number ∷ e.location ∷ e.place ∷ e.fix ∷ [] }
 {
-    WideEntry {
-        number: e.number as usize,
-        location: e.location as usize,
-        place: e.place as usize,
-        fix: e.fix as usize,
-    }
+    [
+        e.number as usize,
+        e.location as usize,
+        e.place as usize,
+        e.fix as usize,
+    ]
 }
 
 // The count and the numbers of five entries.
 pub fn listing_numbers(l: Listing) -> [usize; 21]
     ensures { result ≡ listing_numbers l }
 {
-    let first = wide_entry(l.entries[0]);
-    let second = wide_entry(l.entries[1]);
-    let third = wide_entry(l.entries[2]);
-    let fourth = wide_entry(l.entries[3]);
-    let fifth = wide_entry(l.entries[4]);
-    [
-        l.count,
-        first.number,
-        first.location,
-        first.place,
-        first.fix,
-        second.number,
-        second.location,
-        second.place,
-        second.fix,
-        third.number,
-        third.location,
-        third.place,
-        third.fix,
-        fourth.number,
-        fourth.location,
-        fourth.place,
-        fourth.fix,
-        fifth.number,
-        fifth.location,
-        fifth.place,
-        fifth.fix,
-    ]
+    let mut numbers = [l.count; 21];
+    numbers[1..].copy_from_slice(l.entries.map(numbers_of_entry).as_flattened());
+    numbers
 }

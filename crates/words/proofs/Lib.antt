@@ -1,2 +1,3 @@
+pub mod LowFirst
 pub mod Patterns
 pub mod Puts

@@ -3,7 +3,7 @@ use mathlib.Core.Path.{◌≡◌, refl, sym, subst, ◌∙◌}
 use mathlib.Core.Bool.{Bool, true, false, not, ◌&&◌, true≢false}
 use Prim.Native.Nat.{ℕ, ◌*◌, ◌%◌, ◌<◌, ◌≤◌}
 use lib.Dec.{T, ltb, eqb, eqb_refl}
-use lib.Ieee.{Float, nan, inf, fin, eq, is_nan, nan_bits, of_bits, binary64, div, to_bits, up, down}
+use lib.Ieee.{Float, nan, inf, fin, eq, is_nan, nan_bits, of_bits, binary64, to_bits, up, down}
 use lib.Ieee.Bits.{nan_bits_is, nan_bits_above, is_true}
 use lib.Ieee.Fits.{and_i}
 use borrow.Author.Tests.{lt-ltb, le-ltb}
@@ -15,7 +15,8 @@ no_nan nan h = absurd (true≢false (sym h))
 no_nan (inf s) h = tt
 no_nan (fin s m e) h = tt
 
-is_nan_lem : (x : Float) → is_nan x ≡ true → x ≡ nan
+-- what is a NaN is the one NaN
+pub is_nan_lem : (x : Float) → is_nan x ≡ true → x ≡ nan
 unfolding is_nan
 is_nan_lem nan h = refl
 is_nan_lem (inf s) h = absurd (true≢false (sym h))
@@ -45,7 +46,7 @@ pub nan_pattern : to_bits binary64 nan ≡ 9221120237041090560
 unfolding to_bits
 nan_pattern = refl
 
--- 0 by 0 is the NaN
-pub zero_by_zero : div binary64 (of_bits binary64 0) (of_bits binary64 0) ≡ nan
-unfolding div of_bits
-zero_by_zero = refl
+-- .. and read as it
+pub nan_read : of_bits binary64 9221120237041090560 ≡ nan
+unfolding of_bits
+nan_read = refl

@@ -1,11 +1,7 @@
 -- `encoding::put_legs` meets its contract: the four legs, one after the other. Assumes nothing.
 use Rattle.layout.specs.Written.{legs_bytes}
-use Rattle.text.proofs.Texts.{put_more, put_same}
+use Rattle.text.proofs.Texts.{put_more}
 use Rattle.encoding.proofs.put_legs.Goals as goal
-
-pub shape_of-out : goal.shape_of-out
-shape_of-out c =
-    put_same (put_more (put_more (put_more c.put_bits-base.ensures c.put_bits-intermediate.ensures) c.put_bits-last.ensures) c.put_bits.ensures)
 
 pub returns : goal.returns
 unfolding legs_bytes

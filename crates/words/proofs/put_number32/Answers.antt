@@ -1,11 +1,8 @@
--- `words::put_number32` meets its contract: two numbers of 16 bits, the low one first. Assumes nothing.
-use Rattle.text.proofs.Texts.{put_more, put_same}
+-- `words::put_number32` meets its contract: the bytes, the low one first. Assumes nothing.
+use mathlib.Core.Path.{◌∙◌}
+use Rattle.words.proofs.LowFirst.{low_first32}
+use Rattle.words.proofs.Puts.{put_as}
 use Rattle.words.proofs.put_number32.Goals as goal
 
-pub shape_of-out : goal.shape_of-out
-shape_of-out c =
-    put_same (put_more c.put_number16-next.ensures c.put_number16.ensures)
-
 pub returns : goal.returns
-returns c =
-    put_more c.put_number16-next.ensures c.put_number16.ensures
+returns c = put_as (c.to_le_bytes.ensures ∙ low_first32 _ c.ranges.n.fits) c.put_text.ensures
