@@ -7,14 +7,25 @@ use crate::{Pressed, Proposal};
 use field::Field;
 use limits::LONGEST_TICK;
 use questions::counts::present_on;
-use questions::find::aircraft_in;
 use request::Request;
 use step::{step_unjudged, step_within, turned_away};
 
-// The kinds of the candidates in their order, and beside each the zone whose head it takes.
-const KINDS: [u8; 13] = [8, 7, 6, 5, 5, 11, 11, 4, 4, 4, 4, 3, 3];
-
-const ZONES: [usize; 13] = [13, 12, 11, 9, 10, 7, 8, 3, 4, 5, 6, 1, 2];
+// The candidates in the order in which they are tried: each one's kind, and the zone whose head it takes.
+const CANDIDATES: [(u8, usize); 13] = [
+    (8, 13),
+    (7, 12),
+    (6, 11),
+    (5, 9),
+    (5, 10),
+    (11, 7),
+    (11, 8),
+    (4, 3),
+    (4, 4),
+    (4, 5),
+    (4, 6),
+    (3, 1),
+    (3, 2),
+];
 
 // A press where no candidate is accepted: the longest tick if somebody is present, which is not judged since a tick keeps the bounds; else none.
 fn tick_or_none(f: Field) -> Pressed
@@ -45,30 +56,25 @@ pub(crate) fn first_accepted(f: Field) -> Pressed
     requires { T (within_bounds f) }
     ensures { result ≡ pressed_by f (first_accepted f candidates) }
 {
-    let mut i = 0;
-    while i < 13 {
-        let zone = ZONES[i];
+    for &(kind, zone) in &CANDIDATES {
         let q = f.zones[zone - 1];
-        let head = aircraft_in(q, 1);
-        let number = head.number;
-        if number != 0 {
-            let r = Request {
-                kind: KINDS[i],
-                side: 0,
-                number: number,
-                amount: 0,
-                desk: head.desk,
+        let Some(head) = q.queue().first() else {
+            continue;
+        };
+        let r = Request {
+            kind,
+            side: 0,
+            number: head.number,
+            amount: 0,
+            desk: head.desk,
+        };
+        let stepped = step_within(f, r);
+        if stepped.answer.number == 0 {
+            return Pressed {
+                proposal: Proposal::Play(r),
+                stepped,
             };
-            let s = step_within(f, r);
-            let a = s.answer;
-            if a.number == 0 {
-                return Pressed {
-                    proposal: Proposal::Play(r),
-                    stepped: s,
-                };
-            }
         }
-        i += 1;
     }
     tick_or_none(f)
 }

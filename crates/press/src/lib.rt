@@ -36,7 +36,7 @@ pub struct Pressed {
 }
 
 // How the button held down ends: the field breaks a bound, nobody is on the field, or the presses are spent. `ending_number` has their numbers.
-#[derive(Clone, Copy)]
+#[derive(Clone, Copy, Debug, PartialEq, Eq)]
 pub enum Ending {
     Refused,
     None,
@@ -65,8 +65,7 @@ pub fn propose(f: Field) -> Proposal
     if !within_bounds(f) {
         return Proposal::Refused;
     }
-    let p = first_accepted(f);
-    p.proposal
+    first_accepted(f).proposal
 }
 
 // One press of the button.
@@ -120,29 +119,24 @@ fn held_within(f: Field, out: &mut [u8]) -> HeldDown
     ensures f_len_bound { length (held_lines f) ≤ 147 * moves (played f (held_requests f)) }
 {
     let mut last = f;
+    let mut played = 0;
     let mut at = 0;
-    let mut i = 0;
-    while i < MOST_PRESSES {
-        let p = first_accepted(last);
-        let proposal = p.proposal;
-        let Proposal::Play(r) = proposal else {
+    for i in 0..MOST_PRESSES {
+        let pressed = first_accepted(last);
+        let Proposal::Play(r) = pressed.proposal else {
             break;
         };
-        let s = p.stepped;
-        let a = s.answer;
-        i += 1;
-        at = put_press(out, at, i, r, a);
-        last = s.field;
+        let stepped = pressed.stepped;
+        played = i + 1;
+        at = put_press(out, at, played, r, stepped.answer);
+        last = stepped.field;
     }
     let held = Held {
         ending: ending_on(last),
-        played: i,
+        played,
         field: last,
     };
-    HeldDown {
-        held: held,
-        end: at,
-    }
+    HeldDown { held, end: at }
 }
 
 // The button held down on a field, with the lines of its moves put into the buffer from its first byte on. A line has seven numbers of 64 bits
@@ -161,5 +155,5 @@ pub fn hold_down(f: Field, out: &mut [u8]) -> HeldDown
         played: 0,
         field: f,
     };
-    HeldDown { held: held, end: 0 }
+    HeldDown { held, end: 0 }
 }

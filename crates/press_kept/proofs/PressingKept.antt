@@ -113,3 +113,8 @@ held_is {first} {last} {i} {e} w none g =
     ap (λ (x : Ending). record { ending = x; played = i; after = last }) g
     ∙ ap (λ (x : History). record { ending = ending_kept (within_bounds_history first) x.now.field; played = i; after = x }) after
     ∙ ap (λ (n : ℕ). record { ending = ending_kept (within_bounds_history first) end.now.field; played = n; after = end }) count
+
+-- what is reported of it, and the number of its ending
+pub reported : {first last : History} {i : ℕ} {e : Ending} (w : Pressing first last i) → presses_kept w.left last ≡ [] → e ≡ ending_kept (within_bounds_history first) last.now.field
+    → (◌≡◌ {A = HeldKept} (record { ending = e; played = i; after = last }) (held_kept first)) × (ending_number e ≡ number_held_kept first)
+reported w none g = let held = held_is w none g in (held, ap (λ (x : HeldKept). ending_number x.ending) held ∙ held_number _)

@@ -3,7 +3,7 @@
 
 ghost use Rattle.std.specs.Prelude.{◌≡◌};
 ghost use Rattle.press.specs.HeldDown.{ending_number};
-ghost use Rattle.press_kept.specs.PressKept.{proposal_kept, press_kept, number_held_kept, ending_kept, held_kept};
+ghost use Rattle.press_kept.specs.PressKept.{proposal_kept, press_kept, number_held_kept, held_kept};
 
 use history::{History, SteppedHistory, step_history, turned_away, within_bounds_history};
 use limits::MOST_PRESSES;
@@ -31,40 +31,20 @@ pub fn propose_kept(h: History) -> Proposal
     if !within_bounds_history(h) {
         return Proposal::Refused;
     }
-    let x = h.now;
-    propose(x.field)
+    propose(h.now.field)
 }
 
 // One press of the button.
 pub fn press_kept(h: History) -> PressedKept
     ensures { result ≡ press_kept h }
 {
-    let p = propose_kept(h);
-    match p {
-        Proposal::Refused => PressedKept {
-            proposal: Proposal::Refused,
-            stepped: turned_away(h, 10),
-        },
-        Proposal::None => PressedKept {
-            proposal: Proposal::None,
-            stepped: turned_away(h, 0),
-        },
-        Proposal::Play(r) => PressedKept {
-            proposal: Proposal::Play(r),
-            stepped: step_history(h, r),
-        },
-    }
-}
-
-// How the button ends, on a field with its kept ones after presses from one that was within the bounds or not.
-fn ending_of(within: bool, h: History) -> Ending
-    ensures { result ≡ ending_kept within h.now.field }
-{
-    if !within {
-        return Ending::Refused;
-    }
-    let x = h.now;
-    ending_on(x.field)
+    let proposal = propose_kept(h);
+    let stepped = match proposal {
+        Proposal::Refused => turned_away(h, 10),
+        Proposal::None => turned_away(h, 0),
+        Proposal::Play(r) => step_history(h, r),
+    };
+    PressedKept { proposal, stepped }
 }
 
 // The button held down.
@@ -73,19 +53,22 @@ pub fn hold_kept(h: History) -> HeldKept
     ensures ending_value { ending_number result.ending ≡ number_held_kept h }
 {
     let mut last = h;
-    let mut i = 0;
-    while i < MOST_PRESSES {
-        let p = propose_kept(last);
-        let Proposal::Play(r) = p else {
+    let mut played = 0;
+    for i in 0..MOST_PRESSES {
+        let Proposal::Play(r) = propose_kept(last) else {
             break;
         };
-        let s = step_history(last, r);
-        i += 1;
-        last = s.after;
+        played = i + 1;
+        last = step_history(last, r).after;
     }
+    let ending = if within_bounds_history(h) {
+        ending_on(last.now.field)
+    } else {
+        Ending::Refused
+    };
     HeldKept {
-        ending: ending_of(within_bounds_history(h), last),
-        played: i,
+        ending,
+        played,
         after: last,
     }
 }

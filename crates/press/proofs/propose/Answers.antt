@@ -9,9 +9,9 @@ use Rattle.press.proofs.propose.Goals as goal
 pub returns-then-not-within_bounds : goal.returns-then-not-within_bounds
 returns-then-not-within_bounds c = sym (proposal_refused _ (fails c.within_bounds.ensures c.if-not-within_bounds.true-raw))
 
-pub first_accepted-p-requires : goal.first_accepted-p-requires
-first_accepted-p-requires c = pass (holds c.within_bounds.ensures c.if-not-within_bounds.false-raw)
+pub first_accepted-requires : goal.first_accepted-requires
+first_accepted-requires c = pass (holds c.within_bounds.ensures c.if-not-within_bounds.false-raw)
 
 pub returns : goal.returns
 returns c =
-    ap (λ (p : Pressed). p.proposal) c.first_accepted-p.ensures ∙ sym (proposal_is _ (pass (holds c.within_bounds.ensures c.if-not-within_bounds.false-raw)))
+    ap (λ (p : Pressed). p.proposal) c.first_accepted.ensures ∙ sym (proposal_is _ (pass (holds c.within_bounds.ensures c.if-not-within_bounds.false-raw)))
