@@ -57,7 +57,10 @@ fn with_fix_from(f: Field, side: u8, first: usize) -> usize
     requires first_bound { first ≤ 12 }
     ensures { result ≡ total (how_many_with_fix f side) (zones_from first (13 - first)) }
 {
-    f.zones[first - 1..FINAL].iter().map(|q| have_fix(q, side)).sum()
+    f.zones[first - 1..FINAL]
+        .iter()
+        .map(|q| have_fix(q, side))
+        .sum()
 }
 
 // How many in the operation area have a side as fix.
