@@ -17,6 +17,7 @@ use questions::counts::{how_many, in_area, in_operation, is_empty, per_fix};
 use questions::find::{aircraft_at, fix_of, is_first};
 
 // Bound a: how many are in the operation area, and on the runway.
+#[tactic(auto, unfolding(crate::specs::Bounds::bound_a))]
 pub fn bound_a(f: Field) -> bool
     ensures { result ≡ bound_a f }
 {
@@ -24,6 +25,7 @@ pub fn bound_a(f: Field) -> bool
 }
 
 // Bound b: how many are in the area of each side.
+#[tactic(auto, unfolding(crate::specs::Bounds::bound_b))]
 pub fn bound_b(f: Field) -> bool
     ensures { result ≡ bound_b f }
 {
@@ -38,6 +40,7 @@ fn one_each(f: Field) -> bool
 }
 
 // Whether a side's lateral zone is empty, or else its holdings and its missed zone.
+#[tactic(auto, unfolding(crate::specs::Bounds::lateral_rule))]
 pub fn lateral_rule(f: Field, side: u8) -> bool
     ensures { result ≡ lateral_rule f side }
 {
@@ -47,6 +50,7 @@ pub fn lateral_rule(f: Field, side: u8) -> bool
 }
 
 // Bound c: how many are in zones 1 to 6, and the rule of the lateral zones.
+#[tactic(auto, unfolding(crate::specs::Bounds::bound_c))]
 pub fn bound_c(f: Field) -> bool
     ensures { result ≡ bound_c f }
 {
@@ -54,6 +58,7 @@ pub fn bound_c(f: Field) -> bool
 }
 
 // Bound d: how many in the operation area have each fix.
+#[tactic(auto, unfolding(crate::specs::Bounds::bound_d))]
 pub fn bound_d(f: Field) -> bool
     ensures { result ≡ bound_d f }
 {
@@ -61,6 +66,7 @@ pub fn bound_d(f: Field) -> bool
 }
 
 // Whether whoever is at the head of final is first in the sequence.
+#[tactic(auto, unfolding(crate::specs::Bounds::final_first))]
 pub fn final_first(f: Field) -> bool
     ensures { result ≡ final_first f }
 {
@@ -68,6 +74,7 @@ pub fn final_first(f: Field) -> bool
 }
 
 // Whether a place is all zero and waiting, a zero of either sign.
+#[tactic(auto, unfolding(crate::specs::Bounds::is_nobody))]
 pub fn is_nobody(a: Aircraft) -> bool
     ensures { result ≡ is_nobody a }
 {
@@ -81,6 +88,7 @@ pub fn is_nobody(a: Aircraft) -> bool
 }
 
 // Whether a zone's length fits its array, and the places past it are all zero and waiting.
+#[tactic(auto, unfolding(crate::specs::Bounds::zone_kept))]
 pub fn zone_kept(q: Zone) -> bool
     ensures { result ≡ zone_kept q }
 {
@@ -95,6 +103,7 @@ fn zones_kept(f: Field) -> bool
 }
 
 // Whether the sequence's length fits its array, and the places past it are zero.
+#[tactic(auto, unfolding(crate::specs::Bounds::sequence_kept))]
 pub fn sequence_kept(s: Sequence) -> bool
     ensures { result ≡ sequence_kept s }
 {
@@ -102,6 +111,7 @@ pub fn sequence_kept(s: Sequence) -> bool
 }
 
 // Bound e: numbers, the sequence, the head of final, lengths and the places past them.
+#[tactic(auto, unfolding(crate::specs::Bounds::bound_e))]
 pub fn bound_e(f: Field) -> bool
     ensures { result ≡ bound_e f }
 {
@@ -113,6 +123,7 @@ pub fn bound_e(f: Field) -> bool
 }
 
 // Bound f: each fix in the sequence, and the next fix after them, is the opposite of the one before.
+#[tactic(auto, unfolding(crate::specs::Bounds::bound_f))]
 pub fn bound_f(f: Field) -> bool
     ensures { result ≡ bound_f f }
 {
@@ -131,6 +142,7 @@ pub fn bound_f(f: Field) -> bool
 }
 
 // All seven bounds.
+#[tactic(auto, unfolding(crate::specs::Bounds::within_bounds))]
 pub fn within_bounds(f: Field) -> bool
     ensures { result ≡ within_bounds f }
 {

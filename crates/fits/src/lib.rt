@@ -23,6 +23,7 @@ pub fn is_waiting(p: Progress) -> bool
 
 // Whether an own leg fits a zone: from 1/64 of a mile to the longest where a miss leads, and elsewhere equal to the zone's leg, 0 where no
 // leg is flown.
+#[tactic(auto, unfolding(crate::specs::Fits::leg_fits))]
 pub fn leg_fits(legs: Legs, zone: usize, leg: f64) -> bool
     ensures { result ≡ leg_fits legs zone leg }
 {
@@ -41,7 +42,7 @@ fn is_desk(desk: u8) -> bool
 }
 
 // Whether an aircraft flies within its own leg where the zone is flown in, and waits elsewhere.
-fn moves_as_due(zone: usize, a: Aircraft) -> bool
+fn flies_or_waits(zone: usize, a: Aircraft) -> bool
     ensures { result ≡ cond (is_flying_zone zone) (not (is_waiting a.progress) && within_leg a.progress a.leg) (is_waiting a.progress) }
 {
     if is_flying_zone(zone) {
@@ -53,6 +54,7 @@ fn moves_as_due(zone: usize, a: Aircraft) -> bool
 
 // Whether an aircraft of a zone has a side as fix, a speed from 1 to the highest, a desk, miles waited from 0 to the most and an own leg
 // that fits, and flies within that leg where the zone is flown in and waits elsewhere.
+#[tactic(auto, unfolding(crate::specs::Fits::fits_zone))]
 pub fn fits_zone(legs: Legs, zone: usize, a: Aircraft) -> bool
     ensures { result ≡ fits_zone legs zone a }
 {
@@ -61,7 +63,7 @@ pub fn fits_zone(legs: Legs, zone: usize, a: Aircraft) -> bool
         && is_desk(a.desk)
         && waited_within(a.waited)
         && leg_fits(legs, zone, a.leg)
-        && moves_as_due(zone, a)
+        && flies_or_waits(zone, a)
 }
 
 // Whether everyone in a zone's queue fits the zone.
@@ -84,6 +86,7 @@ fn zones_fit(f: Field) -> bool
 }
 
 // Whether all four legs are from 1/64 of a mile to 64 miles.
+#[tactic(auto, unfolding(crate::specs::Fits::legal_legs))]
 pub fn legal_legs(legs: Legs) -> bool
     ensures { result ≡ legal_legs legs }
 {
@@ -94,6 +97,7 @@ pub fn legal_legs(legs: Legs) -> bool
 }
 
 // Bound g: sides, speeds, miles, legs, and who flies.
+#[tactic(auto, unfolding(crate::specs::Fits::bound_g))]
 pub fn bound_g(f: Field) -> bool
     ensures { result ≡ bound_g f }
 {
