@@ -5,8 +5,8 @@ use mathlib.Core.List.{List, [], ◌∷◌, ◌++◌, map, append_assoc, append-
 use Prim.Native.Nat.{ℕ, zero, suc, ◌+◌, ◌-◌, ◌≤◌, ◌<◌}
 use native.Mathlib.Omega.{arith}
 use lib.Dec.{eqb}
-use lib.ListN.{length, get_or, take, drop, length-drop}
-use lib.Seq.{drop-cons, take_all}
+use lib.ListN.{length, get_or, take, drop}
+use lib.Seq.{drop-cons}
 use Rattle.std.specs.List.{list_all, list_any}
 use Rattle.std.proofs.lemmas.List.Recursion.{same_from_clauses}
 use Rattle.field.specs.declared.Aircraft.{Aircraft}
@@ -15,6 +15,7 @@ use Rattle.field.specs.declared.Field.{Field}
 use Rattle.field.specs.Airspace.{zones_from, empty_zone, zone_of, queue_of, in_zone}
 use Rattle.field.specs.Lists.{is_in, every, all_different}
 use Rattle.field.proofs.Arrays.{Walked, next_of, walked_more, walked_stop}
+use Rattle.field.proofs.Chains.{part_from}
 use Rattle.field.proofs.NumberLists.{in_append, in_left, in_right, absent_both}
 use Rattle.field.proofs.TestParts.{and_then, and_cut}
 use Rattle.questions.specs.Find.{numbers_in}
@@ -89,10 +90,6 @@ apart_all (n ∷ ns) =
     ∙ ap (λ (b : Bool). not (eqb n 0) && not (is_in n ns) && b) (apart_all ns)
     ∙ ap (λ (l : List ℕ). not (eqb n 0) && not (is_in n l) && apart ns []) (sym (append-nil ns))
 
--- ---- the part of a list from place i on, as a slice has it
-pub part : {A : Type 0} (l : List A) (i : ℕ) → take (length l - i) (drop i l) ≡ drop i l
-part l i = take_all (length l - i) (drop i l) (omega (arith, length-drop i l))
-
 -- ---- a turn over a queue, with those of other zones behind it
 module _ (l : List Aircraft) (behind : List ℕ) (i : ℕ) (d : Aircraft) (h : i < length l) where
   abbrev number : ℕ
@@ -106,7 +103,7 @@ module _ (l : List Aircraft) (behind : List ℕ) (i : ℕ) (d : Aircraft) (h : i
 
   -- the one at place i, by the part of the queue behind it
   here : (not (eqb number 0) && not (is_in number (numbers (drop (i + 1) l) ++ behind))) ≡ (not (eqb number 0) && not (is_in number (rest ++ behind)))
-  here = ap (λ (xs : List Aircraft). not (eqb number 0) && not (is_in number (numbers xs ++ behind))) (sym (part l (i + 1)))
+  here = ap (λ (xs : List Aircraft). not (eqb number 0) && not (is_in number (numbers xs ++ behind))) (sym (part_from l (i + 1)))
 
   pub queue_more : Walked from l 0 i → eqb number 0 ≡ false → is_in number rest ≡ false → is_in number behind ≡ false → Walked from l 0 (i + 1)
   queue_more w nonzero e g =
@@ -143,7 +140,7 @@ module _ (l : List Zone) (i : ℕ) (d : Zone) (h : i < length l) where
   parts =
       let behind = numbers_of (drop (i + 1) l) in
       apart_append (numbers (queue_of zone)) behind []
-      ∙ ap (λ (ms : List ℕ). apart (numbers (queue_of zone)) ms && apart behind []) (append-nil behind ∙ ap numbers_of (sym (part l (i + 1))))
+      ∙ ap (λ (ms : List ℕ). apart (numbers (queue_of zone)) ms && apart behind []) (append-nil behind ∙ ap numbers_of (sym (part_from l (i + 1))))
 
   -- xs is the queue of the zone as the code reads it
   module _ {xs : List Aircraft} (e : xs ≡ queue_of zone) where

@@ -8,7 +8,7 @@ use Rattle.fits.specs.Fits.{fits_zone}
 use Rattle.fits.proofs.zone_fits.Goals as goal
 
 pub returns : goal.returns
-returns c = 
+returns c =
     let here = fits_zone c.args.legs c.args.zone in
     let xs = queue_of c.args.q.now in
     all_from_yields_List here _ _ _ c.all.ensures.ran (YieldsList-from_slice xs cc) (λ x b q k. search (rules, tests)) ∙ every_passes here xs

@@ -8,7 +8,7 @@ use Rattle.numbers.proofs.NumbersOf.{numbers, in_every}
 use Rattle.numbers.proofs.each_listed.Goals as goal
 
 pub returns : goal.returns
-returns c = 
+returns c =
     let qs = c.args.zones.now in
     let ms = c.args.numbers.now in
     all_from_yields_List (λ q. every (λ n. is_in n ms) (numbers (queue_of q))) _ _ _ c.all.ensures.ran (YieldsList-from_slice qs cc) (λ x b q k. search (rules, tests)) ∙ in_every (λ (n : ℕ). is_in n ms) qs

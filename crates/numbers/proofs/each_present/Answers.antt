@@ -8,7 +8,7 @@ use Rattle.numbers.specs.Numbers.{numbers_of}
 use Rattle.numbers.proofs.each_present.Goals as goal
 
 pub returns : goal.returns
-returns c = 
+returns c =
     let ns = c.args.numbers.now in
     let there = numbers_of c.args.zones.now in
     all_from_yields_List (λ n. is_in n there) _ _ _ c.all.ensures.ran (YieldsList-from_slice ns cc) (λ x b q k. search (rules, tests)) ∙ every_passes (λ (n : ℕ). is_in n there) ns

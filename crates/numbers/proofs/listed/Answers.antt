@@ -8,7 +8,7 @@ use Rattle.numbers.proofs.NumbersOf.{in_each}
 use Rattle.numbers.proofs.listed.Goals as goal
 
 pub returns : goal.returns
-returns c = 
+returns c =
     let q = c.args.q.now in
     let ms = c.args.numbers.now in
     all_from_yields_List (λ a. is_in a.number ms) _ _ _ c.all.ensures.ran (YieldsList-from_slice (queue_of q) cc) (λ x b q k. search (rules, tests)) ∙ in_each (λ (n : ℕ). is_in n ms) (queue_of q)

@@ -1,21 +1,19 @@
 -- `numbers::numbers_differ` meets its contract. The loop's invariant: the zones that it has passed change nothing. Assumes nothing.
 use mathlib.Core.Path.{◌≡◌, sym, ap, ◌∙◌}
-use mathlib.Core.Bool.{Bool, not, ◌&&◌}
+use mathlib.Core.Bool.{not, ◌&&◌}
 use mathlib.Core.List.{List, []}
 use Prim.Native.Nat.{ℕ}
 use native.Mathlib.Omega.{arith}
 use lib.Dec.{eqb}
-use lib.ListN.{length, take}
+use lib.ListN.{length}
 use lib.Seq.{take_all}
 use Rattle.field.specs.declared.Field.{Field}
-use Rattle.field.specs.declared.Aircraft.{Aircraft}
 use Rattle.field.specs.declared.Zone.{Zone}
 use Rattle.field.specs.Lists.{every, all_different}
 use Rattle.field.proofs.Arrays.{walked_all}
 use Rattle.field.proofs.FieldKnown.{field_known}
-use Rattle.field.proofs.TestParts.{holds, fails}
 use Rattle.numbers.specs.Numbers.{numbers_of, apart, numbers_differ}
-use Rattle.numbers.proofs.NumbersOf.{numbers, along, apart_all, zones_more, zones_stop}
+use Rattle.numbers.proofs.NumbersOf.{along, apart_all, zones_more, zones_stop}
 use Rattle.numbers.proofs.numbers_differ.Goals as goal
 
 -- what is asked of the field is that the zones of its array stand apart

@@ -1,12 +1,12 @@
 -- `numbers::sequence_exact` meets its contract, part by part: the first twelve zones of the array are the operation area. Assumes nothing.
-use mathlib.Core.Path.{◌≡◌, refl, sym, ap, ◌∙◌}
+use mathlib.Core.Path.{◌≡◌, sym, ap, ◌∙◌}
 use mathlib.Core.Bool.{true≢false}
 use mathlib.Core.List.{List}
-use Prim.Native.Nat.{ℕ, ◌+◌, ◌≤◌}
+use Prim.Native.Nat.{ℕ}
 use native.Mathlib.Omega.{arith}
 use lib.ListN.{length, take}
 use Rattle.field.specs.declared.Field.{Field}
-use Rattle.field.specs.Airspace.{operation, order_of}
+use Rattle.field.specs.Airspace.{operation}
 use Rattle.field.specs.Lists.{is_in, every, all_different}
 use Rattle.field.proofs.FieldKnown.{field_known}
 use Rattle.field.proofs.TestParts.{and_then, and_cut}

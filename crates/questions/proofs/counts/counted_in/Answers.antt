@@ -1,7 +1,7 @@
 -- `questions::counts::counted_in` meets its contract: each arm returns what the definition gives where the test is as the arm found it. Assumes nothing.
-use Rattle.std.proofs.Common.{rules, ◌≡◌, ◌∙◌, sym, ap, length}
+use Rattle.std.proofs.Common.{◌∙◌, sym, ap, length}
 use Rattle.field.specs.Airspace.{queue_length}
-use Rattle.field.proofs.TestParts.{cond_then, cond_else}
+use Rattle.field.proofs.TestParts.{cond_then}
 use Rattle.questions.proofs.counts.counted_in.Goals as goal
 
 pub returns-then-is_in_area : goal.returns-then-is_in_area

@@ -8,11 +8,11 @@ use lib.Seq.{get_or-take}
 use Rattle.field.specs.declared.Zone.{Zone}
 use Rattle.field.specs.declared.Field.{Field}
 use Rattle.field.specs.Lists.{is_in}
-use Rattle.field.specs.Airspace.{zone_of, queue_of, queue_length, in_zone, area}
+use Rattle.field.specs.Airspace.{queue_of, queue_length, in_zone, area}
 use Rattle.field.proofs.FieldKnown.{field_known}
 use Rattle.field.proofs.Shapes.{zone_at}
 use Rattle.questions.specs.Counts.{have_fix, how_many, how_many_with_fix, counted_for, potential_of}
-use Rattle.questions.proofs.Totals.{added_none, added_more, added_all, counted_fits}
+use Rattle.questions.proofs.Totals.{added_more, added_all, counted_fits}
 use Rattle.questions.proofs.counts.potential_of.Goals.{After-counted_in-n}
 use Rattle.questions.proofs.counts.potential_of.Goals as goal
 

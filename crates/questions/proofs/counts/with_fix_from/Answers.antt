@@ -1,5 +1,5 @@
 -- `questions::counts::with_fix_from` meets its contract: the sum along the array is that over the zones, of at most four each. Assumes nothing.
-use Rattle.std.proofs.Common.{rules, arith, ◌≡◌, ◌≤◌, ◌-◌, ◌∙◌, ℕ, suc, ap, sum_by, length, take, drop}
+use Rattle.std.proofs.Common.{rules, arith, ◌≡◌, ◌≤◌, ◌-◌, ◌∙◌, ℕ, suc, ap, sum_by, take, drop}
 use Rattle.field.specs.declared.Field.{Field}
 use Rattle.field.specs.Airspace.{zones_from, queue_of, in_zone}
 use Rattle.field.proofs.FieldKnown.{FieldKnown, field_known}

@@ -1,15 +1,13 @@
 -- `questions::find::place_of` meets its contract. The loops' invariants: what is sought was in no zone and at no place that was passed. Assumes nothing.
-use mathlib.Core.Bool.{Bool, cond}
-use mathlib.Core.List.{List, [], ◌∷◌}
+use mathlib.Core.Bool.{cond}
+use mathlib.Core.List.{[]}
 use mathlib.Core.Path.{◌≡◌, refl, sym, ap, ◌∙◌}
-use Prim.Native.Nat.{ℕ, suc, ◌+◌, ◌-◌, ◌<◌, ◌≤◌}
+use Prim.Native.Nat.{ℕ, suc, ◌+◌, ◌-◌, ◌<◌}
 use native.Mathlib.Omega.{arith}
 use native.Mathlib.Numerals.{add-one}
 use borrow.Author.Tests.{eq-eqb, ne_eqb}
 use lib.Dec.{eqb}
-use lib.ListN.{length, get_or, drop, drop_of_length-le}
-use Rattle.field.specs.declared.Aircraft.{Aircraft}
-use Rattle.field.specs.declared.Zone.{Zone}
+use lib.ListN.{drop, drop_of_length-le}
 use Rattle.field.specs.declared.Field.{Field}
 use Rattle.questions.specs.declared.Place.{Place}
 use Rattle.field.specs.Airspace.{zones_from, queue_of, in_zone}
@@ -18,7 +16,6 @@ use Rattle.field.proofs.Arrays.{next_of}
 use Rattle.field.proofs.FieldKnown.{field_known}
 use Rattle.field.proofs.Shapes.{zone_at}
 use Rattle.field.proofs.TestLaws.{if_true, if_false}
-use Rattle.questions.proofs.find.place_of.Invariants.{Looking, Passed}
 use Rattle.questions.proofs.find.place_of.Goals as goal
 
 -- the first zone of those left to look at, by the place of the number in it
