@@ -74,7 +74,6 @@ pub fn final_first(f: Field) -> bool
 }
 
 // Whether a place is all zero and waiting, a zero of either sign.
-#[tactic(auto, unfolding(crate::specs::Bounds::is_nobody))]
 pub fn is_nobody(a: Aircraft) -> bool
     ensures { result ≡ is_nobody a }
 {
@@ -146,11 +145,5 @@ pub fn bound_f(f: Field) -> bool
 pub fn within_bounds(f: Field) -> bool
     ensures { result ≡ within_bounds f }
 {
-    bound_a(f)
-        && bound_b(f)
-        && bound_c(f)
-        && bound_d(f)
-        && bound_e(f)
-        && bound_f(f)
-        && bound_g(f)
+    bound_a(f) && bound_b(f) && bound_c(f) && bound_d(f) && bound_e(f) && bound_f(f) && bound_g(f)
 }

@@ -90,10 +90,7 @@ fn zones_fit(f: Field) -> bool
 pub fn legal_legs(legs: Legs) -> bool
     ensures { result ≡ legal_legs legs }
 {
-    legal(legs.missed)
-        && legal(legs.base)
-        && legal(legs.intermediate)
-        && legal(legs.final_approach)
+    legal(legs.missed) && legal(legs.base) && legal(legs.intermediate) && legal(legs.final_approach)
 }
 
 // Bound g: sides, speeds, miles, legs, and who flies.
