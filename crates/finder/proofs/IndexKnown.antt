@@ -4,9 +4,7 @@ use mathlib.Core.List.{List}
 use lib.ListN.{length}
 use mir.Val.{Val}
 use denote.Laws.{Is}
-use Rattle.field.proofs.FieldKnown.{array_known}
 use Rattle.finder.specs.declared.Index.{Index}
-use Rattle.finder.specs.contracts.Entry as entry
 use Rattle.finder.specs.contracts.Index as index
 
 pub record IndexKnown (i : Index) : Type 0 where

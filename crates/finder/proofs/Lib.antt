@@ -6,3 +6,4 @@ pub mod Settled
 pub mod Walk
 pub mod IndexLaws
 pub mod Determined
+pub mod IndexEquality

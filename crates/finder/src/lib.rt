@@ -3,16 +3,14 @@
 
 ghost use Rattle.std.specs.Prelude.{◌≡◌};
 ghost use Rattle.field.specs.Airspace.{queue_of};
-ghost use Rattle.finder.specs.Finder.{is_before, first_of, second_of, put_among, put_each, entries_from, index_of, found_in, same_entry, same_index, within_bounds_indexed};
+ghost use Rattle.finder.specs.Finder.{unused, is_before, first_of, second_of, put_among, put_each, entries_from, index_of, found_in, within_bounds_indexed};
 
 use bounds::within_bounds;
-use field::airspace::queue_length;
-use field::zones::RUNWAY;
 use field::{Field, Zone};
 use questions::Place;
 
 // One place of the index: a number, its zone, and its place in the zone's queue from 1. An unused place is all zero.
-#[derive(Clone, Copy)]
+#[derive(Clone, Copy, Debug, PartialEq, Eq)]
 pub struct Entry {
     pub number: u16,
     pub zone: u8,
@@ -20,7 +18,7 @@ pub struct Entry {
 }
 
 // The index: five places in order of number, the unused ones last.
-#[derive(Clone, Copy)]
+#[derive(Clone, Copy, Debug, PartialEq, Eq)]
 pub struct Index {
     pub entries: [Entry; 5],
 }
@@ -32,44 +30,45 @@ pub struct Indexed {
     pub index: Index,
 }
 
+// An unused place.
+pub fn unused() -> Entry
+    ensures { result ≡ unused }
+{
+    Entry {
+        number: 0,
+        zone: 0,
+        place: 0,
+    }
+}
+
 // Whether an entry stands before another.
+#[tactic(auto, unfolding(crate::specs::Finder::is_before))]
 fn is_before(a: Entry, b: Entry) -> bool
     ensures { result ≡ is_before a b }
 {
-    if a.number == 0 {
-        return false;
-    }
-    if b.number == 0 {
-        return true;
-    }
-    a.number < b.number
+    a.number != 0 && (b.number == 0 || a.number < b.number)
 }
 
 // Of two entries the one that stands first.
+#[tactic(auto, unfolding(crate::specs::Finder::first_of))]
 fn first_of(a: Entry, b: Entry) -> Entry
     ensures { result ≡ first_of a b }
 {
-    if is_before(a, b) {
-        return a;
-    }
-    b
+    if is_before(a, b) { a } else { b }
 }
 
 // Of two entries the one behind the first; of two with the same number an unused one.
+#[tactic(auto, unfolding(crate::specs::Finder::second_of))]
 fn second_of(a: Entry, b: Entry) -> Entry
     ensures { result ≡ second_of a b }
 {
     if is_before(a, b) {
-        return b;
+        b
+    } else if a.number == b.number {
+        unused()
+    } else {
+        a
     }
-    if a.number == b.number {
-        return Entry {
-            number: 0,
-            zone: 0,
-            place: 0,
-        };
-    }
-    a
 }
 
 // The index with an entry put among its own.
@@ -78,30 +77,27 @@ pub fn with_entry(index: Index, e: Entry) -> Index
 {
     let mut entries = index.entries;
     let mut moved = e;
-    for i in 0..5 {
+    for entry in &mut entries {
         if moved.number == 0 {
             break;
         }
-        let here = entries[i];
-        entries[i] = first_of(moved, here);
+        let here = *entry;
+        *entry = first_of(moved, here);
         moved = second_of(moved, here);
     }
-    Index { entries: entries }
+    Index { entries }
 }
 
 // The index with those of a queue put among its own, each with the zone and its place in the queue.
 fn with_queue(index: Index, q: Zone, zone: u8) -> Index
     ensures { result.entries ≡ put_each (entries_from zone 1 (queue_of q)) index.entries }
 {
-    let end = queue_length(q);
     let mut made = index;
-    for i in 0..end {
-        let a = q.aircraft[i];
-        let place = (i + 1) as u8;
+    for (i, a) in q.queue().iter().enumerate() {
         let e = Entry {
             number: a.number,
-            zone: zone,
-            place: place,
+            zone,
+            place: (i + 1) as u8,
         };
         made = with_entry(made, e);
     }
@@ -112,19 +108,11 @@ fn with_queue(index: Index, q: Zone, zone: u8) -> Index
 pub fn index_of(f: Field) -> Index
     ensures { result ≡ index_of f }
 {
-    let unused = Entry {
-        number: 0,
-        zone: 0,
-        place: 0,
+    let mut index = Index {
+        entries: [unused(); 5],
     };
-    let entries = [unused; 5];
-    let mut index = Index { entries: entries };
-    for zone in 1..=RUNWAY {
-        let length = f.zones[zone - 1].length;
-        if length != 0 {
-            let q = f.zones[zone - 1];
-            index = with_queue(index, q, zone as u8);
-        }
+    for (i, q) in f.zones.iter().enumerate() {
+        index = with_queue(index, *q, (i + 1) as u8);
     }
     index
 }
@@ -136,54 +124,18 @@ pub fn find(index: Index, number: u16) -> Place
     if number == 0 {
         return Place { zone: 0, place: 0 };
     }
-    for i in 0..5 {
-        let e = index.entries[i];
-        if e.number == number {
-            let at = e.place as usize;
-            return Place {
-                zone: e.zone,
-                place: at,
-            };
-        }
+    match index.entries.iter().find(|e| e.number == number) {
+        Some(e) => Place {
+            zone: e.zone,
+            place: e.place as usize,
+        },
+        None => Place { zone: 0, place: 0 },
     }
-    Place { zone: 0, place: 0 }
-}
-
-// Whether two entries are the same.
-fn same_entry(a: Entry, b: Entry) -> bool
-    ensures { result ≡ same_entry a b }
-{
-    if a.number != b.number {
-        return false;
-    }
-    if a.zone != b.zone {
-        return false;
-    }
-    a.place == b.place
-}
-
-// Whether two indexes are the same, place by place.
-pub fn same_index(a: Index, b: Index) -> bool
-    ensures { result ≡ same_index a b }
-{
-    for i in 0..5 {
-        let x = a.entries[i];
-        let y = b.entries[i];
-        if !same_entry(x, y) {
-            return false;
-        }
-    }
-    true
 }
 
 // Whether a field is within the bounds, and the index beside it is its own.
 pub fn within_bounds_indexed(x: Indexed) -> bool
     ensures { result ≡ within_bounds_indexed x }
 {
-    let f = x.field;
-    if !within_bounds(f) {
-        return false;
-    }
-    let given = x.index;
-    same_index(given, index_of(f))
+    within_bounds(x.field) && x.index == index_of(x.field)
 }

@@ -1,52 +1,46 @@
 -- `finder::with_queue` meets its contract: what the rest of the queue leads to from here is what the whole queue leads to. Assumes nothing.
-use mathlib.Core.Path.{◌≡◌, refl, sym, ap, ◌∙◌}
-use mathlib.Core.List.{List, []}
-use Prim.Native.Nat.{ℕ, suc, ◌+◌, ◌<◌}
-use lib.ListN.{get_or, drop, drop_of_length-le}
-use native.Mathlib.Omega.{arith}
+use Rattle.std.proofs.Common.{◌≡◌, ℕ, suc, ◌+◌, ◌≤◌, ◌<◌, List, [], length, get_or, drop, refl, sym, ap, ◌∙◌, add-one, arith, rules}
+use Rattle.std.proofs.Math.ListN.{drop_of_length-le, length-take}
 use Rattle.field.specs.declared.Aircraft.{Aircraft}
-use Rattle.field.specs.declared.Zone.{Zone}
-use Rattle.field.specs.Airspace.{queue_of, queue_length}
-use Rattle.field.proofs.FieldKnown.{zone_known}
-use Rattle.field.proofs.Shapes.{queue_next, queue_fits}
+use Rattle.field.specs.Airspace.{queue_of}
+use Rattle.field.proofs.Arrays.{next_of}
 use Rattle.finder.specs.declared.Entry.{Entry}
 use Rattle.finder.specs.Finder.{put_among, put_each, entries_from}
 use Rattle.finder.proofs.with_queue.Invariants.{Gathered}
 use Rattle.finder.proofs.with_queue.Goals as goal
 
-more : (zone : ℕ) (q : Zone) (end : ℕ) (xs es rs : List Entry) (i : ℕ) (d : Aircraft) → Gathered zone q end xs es i → i < end
-    → rs ≡ put_among (record { number = (get_or q.aircraft i d).number; zone = zone; place = i + 1 }) es → Gathered zone q end xs rs (i + 1)
-more zone q end xs es rs i d g h made =
-    let whole = g.whole in
-    let next : suc (i + 1) ≡ i + 1 + 1 = omega arith in
+more : (zone : ℕ) (queue : List Aircraft) (xs es : List Entry) {rs : List Entry} (i : ℕ) (d : Aircraft) → Gathered zone queue xs es i → i < length queue
+    → rs ≡ put_among (record { number = (get_or queue i d).number; zone = zone; place = i + 1 }) es → Gathered zone queue xs rs (i + 1)
+more zone queue xs es {rs} i d g h made =
     record {
-      within = omega arith;
-      few = g.few;
-      whole = whole;
       rest =
           g.rest
-          ∙ ap (λ (l : List Aircraft). put_each (entries_from zone (i + 1) l) es) (queue_next q i d (omega (arith, whole, h)))
-          ∙ ap (put_each (entries_from zone (suc (i + 1)) (drop (i + 1) (queue_of q)))) (sym made)
-          ∙ ap (λ (k : ℕ). put_each (entries_from zone k (drop (i + 1) (queue_of q))) rs) next;
+          ∙ ap (λ (l : List Aircraft). put_each (entries_from zone (i + 1) l) es) (next_of queue i d h)
+          ∙ ap (put_each (entries_from zone (suc (i + 1)) (drop (i + 1) queue))) (sym made)
+          ∙ ap (λ (k : ℕ). put_each (entries_from zone k (drop (i + 1) queue)) rs) (sym (add-one (i + 1)));
     }
 
 pub loop-i-init : goal.loop-i-init
-unfolding queue_length
-loop-i-init c =
+loop-i-init c = record { rest = refl }
+
+pub overflow_cast-e : goal.overflow_cast-e
+unfolding queue_of
+overflow_cast-e c =
     let q = c.args.q in
-    let fits = queue_fits q (zone_known q c.well_formed.1.0).places in
-    let whole = c.queue_length-end.ensures in
-    record { within = omega arith; few = omega (arith, whole, fits); whole = whole; rest = refl }
+    let known = c.well_formed in
+    let four : length q.aircraft ≡ 4 = search rules in
+    let _few : length c.queue-a-items.result.now ≤ 4 = omega (arith, ap length c.queue-a-items.ensures, length-take q.length q.aircraft) in
+    omega (arith, c.loop-i-test.true)
 
 pub loop-i-preserved : goal.loop-i-preserved
 loop-i-preserved c =
-    let l = c.loop-i in
-    more c.args.zone c.args.q c.queue_length-end.result c.args.index.entries l.made.entries c.with_entry-made.result.entries l.i _ l.invariant (omega arith)
-    c.with_entry-made.ensures
+    more c.args.zone c.queue-a-items.result.now c.args.index.entries c.loop-i.made.entries c.loop-i.i _ c.loop-i.invariant c.loop-i-test.true c.with_entry-made.ensures
 
 pub returns : goal.returns
 returns c =
     let l = c.loop-i in
-    let whole = l.invariant.whole in
-    let none : drop l.i (queue_of c.args.q) ≡ [] = drop_of_length-le (queue_of c.args.q) {i = l.i} (omega (arith, whole)) in
-    sym (l.invariant.rest ∙ ap (λ (x : List Aircraft). put_each (entries_from c.args.zone (l.i + 1) x) l.made.entries) none)
+    let queue = c.queue-a-items.result.now in
+    let none : drop l.i queue ≡ [] = drop_of_length-le queue {i = l.i} c.loop-i-test.false in
+    sym (ap (λ (r : List Aircraft). put_each (entries_from c.args.zone 1 r) c.args.index.entries) (sym c.queue-a-items.ensures)
+    ∙ l.invariant.rest
+    ∙ ap (λ (r : List Aircraft). put_each (entries_from c.args.zone (l.i + 1) r) l.made.entries) none)

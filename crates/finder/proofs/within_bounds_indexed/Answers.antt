@@ -1,15 +1,16 @@
 -- `finder::within_bounds_indexed` meets its contract: each test decides a part of the definition. Assumes nothing.
-use mathlib.Core.Path.{sym, ap, ◌∙◌}
-use Rattle.field.proofs.TestParts.{and_then, and_cut, holds, fails}
+use Rattle.std.proofs.Common.{sym, ◌∙◌}
+use Rattle.field.proofs.TestParts.{and_then, and_cut}
 use Rattle.finder.specs.Finder.{same_index, within_bounds_indexed}
+use Rattle.finder.proofs.IndexEquality.{entries_equality}
 use Rattle.finder.proofs.within_bounds_indexed.Goals as goal
 
-pub returns-then-not-within_bounds : goal.returns-then-not-within_bounds
-unfolding within_bounds_indexed
-returns-then-not-within_bounds c = sym (and_cut _ (fails c.within_bounds.ensures c.if-not-within_bounds.true-raw))
+pub returns-then-within_bounds : goal.returns-then-within_bounds
+unfolding within_bounds_indexed same_index
+returns-then-within_bounds c =
+    let same = simp entries_equality at c.eq.ensures in
+    sym (and_then (sym c.within_bounds.ensures ∙ c.if-within_bounds.true) (cc))
 
-pub returns : goal.returns
+pub returns-else-within_bounds : goal.returns-else-within_bounds
 unfolding within_bounds_indexed
-returns c =
-    let within = holds c.within_bounds.ensures c.if-not-within_bounds.false-raw in
-    sym (and_then within (sym (c.same_index.ensures ∙ ap (same_index _) c.index_of.ensures)))
+returns-else-within_bounds c = c.if-within_bounds.false ∙ sym (and_cut _ (sym c.within_bounds.ensures ∙ c.if-within_bounds.false))
