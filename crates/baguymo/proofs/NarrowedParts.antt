@@ -15,7 +15,7 @@ use Rattle.field.proofs.TestLaws.{decided, passed, pass, if_true, if_false, eith
 use Rattle.field.proofs.TestParts.{over}
 use Rattle.request.specs.declared.Request.{Request}
 use Rattle.request.specs.declared.Range.{Range}
-use Rattle.request.specs.Input.{within, in_range, is_entry, is_tick, rule_of, first_refused, desk_allowed, kind_allowed, side_allowed, number_allowed, amount_allowed, input_number}
+use Rattle.request.specs.Input.{within, in_range, is_entry, is_tick, asked_of, first_refused, desk_allowed, kind_allowed, side_allowed, number_allowed, amount_allowed, input_number}
 use Rattle.request.proofs.ByKind.{Keeps, keeps}
 use Rattle.rules.specs.Step.{number_and_zeros}
 use Rattle.history.specs.declared.History.{History}
@@ -34,10 +34,10 @@ abbrev pub narrow_request : Request → Request
 narrow_request r = record { kind = in8 r.kind; side = in8 r.side; number = number_in16 r.kind r.number; amount = in16 r.amount; desk = in8 r.desk }
 
 -- every side that a kind allows has 8 bits, and every amount 16
-sides_few : (kind : ℕ) → (rule_of kind).sides.1 < 255
+sides_few : (kind : ℕ) → (asked_of kind).sides.1 < 255
 sides_few kind = either_way (λ (r : Range). r.1 < 255) (is_entry kind) _ _ (λ _. lit< tt) (λ _. lit< tt)
 
-amounts_few : (kind : ℕ) → (rule_of kind).amounts.1 < 65535
+amounts_few : (kind : ℕ) → (asked_of kind).amounts.1 < 65535
 amounts_few kind =
     either_way (λ (r : Range). r.1 < 65535) (is_entry kind) _ _ (λ _. lit< tt)
     (λ _. either_way (λ (r : Range). r.1 < 65535) (is_tick kind) _ _ (λ _. lit< tt) (λ _. lit< tt))
@@ -68,31 +68,31 @@ parts_as_input r = go (dec_le r.kind 255)
     desk : within 1 desks (in8 r.desk) ≡ within 1 desks r.desk
     desk = within_min 1 desks 255 r.desk (lit< tt)
 
-    side : in_range (rule_of r.kind).sides (in8 r.side) ≡ in_range (rule_of r.kind).sides r.side
-    side = within_min (rule_of r.kind).sides.0 (rule_of r.kind).sides.1 255 r.side (sides_few r.kind)
+    side : in_range (asked_of r.kind).sides (in8 r.side) ≡ in_range (asked_of r.kind).sides r.side
+    side = within_min (asked_of r.kind).sides.0 (asked_of r.kind).sides.1 255 r.side (sides_few r.kind)
 
-    amount : in_range (rule_of r.kind).amounts (in16 r.amount) ≡ in_range (rule_of r.kind).amounts r.amount
-    amount = within_min (rule_of r.kind).amounts.0 (rule_of r.kind).amounts.1 65535 r.amount (amounts_few r.kind)
+    amount : in_range (asked_of r.kind).amounts (in16 r.amount) ≡ in_range (asked_of r.kind).amounts r.amount
+    amount = within_min (asked_of r.kind).amounts.0 (asked_of r.kind).amounts.1 65535 r.amount (amounts_few r.kind)
 
     -- the rules of a kind, of the parts that are handed on
     narrow_by : ℕ → ℕ
     narrow_by k =
-        first_broken (within 1 desks (in8 r.desk)) (rule_of k).known (in_range (rule_of k).sides (in8 r.side))
-        (cond (rule_of k).aircraft (not (eqb (number_in16 r.kind r.number) 0)) (eqb (number_in16 r.kind r.number) 0))
-        (in_range (rule_of k).amounts (in16 r.amount))
+        first_broken (within 1 desks (in8 r.desk)) (within 1 12 k) (in_range (asked_of k).sides (in8 r.side))
+        (cond (asked_of k).aircraft (not (eqb (number_in16 r.kind r.number) 0)) (eqb (number_in16 r.kind r.number) 0))
+        (in_range (asked_of k).amounts (in16 r.amount))
 
     same_rule : narrow_by r.kind ≡ parts_number r
-    same_rule i = first_broken (desk i) (rule_of r.kind).known (side i) (by_width r.number (leb r.number 65535) (is_tick r.kind) i) (amount i)
+    same_rule i = first_broken (desk i) (within 1 12 r.kind) (side i) (by_width r.number (leb r.number 65535) (is_tick r.kind) i) (amount i)
 
     none : within 1 12 r.kind ≡ false → narrow_by (in8 r.kind) ≡ parts_number r
     none e =
         let k = within_min 1 12 255 r.kind (lit< tt) ∙ e in
-        (λ i. first_broken (desk i) (k i) (in_range (rule_of (in8 r.kind)).sides (in8 r.side))
-        (cond (rule_of (in8 r.kind)).aircraft (not (eqb (number_in16 r.kind r.number) 0)) (eqb (number_in16 r.kind r.number) 0))
-        (in_range (rule_of (in8 r.kind)).amounts (in16 r.amount)))
-        ∙ (λ i. first_broken (within 1 desks r.desk) (sym e i) (in_range (rule_of r.kind).sides r.side)
-        (cond (rule_of r.kind).aircraft (not (eqb r.number 0)) (eqb r.number 0) && leb r.number 65535)
-        (in_range (rule_of r.kind).amounts r.amount))
+        (λ i. first_broken (desk i) (k i) (in_range (asked_of (in8 r.kind)).sides (in8 r.side))
+        (cond (asked_of (in8 r.kind)).aircraft (not (eqb (number_in16 r.kind r.number) 0)) (eqb (number_in16 r.kind r.number) 0))
+        (in_range (asked_of (in8 r.kind)).amounts (in16 r.amount)))
+        ∙ (λ i. first_broken (within 1 desks r.desk) (sym e i) (in_range (asked_of r.kind).sides r.side)
+        (cond (asked_of r.kind).aircraft (not (eqb r.number 0)) (eqb r.number 0) && leb r.number 65535)
+        (in_range (asked_of r.kind).amounts r.amount))
 
     go : Dec (r.kind ≤ 255) → input_number (narrow_request r) ≡ parts_number r
     go (yes p) = let e : in8 r.kind ≡ r.kind = omega arith in ap narrow_by e ∙ same_rule
@@ -115,7 +115,7 @@ up_to low high n e = leb→le n high (and_r (leb low n) (leb n high) (pass e))
 pub parts_same : (r : Request) → parts_number r ≡ 0 → narrow_request r ≡ r
 parts_same r e i = record { kind = kind i; side = side i; number = number i; amount = amount i; desk = desk i }
   where
-    known : Keeps (narrow_request r) (rule_of (in8 r.kind))
+    known : Keeps (narrow_request r) (asked_of (in8 r.kind))
     known = keeps (narrow_request r) (parts_as_input r ∙ e)
 
     kind : in8 r.kind ≡ r.kind
@@ -126,14 +126,14 @@ parts_same r e i = record { kind = kind i; side = side i; number = number i; amo
 
     side : in8 r.side ≡ r.side
     side =
-        let range = (rule_of (in8 r.kind)).sides in
+        let range = (asked_of (in8 r.kind)).sides in
         let h = up_to range.0 range.1 (in8 r.side) known.side in
         let few = sides_few (in8 r.kind) in
         small_same 255 r.side (lt_of_le_of_lt h few)
 
     amount : in16 r.amount ≡ r.amount
     amount =
-        let range = (rule_of (in8 r.kind)).amounts in
+        let range = (asked_of (in8 r.kind)).amounts in
         let h = up_to range.0 range.1 (in16 r.amount) known.amount in
         small_same 65535 r.amount (lt_of_le_of_lt h (amounts_few (in8 r.kind)))
 

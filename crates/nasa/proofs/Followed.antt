@@ -10,7 +10,7 @@ use Rattle.limits.specs.Limits.{fastest, desks}
 use Rattle.request.specs.Input.{within, first_refused, input_number}
 use Rattle.request.proofs.InputTests as input
 use Rattle.request.proofs.ByKind.{Keeps, none_broken}
-use Rattle.request.proofs.Rules.{rule_of_entry}
+use Rattle.request.proofs.Rules.{asked_of_entry}
 use Rattle.field.specs.declared.Field.{Field}
 use Rattle.field.specs.Airspace.{side_of, at2000, lateral, missed, leg_flown_out}
 use Rattle.questions.specs.Counts.{is_empty, approach_holds, potential_of}
@@ -180,10 +180,10 @@ module _ (f : Field) (S : Sound f) where
     entry_allowed : (k : ℕ) → 1 ≤ k → k ≤ 2 → (s : Side) → input_number (entry_request new k s) ≡ 0
     entry_allowed k l h s =
         none_broken (entry_request new k s)
-        (subst (Keeps (entry_request new k s)) (sym (rule_of_entry k l h))
+        (subst (Keeps (entry_request new k s)) (sym (asked_of_entry k l h))
         (record {
           desk = input.both_right (not_0 && unused && fast) desked (passed {b = not_0 && unused && fast && desked} t);
-          kind = refl;
+          kind = input.within_yes 1 12 k l (omega arith);
           side = each_side (λ s. within 1 2 (num s) ≡ true) refl refl s;
           number = input.both_left not_0 unused two;
           amount = input.both_right (not_0 && unused) fast three;

@@ -1,5 +1,5 @@
 // Document 01, "Turned away by the field": what each kind of request needs, in order (rules' specs/Kinds.antt).
-#![tactic(auto, using(refusals::proofs::Outcomes::number_some), unfolding(refusals::specs::Refusals::number_of, rules::specs::Kinds::starts_from, rules::specs::Kinds::belongs_to, rules::specs::Kinds::may_approach, rules::specs::Kinds::may_merge, rules::specs::Kinds::base_free))]
+#![tactic(auto, using(refusals::proofs::Outcomes::number_some), unfolding(refusals::specs::Refusals::number_of, rules::specs::Kinds::belongs_to, rules::specs::Kinds::may_approach, rules::specs::Kinds::may_merge, rules::specs::Kinds::base_free))]
 
 ghost use Rattle.std.specs.Prelude.{◌≡◌, ◌||◌};
 ghost use Rattle.request.specs.Input.{within, in_range, first_refused};
@@ -19,10 +19,11 @@ use refusals::{Refusal, require};
 use request::{Range, Request, in_range, rule_of};
 
 // Whether a kind starts from a zone.
+#[tactic(auto, using(request::proofs::Rules::no_zones), unfolding(rules::specs::Kinds::starts_from))]
 fn starts_from(kind: u8, zone: u8) -> bool
     ensures { result ≡ starts_from kind zone }
 {
-    in_range(rule_of(kind).zones, zone as usize)
+    rule_of(kind).is_some_and(|rule| in_range(rule.zones, zone as usize))
 }
 
 // Whether the aircraft at a place belongs to a desk.

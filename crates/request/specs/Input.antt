@@ -1,6 +1,6 @@
 -- What the contracts of `src/` cite: a request's parts from its bytes, the rule of each kind (01, "The requests"), and refusals 31 (02, 2.10) and 1 to 4
 -- (01, "Turned away by the request or the file"). Definitions only.
-use Rattle.std.specs.Prelude.{ℕ, ◌+◌, ◌*◌, List, [], ◌∷◌, Bool, cond, not, ◌&&◌, ◌||◌, leb, eqb, get_or}
+use Rattle.std.specs.Prelude.{ℕ, ◌+◌, ◌*◌, List, [], ◌∷◌, Bool, cond, not, ◌&&◌, ◌||◌, leb, eqb, get_or, Option, Some, None}
 use Rattle.limits.specs.Limits.{longest_tick, fastest, desks}
 use Rattle.request.specs.declared.Request.{Request}
 use Rattle.request.specs.declared.Range.{Range}
@@ -68,12 +68,10 @@ starting_zones kind =
     -- hold: the missed zones
     (cond (eqb kind 11) (range 7 8) (range 1 0)))))))
 
--- the rule of each kind: what refusals 1 to 4 and 13 ask of a request of this kind
-abbrev pub rule_of : ℕ → KindRule
-rule_of kind =
+-- what refusals 2 to 4 and 13 ask of a request of a kind
+abbrev pub asked_of : ℕ → KindRule
+asked_of kind =
     record {
-      -- 1: it is one of the twelve kinds
-      known = within 1 12 kind;
       -- 2: an entry names a side, any other kind 0
       sides = cond (is_entry kind) (range 1 2) (range 0 0);
       -- 3: every kind but a tick names an aircraft
@@ -84,25 +82,29 @@ rule_of kind =
       zones = starting_zones kind;
     }
 
+-- the rule of each kind; none where it is not one of the twelve, which refusal 1 says
+abbrev pub rule_of : ℕ → Option KindRule
+rule_of kind = cond (within 1 12 kind) (Some (asked_of kind)) None
+
 -- 31: a desk that is 1 or 2 (02, 2.10)
 unfoldable pub desk_allowed : Request → Bool
 desk_allowed r = within 1 desks r.desk
 
 -- 1: a kind that is one of them
 unfoldable pub kind_allowed : Request → Bool
-kind_allowed r = (rule_of r.kind).known
+kind_allowed r = within 1 12 r.kind
 
 -- 2: a side of the kind's
 unfoldable pub side_allowed : Request → Bool
-side_allowed r = in_range (rule_of r.kind).sides r.side
+side_allowed r = in_range (asked_of r.kind).sides r.side
 
 -- 3: a number that is not 0 where the kind names an aircraft, and that is 0 where it does not
 unfoldable pub number_allowed : Request → Bool
-number_allowed r = cond (rule_of r.kind).aircraft (not (eqb r.number 0)) (eqb r.number 0)
+number_allowed r = cond (asked_of r.kind).aircraft (not (eqb r.number 0)) (eqb r.number 0)
 
 -- 4: an amount of the kind's
 unfoldable pub amount_allowed : Request → Bool
-amount_allowed r = in_range (rule_of r.kind).amounts r.amount
+amount_allowed r = in_range (asked_of r.kind).amounts r.amount
 
 -- the number that refuses a request by itself: 31 before the others (02, 2.10), then 1 to 4 in order; 0 where none does
 unfoldable pub input_number : Request → ℕ

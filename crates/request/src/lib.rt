@@ -1,7 +1,7 @@
 // A request, as six bytes and by its parts, the rule of each kind, and the rules that turn a request away by itself: refusals 31 and 1 to 4.
 #![tactic(auto)]
 
-ghost use Rattle.std.specs.Prelude.{◌≡◌, true};
+ghost use Rattle.std.specs.Prelude.{◌≡◌, true, cond, not, eqb};
 ghost use Rattle.request.specs.Input.{word, request_of, range, in_range, rule_of, input_number};
 ghost use Rattle.refusals.specs.Refusals.{outcome_number};
 
@@ -23,10 +23,9 @@ pub struct Request {
 #[derive(Clone, Copy)]
 pub struct Range(pub u16, pub u16);
 
-// What a kind of request asks: that it is one of 1 to 12, its side, whether it means an aircraft, its amount, and the zones that it starts from.
+// What a kind of request asks: its side, whether it means an aircraft, its amount, and the zones that it starts from.
 #[derive(Clone, Copy)]
 pub struct KindRule {
-    pub known: bool,
     pub sides: Range,
     pub aircraft: bool,
     pub amounts: Range,
@@ -64,10 +63,9 @@ pub fn in_range(range: Range, n: usize) -> bool
 
 // The rule of a kind that takes an aircraft from one of the zones first to last: side 0, an aircraft's number, amount 0.
 fn move_rule(first: u16, last: u16) -> KindRule
-    ensures { result ≡ record { known = true; sides = range 0 0; aircraft = true; amounts = range 0 0; zones = range first last } }
+    ensures { result ≡ record { sides = range 0 0; aircraft = true; amounts = range 0 0; zones = range first last } }
 {
     KindRule {
-        known: true,
         sides: Range(0, 0),
         aircraft: true,
         amounts: Range(0, 0),
@@ -75,57 +73,56 @@ fn move_rule(first: u16, last: u16) -> KindRule
     }
 }
 
-// The rule of each kind: what its side, number and amount must be, and the zones that it starts from.
-pub fn rule_of(kind: u8) -> KindRule
+// The rule of each kind: what its side, number and amount must be, and the zones that it starts from; none where it is not one of 1 to 12.
+pub fn rule_of(kind: u8) -> Option<KindRule>
     ensures { result ≡ rule_of kind }
 {
     match kind {
-        1..=2 => KindRule {
-            known: true,
+        1..=2 => Some(KindRule {
             sides: Range(1, 2),
             aircraft: true,
             amounts: Range(1, FASTEST),
             zones: Range(1, 0),
-        },
-        3 => move_rule(1, 2),
-        4 => move_rule(3, 6),
-        5 => move_rule(9, 10),
-        6 | 9 => move_rule(11, 11),
-        7 | 10 => move_rule(12, 12),
-        8 => move_rule(13, 13),
-        11 => move_rule(7, 8),
-        12 => KindRule {
-            known: true,
+        }),
+        3 => Some(move_rule(1, 2)),
+        4 => Some(move_rule(3, 6)),
+        5 => Some(move_rule(9, 10)),
+        6 | 9 => Some(move_rule(11, 11)),
+        7 | 10 => Some(move_rule(12, 12)),
+        8 => Some(move_rule(13, 13)),
+        11 => Some(move_rule(7, 8)),
+        12 => Some(KindRule {
             sides: Range(0, 0),
             aircraft: false,
             amounts: Range(1, LONGEST_TICK),
             zones: Range(1, 0),
-        },
-        _ => KindRule {
-            known: false,
-            sides: Range(0, 0),
-            aircraft: true,
-            amounts: Range(0, 0),
-            zones: Range(1, 0),
-        },
+        }),
+        _ => None,
     }
 }
 
+// Whether a number is not 0 just where the rule's kind means an aircraft.
+fn number_fits(rule: KindRule, number: u16) -> bool
+    ensures { result ≡ cond rule.aircraft (not (eqb number 0)) (eqb number 0) }
+{
+    rule.aircraft == (number != 0)
+}
+
 // Why the request is turned away by itself, by the first input rule that it breaks; nothing where it keeps them all.
+#[tactic(auto, using(refusals::proofs::Outcomes::number_some), unfolding(refusals::specs::Refusals::number_of, crate::specs::Input::input_number, crate::specs::Input::desk_allowed, crate::specs::Input::kind_allowed, crate::specs::Input::side_allowed, crate::specs::Input::number_allowed, crate::specs::Input::amount_allowed))]
 pub fn check_input(r: Request) -> Result<(), Refusal>
     ensures { outcome_number result ≡ input_number r }
 {
-    let rule = rule_of(r.kind);
     require(
         in_range(Range(1, DESKS), r.desk as usize),
         Refusal::NoSuchDesk,
     )?;
-    require(rule.known, Refusal::NoSuchKind)?;
+    let rule = rule_of(r.kind).ok_or(Refusal::NoSuchKind)?;
     require(
         in_range(rule.sides, r.side as usize),
         Refusal::SideDoesNotFit,
     )?;
-    require(rule.aircraft == (r.number != 0), Refusal::NumberDoesNotFit)?;
+    require(number_fits(rule, r.number), Refusal::NumberDoesNotFit)?;
     require(
         in_range(rule.amounts, r.amount as usize),
         Refusal::AmountDoesNotFit,

@@ -1,6 +1,6 @@
 -- Document 01, "The requests" and "Turned away by the field": what each kind of request needs and does.
 use Rattle.std.specs.Prelude.{Bool, cond, not, ◌&&◌, ◌||◌, List, [], ◌∷◌, ℕ, eqb, leb, ltb, length}
-use Rattle.request.specs.Input.{within, in_range, is_entry, is_tick, rule_of}
+use Rattle.request.specs.Input.{within, in_range, is_entry, is_tick, asked_of}
 use Rattle.request.specs.declared.Request.{Request}
 use Rattle.field.specs.declared.Aircraft.{Aircraft}
 use Rattle.field.specs.declared.Sequence.{Sequence}
@@ -27,7 +27,7 @@ zone_ahead f r = leader_zone f r.number
 
 -- a zone that the kind starts from, by the rule of the kind
 unfoldable pub starts_from : ℕ → ℕ → Bool
-starts_from kind z = in_range (rule_of kind).zones z
+starts_from kind z = in_range (asked_of kind).zones z
 
 -- whether the aircraft at a place belongs to the desk, which let it in (02, 2.10)
 unfoldable pub belongs_to : Field → Place → ℕ → Bool

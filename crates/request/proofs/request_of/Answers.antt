@@ -1,1 +1,0 @@
--- `request::request_of` meets its contract. Assumes nothing.
