@@ -1,11 +1,11 @@
 // Document 01, "Turned away by the field": what each kind of request needs, in order (rules' specs/Kinds.antt).
-#![tactic(auto)]
+#![tactic(auto, using(refusals::proofs::Outcomes::number_some), unfolding(refusals::specs::Refusals::number_of, rules::specs::Kinds::starts_from, rules::specs::Kinds::belongs_to, rules::specs::Kinds::may_approach, rules::specs::Kinds::may_merge, rules::specs::Kinds::base_free))]
 
-ghost use Rattle.std.specs.Prelude.{◌≡◌, cond, ◌||◌, [], ◌∷◌, eqb};
-ghost use Rattle.request.specs.Input.{within, first_refused};
-ghost use Rattle.field.specs.Airspace.{at3000, at2000, lateral, missed};
-ghost use Rattle.questions.specs.Counts.{is_empty};
-ghost use Rattle.rules.specs.Kinds.{starts_from, belongs_to, head_checks, presence_checks, flown_out_check, may_approach, may_merge, base_free};
+ghost use Rattle.std.specs.Prelude.{◌≡◌, ◌||◌};
+ghost use Rattle.request.specs.Input.{within, in_range, first_refused};
+ghost use Rattle.refusals.specs.Refusals.{outcome_number};
+ghost use Rattle.questions.specs.Find.{is_first};
+ghost use Rattle.rules.specs.Kinds.{starts_from, belongs_to, head_checks, presence_checks, flown_out_check, may_approach, base_free};
 ghost use Rattle.rules.specs.Kinds.{vertical_needs, lateral_needs, descend_needs, approach_needs, merge_needs, flown_out_needs, land_needs, exit_needs};
 ghost use Rattle.rules.specs.Step.{needs_for, checks_for};
 
@@ -15,81 +15,57 @@ use field::{Field, Sequence};
 use questions::Place;
 use questions::counts::{approach_holds, how_many, is_empty, potential_of};
 use questions::find::{aircraft_at, is_first};
+use refusals::{Refusal, require};
 use request::{Range, Request, in_range, rule_of};
 
 // Whether a kind starts from a zone.
 fn starts_from(kind: u8, zone: u8) -> bool
     ensures { result ≡ starts_from kind zone }
 {
-    let rule = rule_of(kind);
-    in_range(rule.zones, zone as usize)
-}
-
-// The number of some needs with one more behind them: that of the first that is not met; 0 where all are.
-fn with_need(before: u16, number: u16, met: bool) -> u16
-    ensures { result ≡ cond (eqb before 0) (cond met 0 number) before }
-{
-    if before != 0 {
-        return before;
-    }
-    if met { 0 } else { number }
+    in_range(rule_of(kind).zones, zone as usize)
 }
 
 // Whether the aircraft at a place belongs to a desk.
 fn belongs_to(f: Field, at: Place, desk: u8) -> bool
     ensures { result ≡ belongs_to f at desk }
 {
-    let a = aircraft_at(f, at.zone as usize, at.place);
-    a.desk == desk
+    aircraft_at(f, at.zone as usize, at.place).desk == desk
 }
 
-// The first need of a request for an aircraft at the head of its zone, its desk's own or not, that is not met, by its number: 12, 26, 13 or
-// 14; 0 where all are.
-fn head_number(kind: u8, at: Place, own: bool) -> u16
-    ensures { result ≡ first_refused (head_checks kind at own) }
+// What a request needs of its aircraft, its desk's own or not: that it is on the field, its own, and the head of a zone that the kind starts from.
+fn head_needs(kind: u8, at: Place, own: bool) -> Result<(), Refusal>
+    ensures { outcome_number result ≡ first_refused (head_checks kind at own) }
 {
-    let zone = at.zone;
-    let place = at.place;
-    if zone == 0 {
-        return 12;
-    }
-    if !own {
-        return 26;
-    }
-    if !starts_from(kind, zone) {
-        return 13;
-    }
-    if place != 1 {
-        return 14;
-    }
-    0
+    require(at.zone != 0, Refusal::NotOnTheField)?;
+    require(own, Refusal::OfTheOtherDesk)?;
+    require(starts_from(kind, at.zone), Refusal::NotFromItsZone)?;
+    require(at.place == 1, Refusal::NotHeadOfItsZone)
 }
 
-// What a kind asks of where its aircraft is, its desk's own or not, by the number that refuses: 11 of an entry, 12, 26, 13 or 14 of kinds 3
-// to 11; 0 where it is met.
-fn presence_number(kind: u8, at: Place, own: bool) -> u16
-    ensures { result ≡ first_refused (presence_checks kind at own) }
+// What a kind needs of where its aircraft is, its desk's own or not: an entry that it is not on the field, a tick nothing, and kinds 3 to 11 what
+// head_needs says.
+fn presence_needs(kind: u8, at: Place, own: bool) -> Result<(), Refusal>
+    ensures { outcome_number result ≡ first_refused (presence_checks kind at own) }
 {
-    if in_range(Range(1, 2), kind as usize) {
-        return with_need(0, 11, at.zone == 0);
+    match kind {
+        1..=2 => require(at.zone == 0, Refusal::OnTheField),
+        12 => Ok(()),
+        _ => head_needs(kind, at, own),
     }
-    if kind == 12 {
-        return 0;
-    }
-    head_number(kind, at, own)
+}
+
+// Whether the aircraft with a number is first in a sequence, or its leader, who is in zone `ahead`, is in one of some zones.
+fn first_or_behind(s: Sequence, number: u16, ahead: usize, zones: Range) -> bool
+    ensures { result ≡ (is_first s number || in_range zones ahead) }
+{
+    is_first(s, number) || in_range(zones, ahead)
 }
 
 // Whether the aircraft with a number is first in a sequence, or its leader, who is in zone `ahead`, is on the approach.
 pub fn may_approach(s: Sequence, number: u16, ahead: usize) -> bool
     ensures { result ≡ may_approach s number ahead }
 {
-    if is_first(s, number) {
-        return true;
-    }
-    match ahead {
-        9..=12 => true,
-        _ => false,
-    }
+    first_or_behind(s, number, ahead, Range(9, 12))
 }
 
 // Whether the base opposite to a side holds at most one aircraft.
@@ -99,85 +75,57 @@ pub fn base_free(f: Field, side: u8) -> bool
     how_many(f, BASE + opposite(side) as usize) <= 1
 }
 
-// Whether the aircraft with a number is first in a sequence, or its leader, who is in zone `ahead`, is in intermediate or final.
-fn may_merge(s: Sequence, number: u16, ahead: usize) -> bool
-    ensures { result ≡ may_merge s number ahead }
-{
-    if is_first(s, number) {
-        return true;
-    }
-    match ahead {
-        11..=12 => true,
-        _ => false,
-    }
-}
-
-// What a vertical entry asks of the zones of its side: 18 missed occupied, 19 lateral, 20 both holdings; 0 where it is met.
-fn side_number(f: Field, side: u8) -> u16
-    ensures { result ≡ first_refused ((18, is_empty f (missed side)) ∷ (19, is_empty f (lateral side)) ∷ (20, is_empty f (at3000 side) || is_empty f (at2000 side)) ∷ []) }
+// Kind 1: what a vertical entry needs of the side that it names.
+fn vertical_needs(f: Field, side: u8) -> Result<(), Refusal>
+    ensures { outcome_number result ≡ first_refused (vertical_needs f side) }
 {
     let at = side as usize;
-    if !is_empty(f, MISSED + at) {
-        return 18;
-    }
-    if !is_empty(f, LATERAL + at) {
-        return 19;
-    }
-    if is_empty(f, at) {
-        return 0;
-    }
-    with_need(0, 20, is_empty(f, AT_2000 + at))
+    require(potential_of(f, side) < 2, Refusal::SideTaken)?;
+    require(!approach_holds(f, side), Refusal::SideIsAFixOnTheApproach)?;
+    require(is_empty(f, MISSED + at), Refusal::MissedZoneOccupied)?;
+    require(is_empty(f, LATERAL + at), Refusal::LateralZoneOccupied)?;
+    require(
+        is_empty(f, at) || is_empty(f, AT_2000 + at),
+        Refusal::BothHoldingsOccupied,
+    )
 }
 
-// Kind 1: the first need of a vertical entry from a side that is not met; 0 where all are.
-fn vertical_number(f: Field, side: u8) -> u16
-    ensures { result ≡ first_refused (vertical_needs f side) }
+// Kind 2: what a lateral entry needs of the side that it names.
+fn lateral_needs(f: Field, side: u8) -> Result<(), Refusal>
+    ensures { outcome_number result ≡ first_refused (lateral_needs f side) }
 {
-    if 2 <= potential_of(f, side) {
-        return 16;
-    }
-    if approach_holds(f, side) {
-        return 17;
-    }
-    side_number(f, side)
+    require(potential_of(f, side) == 0, Refusal::SideTaken)
 }
 
-// Kind 2: the need of a lateral entry from a side, where it is not met; 0 where it is.
-fn lateral_number(f: Field, side: u8) -> u16
-    ensures { result ≡ first_refused (lateral_needs f side) }
+// Kind 3: what a descent from a zone needs.
+fn descend_needs(f: Field, zone: u8) -> Result<(), Refusal>
+    ensures { outcome_number result ≡ first_refused (descend_needs f zone) }
 {
-    with_need(0, 16, potential_of(f, side) == 0)
-}
-
-// Kind 3: the need of a descent from a zone, where it is not met; 0 where it is.
-fn descend_number(f: Field, zone: u8) -> u16
-    ensures { result ≡ first_refused (descend_needs f zone) }
-{
-    with_need(0, 21, is_empty(f, AT_2000 + zone as usize))
+    require(is_empty(f, AT_2000 + zone as usize), Refusal::BelowOccupied)
 }
 
 // Whether a zone is a lateral zone.
 fn is_lateral(zone: u8) -> bool
     ensures { result ≡ within 5 6 zone }
 {
-    match zone {
-        5..=6 => true,
-        _ => false,
-    }
+    matches!(zone, 5..=6)
 }
 
-// Kind 4: the first need of an approach from a zone that is not met; 0 where both are, and from a lateral zone.
-fn approach_number(f: Field, number: u16, zone: u8, ahead: usize) -> u16
-    ensures { result ≡ first_refused (approach_needs f number zone ahead) }
+// Kind 4: what an approach from a zone needs; from a lateral zone nothing.
+fn approach_needs(f: Field, number: u16, zone: u8, ahead: usize) -> Result<(), Refusal>
+    ensures { outcome_number result ≡ first_refused (approach_needs f number zone ahead) }
 {
     if is_lateral(zone) {
-        return 0;
+        return Ok(());
     }
-    let s = f.sequence;
-    if !may_approach(s, number, ahead) {
-        return 22;
-    }
-    with_need(0, 23, base_free(f, side_of(zone as usize)))
+    require(
+        may_approach(f.sequence, number, ahead),
+        Refusal::NotFirstInSequence,
+    )?;
+    require(
+        base_free(f, side_of(zone as usize)),
+        Refusal::TwoOnTheOppositeBase,
+    )
 }
 
 // Whether the head of a zone has flown its own leg out.
@@ -187,65 +135,62 @@ fn has_flown_out(f: Field, zone: u8) -> bool
     leg_flown_out(aircraft_at(f, zone as usize, 1))
 }
 
-// Kinds 6 and 11: the need of a request from the end of a leg, where it is not met; 0 where it is.
-fn flown_out_number(f: Field, zone: u8) -> u16
-    ensures { result ≡ first_refused (flown_out_needs f zone) }
+// Kinds 6 and 11: what a request from the end of a leg needs.
+fn flown_out_needs(f: Field, zone: u8) -> Result<(), Refusal>
+    ensures { outcome_number result ≡ first_refused (flown_out_needs f zone) }
 {
-    with_need(0, 15, has_flown_out(f, zone))
+    require(has_flown_out(f, zone), Refusal::LegNotFlownOut)
 }
 
-// Kind 5: the first need of a merge that is not met, the leg flown out and then the sequence; 0 where both are.
-fn merge_number(f: Field, number: u16, zone: u8, ahead: usize) -> u16
-    ensures { result ≡ first_refused (merge_needs f number zone ahead) }
+// Kind 5: what a merge needs, the leg flown out and then its turn in the sequence.
+fn merge_needs(f: Field, number: u16, zone: u8, ahead: usize) -> Result<(), Refusal>
+    ensures { outcome_number result ≡ first_refused (merge_needs f number zone ahead) }
 {
-    let s = f.sequence;
-    with_need(flown_out_number(f, zone), 22, may_merge(s, number, ahead))
+    flown_out_needs(f, zone)?;
+    require(
+        first_or_behind(f.sequence, number, ahead, Range(11, 12)),
+        Refusal::NotFirstInSequence,
+    )
 }
 
-// Kind 7: the first need of a landing that is not met, the leg flown out and then the runway; 0 where both are.
-fn land_number(f: Field, zone: u8) -> u16
-    ensures { result ≡ first_refused (land_needs f zone) }
+// Kind 7: what a landing needs, the leg flown out and then the runway.
+fn land_needs(f: Field, zone: u8) -> Result<(), Refusal>
+    ensures { outcome_number result ≡ first_refused (land_needs f zone) }
 {
-    with_need(flown_out_number(f, zone), 24, is_empty(f, RUNWAY))
+    flown_out_needs(f, zone)?;
+    require(is_empty(f, RUNWAY), Refusal::RunwayOccupied)
 }
 
-// Kind 9: the first need of an exit that is not met, the leg flown out and then the sequence; 0 where both are.
-fn exit_number(f: Field, number: u16, zone: u8) -> u16
-    ensures { result ≡ first_refused (exit_needs f number zone) }
+// Kind 9: what an exit needs, the leg flown out and then to be the first in the sequence.
+fn exit_needs(f: Field, number: u16, zone: u8) -> Result<(), Refusal>
+    ensures { outcome_number result ≡ first_refused (exit_needs f number zone) }
 {
-    let s = f.sequence;
-    let flown = has_flown_out(f, zone);
-    let first = is_first(s, number);
-    with_need(with_need(0, 15, flown), 22, first)
+    require(has_flown_out(f, zone), Refusal::LegNotFlownOut)?;
+    require(is_first(f.sequence, number), Refusal::NotFirstInSequence)
 }
 
-// The first need that a kind has besides and the field does not meet, of a request whose aircraft is at a place and its leader in zone
-// `ahead`; 0 where all are met.
-fn needs_number(f: Field, r: Request, at: Place, ahead: usize) -> u16
-    ensures { result ≡ first_refused (needs_for r.kind f r at ahead) }
+// What a request's kind needs besides, with its aircraft at a place and its leader in zone `ahead`.
+fn needs_for(f: Field, r: Request, at: Place, ahead: usize) -> Result<(), Refusal>
+    ensures { outcome_number result ≡ first_refused (needs_for r.kind f r at ahead) }
 {
-    let kind = r.kind;
-    match kind {
-        1 => vertical_number(f, r.side),
-        2 => lateral_number(f, r.side),
-        3 => descend_number(f, at.zone),
-        4 => approach_number(f, r.number, at.zone, ahead),
-        5 => merge_number(f, r.number, at.zone, ahead),
-        6 | 11 => flown_out_number(f, at.zone),
-        7 => land_number(f, at.zone),
-        9 => exit_number(f, r.number, at.zone),
-        _ => 0,
+    match r.kind {
+        1 => vertical_needs(f, r.side),
+        2 => lateral_needs(f, r.side),
+        3 => descend_needs(f, at.zone),
+        4 => approach_needs(f, r.number, at.zone, ahead),
+        5 => merge_needs(f, r.number, at.zone, ahead),
+        6 | 11 => flown_out_needs(f, at.zone),
+        7 => land_needs(f, at.zone),
+        9 => exit_needs(f, r.number, at.zone),
+        _ => Ok(()),
     }
 }
 
-// The first need of a request whose aircraft is at a place, and its leader in zone `ahead`, that the field does not meet; 0 where all are met.
-pub fn check_number(f: Field, r: Request, at: Place, ahead: usize) -> u16
-    ensures { result ≡ first_refused (checks_for r.kind f r at ahead) }
+// Why the field refuses a request, with its aircraft at a place and its leader in zone `ahead`, by the first need that it does not meet; nothing
+// where it meets them all.
+pub fn check_needs(f: Field, r: Request, at: Place, ahead: usize) -> Result<(), Refusal>
+    ensures { outcome_number result ≡ first_refused (checks_for r.kind f r at ahead) }
 {
-    let own = belongs_to(f, at, r.desk);
-    let n = presence_number(r.kind, at, own);
-    if n != 0 {
-        return n;
-    }
-    needs_number(f, r, at, ahead)
+    presence_needs(r.kind, at, belongs_to(f, at, r.desk))?;
+    needs_for(f, r, at, ahead)
 }

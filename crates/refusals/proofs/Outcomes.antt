@@ -3,7 +3,8 @@ use mathlib.Core.Path.{◌≡◌, refl, sym, ap, ◌∙◌}
 use mathlib.Core.Bool.{Bool, true, false, cond}
 use Prim.Native.Nat.{ℕ, ◌≤◌}
 use native.Mathlib.Nat.{ne_of_gt}
-use lib.Dec.{T, leb, leb→le}
+use lib.Dec.{T, leb, eqb, leb→le}
+use borrow.Author.Tests.{ne_eqb}
 use Rattle.std.specs.Prelude.{Result}
 use Rattle.std.specs.Result.{IsErrAnd}
 use Rattle.std.proofs.lemmas.Result.{err_from_is_err_and}
@@ -50,6 +51,10 @@ number_known e = leb→le 1 (number_of e) (numbered e)
 pub number_some : (e : Refusal) → number_of e ≡ 0 → ⊥
 number_some e = ne_of_gt (number_known e)
 
+-- the number m of a reason is not 0
+pub number_not0 : (e : Refusal) {m : ℕ} → number_of e ≡ m → eqb m 0 ≡ false
+number_not0 e {m} h = ne_eqb m 0 (λ z. number_some e (h ∙ z))
+
 -- ---- at a `?`: a test t with the number n, which a callee has asked as b, and x where it is met
 -- it is not met: the callee's refusal is returned
 pub unmet : {A : Type 0} {b t : Bool} (n : ℕ) (x : ℕ) (p : Result A Refusal) (e : Refusal) → number_of e ≡ cond b 0 n → b ≡ t → IsErrAnd p (λ y. y ≡ e)
@@ -73,3 +78,12 @@ met {t = t} {x = x} n some h g r = r ∙ go t (h ∙ ap (λ (s : Bool). cond s 0
 -- the last test: what the callee yields is returned
 pub last : {b t : Bool} {y : ℕ} (n : ℕ) → y ≡ cond b 0 n → b ≡ t → y ≡ cond t 0 n
 last n h g = h ∙ ap (λ (s : Bool). cond s 0 n) g
+
+-- ---- at a `?`: several tests, whose number m a callee has found, and x where it is 0
+pub refused : {A : Type 0} {m : ℕ} (x : ℕ) (p : Result A Refusal) (e : Refusal) → number_of e ≡ m → IsErrAnd p (λ y. y ≡ e) → outcome_number p ≡ cond (eqb m 0) x m
+refused {m = m} x p e h f =
+    let returned = err_from_is_err_and p f in
+    ap outcome_number (returned.1) ∙ ap number_of (returned.2) ∙ h ∙ sym (ap (λ (t : Bool). cond t x m) (number_not0 e h))
+
+pub kept : {m x y : ℕ} → 0 ≡ m → y ≡ x → y ≡ cond (eqb m 0) x m
+kept {m} {x} h r = r ∙ ap (λ (k : ℕ). cond (eqb k 0) x k) h
