@@ -1,14 +1,16 @@
 // A field with an index beside it, and the step of any request on it: the look-ups go through the index (specs/Indexed.antt).
 #![tactic(auto)]
 
-ghost use Rattle.std.specs.Prelude.{◌≡◌, true, false, cond, T, eqb};
-ghost use Rattle.request.specs.Input.{within, input_number};
+ghost use Rattle.std.specs.Prelude.{◌≡◌, cond, T, eqb};
+ghost use Rattle.request.specs.Input.{within};
 ghost use Rattle.questions.specs.Find.{leader_of};
 ghost use Rattle.bounds.specs.Bounds.{within_bounds};
 ghost use Rattle.finder.specs.Finder.{index_of, found_in, within_bounds_indexed};
 ghost use Rattle.kept_up.specs.KeptUp.{kept_up};
-ghost use Rattle.rules.specs.Step.{number_of, number_and_zeros, acceptance_on};
+ghost use Rattle.rules.specs.Step.{number_and_zeros, acceptance_on};
+ghost use Rattle.step.specs.Outcomes.{JudgesBefore, JudgesAfter};
 ghost use Rattle.indexed.specs.Indexed.{with_index, number_indexed, step_indexed};
+ghost use Rattle.indexed.specs.Outcomes.{step_by};
 
 use bounds::within_bounds;
 use effects::effect;
@@ -16,10 +18,11 @@ use field::airspace::side_of;
 use field::zones::{AT_2000, BASE, FINAL};
 use field::{Field, Sequence};
 use finder::{Entry, Index, Indexed, find, index_of, within_bounds_indexed};
-use kept_up::{kept_up, leads_to, led_to};
-use needs::check_number;
+use kept_up::{Situation, kept_up, led_to};
+use needs::check_needs;
 use questions::find::leader_of;
-use request::{Request, input_number};
+use refusals::{Refusal, require};
+use request::{Request, check_input};
 use rules::Answer;
 use step::{acceptance, along_of, number_and_zeros};
 
@@ -61,12 +64,8 @@ fn turned_away(x: Indexed, number: u16) -> SteppedIndexed
 fn zone_ahead(index: Index, s: Sequence, r: Request) -> usize
     ensures { result ≡ cond (within 4 5 r.kind) (found_in index (leader_of s r.number)).zone 0 }
 {
-    let kind = r.kind;
-    match kind {
-        4..=5 => {
-            let at = find(index, leader_of(s, r.number));
-            at.zone as usize
-        }
+    match r.kind {
+        4..=5 => find(index, leader_of(s, r.number)).zone as usize,
         _ => 0,
     }
 }
@@ -77,19 +76,16 @@ fn answered(index: Index, g: Field, r: Request, along: u16, from: u8, to: Entry)
     requires { T (within_bounds g) × (r.kind ≡ 12 → index ≡ index_of g) × ((r.kind ≡ 12 → ⊥) → kept_up from to index ≡ index_of g) }
     ensures { result ≡ record { answer = cond (eqb r.kind 12) (number_and_zeros 0) (acceptance_on g r along); index = index_of g } }
 {
-    let kind = r.kind;
-    if kind == 12 {
+    if r.kind == 12 {
         return AnswerAndIndex {
             answer: number_and_zeros(0),
-            index: index,
+            index,
         };
     }
-    let number = r.number;
-    let s = g.sequence;
     let made = kept_up(index, from, to);
-    let ahead = find(made, leader_of(s, number));
+    let ahead = find(made, leader_of(g.sequence, r.number));
     AnswerAndIndex {
-        answer: acceptance(g, find(made, number), ahead, r, along),
+        answer: acceptance(g, find(made, r.number), ahead, r, along),
         index: made,
     }
 }
@@ -98,64 +94,71 @@ fn answered(index: Index, g: Field, r: Request, along: u16, from: u8, to: Entry)
 fn accepted(a: AnswerAndIndex, g: Field) -> SteppedIndexed
     ensures { result ≡ record { answer = a.answer; after = record { field = g; index = a.index } } }
 {
-    let answer = a.answer;
-    let index = a.index;
     SteppedIndexed {
-        answer: answer,
+        answer: a.answer,
         after: Indexed {
             field: g,
-            index: index,
+            index: a.index,
         },
     }
 }
 
-// The step of a request that keeps the input rules on a field within the bounds with its own index. The field after it is judged, or the caller
-// has shown that 25 is not its number.
-fn step_by_index(x: Indexed, r: Request, judged: bool) -> SteppedIndexed
-    requires r_value { (input_number r ≡ 0) × T (within_bounds_indexed x) }
-    requires fact { judged ≡ false → number_of x.field r ≡ 25 → ⊥ }
-    ensures { result ≡ step_indexed x r }
+// The step of a request, or the reason that refuses it. Whether the field with its index is within the bounds is asked of one judge, and whether the field
+// after it is of another: a caller who has shown the answer gives it.
+fn step_by_index<B: Fn(Indexed) -> bool, A: Fn(Field) -> bool>(
+    x: Indexed,
+    r: Request,
+    judge_before: B,
+    judge_after: A,
+) -> Result<SteppedIndexed, Refusal>
+    requires callable { B.IsAlwaysCallable judge_before × A.IsAlwaysCallable judge_after }
+    requires before { JudgesBefore (B.post judge_before) within_bounds_indexed x r }
+    requires after { JudgesAfter (A.post judge_after) x.field r }
+    ensures { step_by x result ≡ step_indexed x r }
 {
+    check_input(r)?;
+    require(judge_before(x), Refusal::BoundBroken)?;
     let f = x.field;
     let index = x.index;
     let at = find(index, r.number);
     let ahead = zone_ahead(index, f.sequence, r);
-    let need = check_number(f, r, at, ahead);
-    if need != 0 {
-        return turned_away(x, need);
-    }
+    check_needs(f, r, at, ahead)?;
     let zone = at.zone;
     let along = along_of(f, r, zone);
     let final_zone = f.zones[FINAL - 1];
     let first = final_zone.aircraft[0];
     let side = side_of(zone as usize) as usize;
-    let across = f.zones[BASE + 2 - side].length;
-    let above = f.zones[side - 1].length;
-    let below = f.zones[AT_2000 + side - 1].length;
-    let to = leads_to(r, zone, f.sequence, ahead, across, above, below, first.fix);
+    let situation = Situation {
+        zone,
+        ahead,
+        across: f.zones[BASE + 2 - side].length,
+        above: f.zones[side - 1].length,
+        below: f.zones[AT_2000 + side - 1].length,
+        fix: first.fix,
+    };
+    let to = situation.leads_to(r, f.sequence);
     let there = f.zones[to - 1].length;
     let g = effect(f, r, zone, ahead);
-    if judged {
-        if !within_bounds(g) {
-            return turned_away(x, 25);
-        }
-    }
+    require(judge_after(g), Refusal::BoundWouldBreak)?;
     let led = led_to(r.kind, r.number, to as u8, (there + 1) as u8);
-    accepted(answered(index, g, r, along, zone, led), g)
+    Ok(accepted(answered(index, g, r, along, zone, led), g))
+}
+
+// The step that an outcome stands for.
+fn stepped(x: Indexed, outcome: Result<SteppedIndexed, Refusal>) -> SteppedIndexed
+    ensures { result ≡ step_by x outcome }
+{
+    match outcome {
+        Ok(s) => s,
+        Err(refusal) => turned_away(x, refusal.number()),
+    }
 }
 
 // The step: the answer to a request, and the field with its index after it. Both are judged before, and the field after.
 pub fn step_indexed(x: Indexed, r: Request) -> SteppedIndexed
     ensures { result ≡ step_indexed x r }
 {
-    let input = input_number(r);
-    if input != 0 {
-        return turned_away(x, input);
-    }
-    if !within_bounds_indexed(x) {
-        return turned_away(x, 10);
-    }
-    step_by_index(x, r, true)
+    stepped(x, step_by_index(x, r, within_bounds_indexed, within_bounds))
 }
 
 // The same step, for a caller who has shown that neither 10 nor 25 is its number: nothing is judged, and the index is not compared with the queues.
@@ -163,9 +166,5 @@ pub fn step_indexed_unjudged(x: Indexed, r: Request) -> SteppedIndexed
     requires { (number_indexed x r ≡ 10 → ⊥) × (number_indexed x r ≡ 25 → ⊥) }
     ensures { result ≡ step_indexed x r }
 {
-    let input = input_number(r);
-    if input != 0 {
-        return turned_away(x, input);
-    }
-    step_by_index(x, r, false)
+    stepped(x, step_by_index(x, r, |_| true, |_| true))
 }

@@ -2,10 +2,16 @@
 use mathlib.Core.Path.{◌≡◌, refl, sym, ap, ◌∙◌}
 use mathlib.Core.Logic.{inl, inr}
 use mathlib.Core.List.{[], ◌∷◌}
-use mathlib.Core.Bool.{true, cond}
+use mathlib.Core.Bool.{Bool, true, false, cond}
 use Prim.Native.Nat.{ℕ}
 use lib.Dec.{eqb}
-use borrow.Author.Tests.{eq-eqb, ne_eqb, eqb-true, eqb-false}
+use borrow.Author.Tests.{eq-eqb, ne_eqb}
+use Rattle.std.specs.Prelude.{Result}
+use Rattle.std.specs.Result.{IsErrAnd}
+use Rattle.std.proofs.lemmas.Result.{err_from_is_err_and}
+use Rattle.refusals.specs.declared.Refusal.{Refusal}
+use Rattle.refusals.specs.Refusals.{number_of as refusal_number}
+use Rattle.refusals.proofs.Outcomes.{number_some}
 use Rattle.request.specs.Input.{within, first_refused, input_number}
 use Rattle.request.specs.declared.Request.{Request}
 use Rattle.field.specs.declared.Field.{Field}
@@ -13,10 +19,11 @@ use Rattle.bounds.specs.Bounds.{within_bounds}
 use Rattle.questions.specs.declared.Place.{Place}
 use Rattle.rules.specs.Kinds.{place_before, zone_before, zone_ahead}
 use Rattle.rules.specs.Step.{checks_for, effect_for, checks_of, effect_of, number_of, number_and_zeros, answer_of, step_of}
-use Rattle.field.proofs.TestLaws.{decided, if_true, if_false, either_way}
+use Rattle.field.proofs.TestLaws.{decided, if_true, if_false}
+use Rattle.field.proofs.TestParts.{is_not}
 use Rattle.rules.specs.declared.Stepped.{Stepped}
-use Rattle.rules.proofs.StepLaws.{answer_number}
 use Rattle.rules.proofs.Checks.{refused_append, checks_refuse, checks_ahead, effect_ahead}
+use Rattle.step.specs.Outcomes.{step_by}
 
 module _ (f : Field) (r : Request) where
   -- the number, test by test
@@ -45,54 +52,58 @@ module _ (f : Field) (r : Request) where
   let_through e =
       sym (ap (λ (m : ℕ). cond (eqb m 0) (record { answer = answer_of f r; field = effect_of f r }) (record { answer = number_and_zeros m; field = f })) e)
 
-  -- what the request does to a field that is judged
-  abbrev pub unjudged_step : Stepped
-  unjudged_step =
-      cond (eqb (first_refused (checks_of f r)) 0) (record { answer = answer_of f r; field = effect_of f r })
-      (record { answer = number_and_zeros (first_refused (checks_of f r)); field = f })
+  -- the number where the input rules are broken, ..
+  pub number_input : {n : ℕ} → n ≡ input_number r → (n ≡ 0 → ⊥) → number_of f r ≡ n
+  number_input e h = number_by ∙ if_false _ _ (is_not e h) ∙ sym e
 
-  -- its number is that of the first need that is not met, ..
-  pub unjudged_number : unjudged_step.answer.number ≡ first_refused (checks_of f r)
-  unfolding number_and_zeros
-  unjudged_number =
-      either_way (λ (s : Stepped). s.answer.number ≡ first_refused (checks_of f r)) (eqb (first_refused (checks_of f r)) 0) _ _
-      (λ e. answer_number f r ∙ sym (eqb-true (first_refused (checks_of f r)) 0 e))
-      (λ e. refl)
+  module _ (i : input_number r ≡ 0) where
+    -- .. where the field breaks a bound, ..
+    pub number_before : within_bounds f ≡ false → number_of f r ≡ 10
+    number_before w = number_by ∙ if_true _ _ (eq-eqb (input_number r) 0 i) ∙ if_false _ _ w
 
-  -- .. its field where all are met is the field after the effect, ..
-  pub unjudged_field : first_refused (checks_of f r) ≡ 0 → unjudged_step.field ≡ effect_of f r
-  unjudged_field e =
-      ap (λ (s : Stepped). s.field) (if_true (record { answer = answer_of f r; field = effect_of f r })
-      (record { answer = number_and_zeros (first_refused (checks_of f r)); field = f }) (eq-eqb (first_refused (checks_of f r)) 0 e))
+    module _ (w : within_bounds f ≡ true) where
+      -- .. where a need is not met, ..
+      pub number_need : {n : ℕ} → n ≡ first_refused (checks_of f r) → (n ≡ 0 → ⊥) → number_of f r ≡ n
+      number_need e h = number_by ∙ if_true _ _ (eq-eqb (input_number r) 0 i) ∙ if_true _ _ w ∙ if_false _ _ (is_not e h) ∙ sym e
 
-  -- .. and it is the step, of a field within the bounds that stays within them
-  pub unjudged_is_step : input_number r ≡ 0 → within_bounds f ≡ true → (first_refused (checks_of f r) ≡ 0 → within_bounds (effect_of f r) ≡ true) → unjudged_step ≡ step_of f r
-  unjudged_is_step i w g =
-      let n = first_refused (checks_of f r) in
-      let first = number_by ∙ if_true _ _ (eq-eqb (input_number r) 0 i) ∙ if_true _ _ w in
-      elim (decided (eqb n 0)) [
-        | inl e ↦ if_true _ _ e ∙ let_through (first ∙ if_true _ _ e ∙ if_true _ _ (g (eqb-true n 0 e)))
-        | inr e ↦ if_false _ _ e ∙ turned_away (first ∙ if_false _ _ e) (eqb-false n 0 e)
-      ]
+      -- .. and where all are met, by the field after the effect
+      pub number_after : {b : Bool} → first_refused (checks_of f r) ≡ 0 → within_bounds (effect_of f r) ≡ b → number_of f r ≡ cond b 0 25
+      number_after m e =
+          number_by
+          ∙ if_true _ _ (eq-eqb (input_number r) 0 i)
+          ∙ if_true _ _ w
+          ∙ if_true _ _ (eq-eqb (first_refused (checks_of f r)) 0 m)
+          ∙ ap (λ (b : Bool). cond b 0 25) e
 
-  -- a number that is neither 10 nor 25, of a request that keeps the input rules
-  module _ (i : input_number r ≡ 0) (not_10 : number_of f r ≡ 10 → ⊥) (not_25 : number_of f r ≡ 25 → ⊥) where
-    within_before : within_bounds f ≡ true
-    within_before =
+    -- the bounds before and after, of a number that is neither 10 nor 25
+    pub within_before : (number_of f r ≡ 10 → ⊥) → within_bounds f ≡ true
+    within_before not_10 =
         elim (decided (within_bounds f)) [
           | inl e ↦ e
-          | inr e ↦ absurd (not_10 (number_by ∙ if_true _ _ (eq-eqb (input_number r) 0 i) ∙ if_false _ _ e))
+          | inr e ↦ absurd (not_10 (number_before e))
         ]
 
-    within_after : first_refused (checks_of f r) ≡ 0 → within_bounds (effect_of f r) ≡ true
-    within_after n =
+    pub within_after : (number_of f r ≡ 25 → ⊥) → within_bounds f ≡ true → first_refused (checks_of f r) ≡ 0 → within_bounds (effect_of f r) ≡ true
+    within_after not_25 w m =
         elim (decided (within_bounds (effect_of f r))) [
           | inl e ↦ e
-          | inr e ↦ absurd (not_25 (number_by ∙ if_true _ _ (eq-eqb (input_number r) 0 i) ∙ if_true _ _ within_before ∙ if_true _ _ (eq-eqb (first_refused (checks_of f r)) 0 n) ∙ if_false _ _ e))
+          | inr e ↦ absurd (not_25 (number_after w m e))
         ]
 
-    pub neither_is_step : unjudged_step ≡ step_of f r
-    neither_is_step = unjudged_is_step i within_before within_after
+  -- the step of a refusal that a `?` hands on
+  pub refused : (p : Result Stepped Refusal) (e : Refusal) → IsErrAnd p (λ y. y ≡ e) → number_of f r ≡ refusal_number e → step_by f p ≡ step_of f r
+  refused p e h k =
+      let q = err_from_is_err_and p h in
+      ap (step_by f) q.1 ∙ ap (λ (d : Refusal). record { answer = number_and_zeros (refusal_number d); field = f }) q.2 ∙ turned_away k (number_some e)
+
+-- a test that was asked, and refuses with the number n where it fails
+pub not_met : (b : Bool) {n : ℕ} (e : Refusal) → refusal_number e ≡ cond b 0 n → (b ≡ false) × (refusal_number e ≡ n)
+not_met true e h = absurd (number_some e h)
+not_met false e h = (refl, h)
+
+pub was_met : (b : Bool) {n : ℕ} → 0 ≡ cond b 0 n → (n ≡ 0 → ⊥) → b ≡ true
+was_met true h k = refl
+was_met false h k = absurd (k (sym h))
 
 -- ---- what is found once and handed on
 

@@ -2,19 +2,21 @@
 #![tactic(auto)]
 
 ghost use Rattle.std.specs.Prelude.{◌≡◌, cond, T, eqb};
-ghost use Rattle.request.specs.Input.{within, first_refused, input_number};
+ghost use Rattle.request.specs.Input.{within};
 ghost use Rattle.bounds.specs.Bounds.{within_bounds};
 ghost use Rattle.rules.specs.Kinds.{zone_ahead};
-ghost use Rattle.rules.specs.Step.{checks_of, effect_of, number_of, number_and_zeros, acceptance, acceptance_on, along_for, answer_of, step_of};
+ghost use Rattle.rules.specs.Step.{number_of, number_and_zeros, acceptance, acceptance_on, along_for, step_of};
+ghost use Rattle.step.specs.Outcomes.{JudgesBefore, JudgesAfter, step_by};
 
 use bounds::within_bounds;
 use effects::{effect, shown_at_3000, shown_to};
 use field::Field;
 use field::airspace::side_of;
-use needs::check_number;
+use needs::check_needs;
 use questions::Place;
 use questions::find::{aircraft_at, leader_of, leader_zone, place_of};
-use request::{Request, input_number};
+use refusals::{Refusal, require};
+use request::{Request, check_input};
 use rules::{Answer, Stepped};
 
 // The answer that has a number, and zeros.
@@ -22,7 +24,7 @@ pub fn number_and_zeros(number: u16) -> Answer
     ensures { result ≡ number_and_zeros number }
 {
     Answer {
-        number: number,
+        number,
         aircraft: 0,
         zone: 0,
         fix: 0,
@@ -43,7 +45,7 @@ pub fn acceptance(f: Field, at: Place, ahead: Place, r: Request, along: u16) -> 
         zone: at.zone as usize,
         fix: a.fix,
         leader: shown_to(r.desk, b),
-        along: along,
+        along,
     }
 }
 
@@ -52,8 +54,7 @@ pub fn acceptance(f: Field, at: Place, ahead: Place, r: Request, along: u16) -> 
 pub fn along_of(f: Field, r: Request, zone: u8) -> u16
     ensures { result ≡ along_for r.kind f r zone }
 {
-    let kind = r.kind;
-    match kind {
+    match r.kind {
         1 => shown_at_3000(f, r.desk, r.side),
         11 => shown_at_3000(f, r.desk, side_of(zone as usize)),
         _ => 0,
@@ -67,23 +68,15 @@ fn answer(g: Field, r: Request, along: u16) -> Answer
     if r.kind == 12 {
         return number_and_zeros(0);
     }
-    let number = r.number;
-    let s = g.sequence;
-    acceptance(
-        g,
-        place_of(g, number),
-        place_of(g, leader_of(s, number)),
-        r,
-        along,
-    )
+    let ahead = leader_of(g.sequence, r.number);
+    acceptance(g, place_of(g, r.number), place_of(g, ahead), r, along)
 }
 
 // The zone of the leader of a request's aircraft, where its kind asks for it; else 0.
 fn zone_ahead(f: Field, r: Request) -> usize
     ensures { result ≡ cond (within 4 5 r.kind) (zone_ahead f r) 0 }
 {
-    let kind = r.kind;
-    match kind {
+    match r.kind {
         4..=5 => leader_zone(f, r.number),
         _ => 0,
     }
@@ -99,55 +92,48 @@ pub fn turned_away(f: Field, number: u16) -> Stepped
     }
 }
 
-// What a request that keeps the input rules does to a field that is judged: the first need that is not met refuses it, else it takes effect.
-fn unjudged(f: Field, r: Request) -> Stepped
-    ensures { result ≡ cond (eqb (first_refused (checks_of f r)) 0) (record { answer = answer_of f r; field = effect_of f r })
-        (record { answer = number_and_zeros (first_refused (checks_of f r)); field = f }) }
+// The step of a request, or the reason that refuses it. Whether the field is within the bounds is asked of one judge, and whether the field after it is
+// of another: a caller who has shown the answer gives it.
+fn course<B: Fn(Field) -> bool, A: Fn(Field) -> bool>(
+    f: Field,
+    r: Request,
+    judge_before: B,
+    judge_after: A,
+) -> Result<Stepped, Refusal>
+    requires callable { B.IsAlwaysCallable judge_before × A.IsAlwaysCallable judge_after }
+    requires before { JudgesBefore (B.post judge_before) within_bounds f r }
+    requires after { JudgesAfter (A.post judge_after) f r }
+    ensures { step_by f result ≡ step_of f r }
 {
+    check_input(r)?;
+    require(judge_before(f), Refusal::BoundBroken)?;
     let at = place_of(f, r.number);
     let ahead = zone_ahead(f, r);
-    let need = check_number(f, r, at, ahead);
-    if need != 0 {
-        return turned_away(f, need);
-    }
-    let zone = at.zone;
-    let along = along_of(f, r, zone);
-    let g = effect(f, r, zone, ahead);
-    Stepped {
+    check_needs(f, r, at, ahead)?;
+    let along = along_of(f, r, at.zone);
+    let g = effect(f, r, at.zone, ahead);
+    require(judge_after(g), Refusal::BoundWouldBreak)?;
+    Ok(Stepped {
         answer: answer(g, r, along),
         field: g,
-    }
+    })
 }
 
-// The step of a request that keeps the input rules on a field within the bounds: the field after it is judged.
-fn judged_after(f: Field, r: Request) -> Stepped
-    requires { (input_number r ≡ 0) × T (within_bounds f) }
-    ensures { result ≡ step_of f r }
+// The step that an outcome stands for.
+fn stepped(f: Field, outcome: Result<Stepped, Refusal>) -> Stepped
+    ensures { result ≡ step_by f outcome }
 {
-    let s = unjudged(f, r);
-    let a = s.answer;
-    if a.number != 0 {
-        return s;
+    match outcome {
+        Ok(s) => s,
+        Err(refusal) => turned_away(f, refusal.number()),
     }
-    let g = s.field;
-    if !within_bounds(g) {
-        return turned_away(f, 25);
-    }
-    s
 }
 
 // The step: the answer to a request and the field after it. The field is judged before and after.
 pub fn step(f: Field, r: Request) -> Stepped
     ensures { result ≡ step_of f r }
 {
-    let input = input_number(r);
-    if input != 0 {
-        return turned_away(f, input);
-    }
-    if !within_bounds(f) {
-        return turned_away(f, 10);
-    }
-    judged_after(f, r)
+    stepped(f, course(f, r, within_bounds, within_bounds))
 }
 
 // The same step, for a caller who has shown that the field is within the bounds: only the field after it is judged.
@@ -155,11 +141,7 @@ pub fn step_within(f: Field, r: Request) -> Stepped
     requires { T (within_bounds f) }
     ensures { result ≡ step_of f r }
 {
-    let input = input_number(r);
-    if input != 0 {
-        return turned_away(f, input);
-    }
-    judged_after(f, r)
+    stepped(f, course(f, r, |_| true, within_bounds))
 }
 
 // The same step, for a caller who has shown that neither 10 nor 25 is its number: the field is not judged.
@@ -167,9 +149,5 @@ pub fn step_unjudged(f: Field, r: Request) -> Stepped
     requires { (number_of f r ≡ 10 → ⊥) × (number_of f r ≡ 25 → ⊥) }
     ensures { result ≡ step_of f r }
 {
-    let input = input_number(r);
-    if input != 0 {
-        return turned_away(f, input);
-    }
-    unjudged(f, r)
+    stepped(f, course(f, r, |_| true, |_| true))
 }

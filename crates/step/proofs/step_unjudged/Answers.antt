@@ -1,17 +1,17 @@
 -- `step::step_unjudged` meets its contract: a number that is neither 10 nor 25 says that the bounds hold before and after. Assumes nothing.
-use mathlib.Core.Path.{sym, ◌∙◌}
-use Rattle.field.proofs.TestParts.{is_not}
-use Rattle.field.proofs.TestLaws.{if_false}
-use Rattle.step.proofs.StepsByTests.{number_by, turned_away, neither_is_step}
+use mathlib.Core.Path.{◌≡◌, sym, ap, ◌∙◌}
+use mathlib.Core.Bool.{true}
+use borrow.Author.Rules.{rules}
+use Rattle.bounds.specs.Bounds.{within_bounds}
+use Rattle.step.proofs.StepsByTests.{within_before, within_after}
 use Rattle.step.proofs.step_unjudged.Goals as goal
 
-pub returns-then-input-ne0 : goal.returns-then-input-ne0
-returns-then-input-ne0 c =
+pub course-requires-clause-before : goal.course-requires-clause-before
+course-requires-clause-before c =
     let a = c.args in
-    let input = c.input_number-input.ensures in
-    let first = number_by a.f a.r ∙ if_false _ _ (is_not input c.if-input-ne0.true) ∙ sym input in
-    c.turned_away.ensures ∙ turned_away a.f a.r first c.if-input-ne0.true
+    λ i b said. let yes : b ≡ true = search rules in yes ∙ sym (within_before a.f a.r i c.requires.0)
 
-pub returns : goal.returns
-returns c =
-    c.unjudged.ensures ∙ neither_is_step c.args.f c.args.r (sym c.input_number-input.ensures ∙ c.if-input-ne0.false) c.requires.0 c.requires.1
+pub course-requires-clause-after : goal.course-requires-clause-after
+course-requires-clause-after c =
+    let a = c.args in
+    λ i w m g e b said. let yes : b ≡ true = search rules in yes ∙ sym (ap within_bounds e ∙ within_after a.f a.r i c.requires.1 w m)
