@@ -4,7 +4,6 @@
 mod lines;
 
 ghost use Rattle.std.specs.Prelude.{◌≡◌, ◌++◌, ◌≤◌, length, drop};
-ghost use Rattle.practice.specs.File.{legs_of};
 ghost use Rattle.listing.specs.Report.{listed_of, built_of, classroom_room};
 
 use crate::lines::{put_built, put_list, put_refusal};
@@ -12,8 +11,7 @@ use dialect::going::list_of;
 use dialect_field::coming::field_of_list;
 use indexed::with_index;
 use playing::play;
-use practice::FileLegs;
-use request::word;
+use practice::{legs_of, number16};
 use session::lines::put_refused;
 
 // The caller's buffer, long enough for every report.
@@ -27,26 +25,13 @@ pub fn listed(file: &[u8], out: &mut ClassroomBuffer) -> usize
 {
     let bytes: &mut [u8] = out;
     let mut log = [0u16; 28672];
-    let p = play(file, false, &mut log);
+    let p = play(file, &mut log);
     let number = p.number;
     if number != 0 {
         return put_refused(bytes, number);
     }
     let x = with_index(p.field);
     put_list(bytes, 0, list_of(x))
-}
-
-// The legs of the first eight bytes.
-fn legs_in(input: &[u8]) -> FileLegs
-    requires { 8 ≤ length input.now }
-    ensures { result ≡ legs_of input.now }
-{
-    FileLegs {
-        base: word(input[0], input[1]),
-        intermediate: word(input[2], input[3]),
-        final_approach: word(input[4], input[5]),
-        missed: word(input[6], input[7]),
-    }
 }
 
 // Writes the next fix and the list of the field that a list builds into the buffer, and yields its length.
@@ -59,11 +44,11 @@ pub fn rebuilt(input: &[u8], out: &mut ClassroomBuffer) -> usize
     if input.len() < 8 {
         return put_refusal(bytes, 0, 7);
     }
-    let legs = legs_in(input);
+    let legs = legs_of(input);
     if input.len() < 10 {
         return put_built(bytes, field_of_list(legs, 0, &input[8..8]));
     }
-    let speed = word(input[8], input[9]);
+    let speed = number16(input, 8);
     let b = field_of_list(legs, speed, &input[10..]);
     put_built(bytes, b)
 }

@@ -9,7 +9,7 @@ use lib.Dec.{ltb}
 use lib.ListN.{length, drop, set, length-set}
 use borrow.Author.Tests.{ltb-true}
 use Rattle.request.specs.declared.Request.{Request}
-use Rattle.practice.specs.declared.Reading.TheVariants.{One, End}
+use Rattle.std.specs.Prelude.{None, Some}
 use Rattle.practice.specs.Requests.{reading_at}
 use Rattle.field.specs.declared.Field.{Field}
 use Rattle.field.proofs.TestLaws.{either_way}
@@ -27,7 +27,7 @@ pub record Fields (rs : List Request) (f₀ : Field) (before : List ℕ) (out : 
 pub fields_none : (rs : List Request) (f : Field) (before : List ℕ) → Fields rs f before before f 0 0
 fields_none rs f before = record { left = left_all before 0 (lines_from 1 f rs) }
 
-pub fields_more : (rs : List Request) {f₀ f : Field} {before m n : List ℕ} {at e i : ℕ} (r : Request) (s : Stepped) → Fields rs f₀ before m f at i → reading_at rs i ≡ One r → s ≡ step_of f r
+pub fields_more : (rs : List Request) {f₀ f : Field} {before m n : List ℕ} {at e i : ℕ} (r : Request) (s : Stepped) → Fields rs f₀ before m f at i → reading_at rs i ≡ Some r → s ≡ step_of f r
     → Put m at (field_line (i + 1) s.field) n e → Fields rs f₀ before n s.field e (i + 1)
 fields_more rs {f = f} {i = i} r s w read q p = record { left = left_more (field_line (i + 1) s.field) (lines_from (i + 1 + 1) s.field (drop (i + 1) rs)) w.left here p }
   where
@@ -37,7 +37,7 @@ fields_more rs {f = f} {i = i} r s w read q p = record { left = left_more (field
         ap (lines_from (i + 1) f) d ∙ ap (λ (t : Stepped). field_line (i + 1) t.field ++ lines_from (suc (i + 1)) t.field (drop (i + 1) rs)) (sym q)
         ∙ ap (λ (k : ℕ). field_line (i + 1) s.field ++ lines_from k s.field (drop (i + 1) rs)) (sym (add-one (i + 1)))
 
-pub fields_all : (rs : List Request) {f₀ f : Field} {before m : List ℕ} {at i : ℕ} → Fields rs f₀ before m f at i → reading_at rs i ≡ End → Put before 0 (lines_from 1 f₀ rs) m at
+pub fields_all : (rs : List Request) {f₀ f : Field} {before m : List ℕ} {at i : ℕ} → Fields rs f₀ before m f at i → reading_at rs i ≡ None → Put before 0 (lines_from 1 f₀ rs) m at
 fields_all rs {f = f} {i = i} w z = left_none w.left (ap (lines_from (i + 1) f) (rest_none rs i z))
 
 -- ---- the place after what was put is within the buffer

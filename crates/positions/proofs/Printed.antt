@@ -2,14 +2,13 @@
 use mathlib.Core.Path.{◌≡◌, refl, sym, ap, ◌∙◌, subst}
 use mathlib.Core.Bool.{Bool, true, ◌||◌, or-true}
 use mathlib.Core.List.{List, [], ◌∷◌, ◌++◌, append_assoc, append-nil}
-use Prim.Native.Nat.{ℕ, suc, ◌+◌, ◌*◌, ◌^◌, ◌≤◌, ◌<◌, min}
+use Prim.Native.Nat.{ℕ, suc, ◌+◌, ◌*◌, min}
 use native.Mathlib.Omega.{arith}
 use lib.Dec.{T, eqb}
 use Rattle.leg.specs.Ticks.{Exactly}
 use Rattle.request.specs.Input.{within}
 use Rattle.request.specs.declared.Request.{Request}
 use Rattle.practice.specs.File.{legs_of, legs_body, file_number}
-use Rattle.practice.specs.Practice.{Practice}
 use Rattle.field.specs.declared.Aircraft.{Aircraft}
 use Rattle.field.specs.declared.Legs.{Legs}
 use Rattle.field.specs.declared.Field.{Field}
@@ -31,7 +30,7 @@ use Rattle.playing.specs.Playing.{legs_in_miles}
 use Rattle.playing.proofs.PlayedFiles.{requests_inside, practice_holds}
 use Rattle.spaced.proofs.Printed.{file_legs}
 use Rattle.positions.specs.Positions.{another, position_text, queue_text, zones_text, sequence_text, field_line, lines_from, practice_positions, positions_of}
-use Rattle.positions.specs.Printed.{waited_in4096ths, whole_position, whole_queue, whole_zones, whole_line, whole_lines_from, PrintedWholeOf, PrintedWhole}
+use Rattle.positions.specs.Printed.{waited_in4096ths, whole_position, whole_queue, whole_zones, whole_line, whole_lines_from, PrintedWhole}
 
 -- ---- a line
 module _ (w : WholeLegs) (answers : List (Request × Answer)) where

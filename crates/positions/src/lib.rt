@@ -14,7 +14,7 @@ use crate::lines::put_field;
 use field::Legs;
 use field::airspace::empty_field;
 use playing::legs_in_miles;
-use practice::{Reading, file_legs, file_number, request_at};
+use practice::{check_file, file_legs, request_at};
 use session::lines::put_refused;
 use step::step;
 
@@ -29,10 +29,7 @@ fn put_body(out: &mut [u8], body: &[u8], legs: Legs) -> usize
     let mut f = empty_field(legs);
     let mut at = 0;
     let mut i = 0;
-    loop {
-        let Reading::One(r) = request_at(body, i) else {
-            break;
-        };
+    while let Some(r) = request_at(body, i) {
         let s = step(f, r);
         i += 1;
         f = s.field;
@@ -48,9 +45,8 @@ pub fn positions(file: &[u8], out: &mut PositionsBuffer) -> usize
     ensures upper_bound { result ≤ length out.new }
 {
     let bytes: &mut [u8] = out;
-    let number = file_number(file);
-    if number != 0 {
-        return put_refused(bytes, number);
+    if let Err(refusal) = check_file(file) {
+        return put_refused(bytes, refusal.number());
     }
     put_body(bytes, &file[34..], legs_in_miles(file_legs(file)))
 }

@@ -3,8 +3,6 @@ ghost use Rattle.field.specs.Airspace.{everywhere, queue_of};
 ghost use Rattle.text.specs.Buffer.{Put};
 ghost use Rattle.positions.specs.Positions.{another, position_text, queue_text, zones_text, sequence_text, field_line};
 
-use field::airspace::{order_length, queue_length};
-use field::zones::RUNWAY;
 use field::{Aircraft, Field, Sequence, Zone};
 use miles::put_miles;
 use text::{put_byte, put_number};
@@ -31,13 +29,9 @@ fn put_position(out: &mut [u8], at: usize, zone: usize, a: Aircraft) -> usize
 fn put_queue(out: &mut [u8], at: usize, zone: usize, q: Zone) -> usize
     ensures { Put out.old at (queue_text zone (queue_of q)) out.new result }
 {
-    let end = queue_length(q);
     let mut next = at;
-    let mut i = 0;
-    while i < end {
-        let a = q.aircraft[i];
-        next = put_position(out, next, zone, a);
-        i += 1;
+    for a in q.queue() {
+        next = put_position(out, next, zone, *a);
     }
     next
 }
@@ -47,11 +41,8 @@ fn put_zones(out: &mut [u8], at: usize, f: Field) -> usize
     ensures { Put out.old at (zones_text f everywhere) out.new result }
 {
     let mut next = at;
-    let mut zone = 1;
-    while zone <= RUNWAY {
-        let q = f.zones[zone - 1];
-        next = put_queue(out, next, zone, q);
-        zone += 1;
+    for (i, q) in f.zones.iter().enumerate() {
+        next = put_queue(out, next, i + 1, *q);
     }
     next
 }
@@ -60,12 +51,10 @@ fn put_zones(out: &mut [u8], at: usize, f: Field) -> usize
 fn put_sequence(out: &mut [u8], at: usize, s: Sequence) -> usize
     ensures { Put out.old at (sequence_text s) out.new result }
 {
-    let end = order_length(s);
-    let mut next = put_another(out, at, end);
-    let mut i = 0;
-    while i < end {
-        next = put_another(out, next, s.numbers[i] as usize);
-        i += 1;
+    let order = s.order();
+    let mut next = put_another(out, at, order.len());
+    for n in order {
+        next = put_another(out, next, *n as usize);
     }
     next
 }

@@ -3,11 +3,13 @@
 
 ghost use Rattle.std.specs.Prelude.{◌+◌, ◌<◌};
 
+use practice::check_file;
+use refusals::outcome_number;
 use std::io;
 
 // Writes the line of one file.
 fn line(rt: &impl Print, name: &str, file: &[u8]) -> io::Result<()> {
-    let number = practice::file_number(file);
+    let number = outcome_number(check_file(file));
     println!(rt; "{name}: {number}")
 }
 

@@ -42,12 +42,12 @@ pub returns-then-input-lt10 : goal.returns-then-input-lt10
 unfolding built_of
 returns-then-input-lt10 c =
     let input = c.args.input.now in let told = ends c.put_built.ensures.put c.bytes-1.given.0.1 c.put_built.ensures.b_len_bound
-    (ap built_report (c.field_of_list.ensures ∙ made_none input c.if-input-lt10.true c.legs_in-legs.ensures) ∙ sym (if_true _ _ (le-leb 8 _ c.if-input-lt8.false))) in
+    (ap built_report (c.field_of_list.ensures ∙ made_none input c.if-input-lt10.true c.legs_of-legs.ensures) ∙ sym (if_true _ _ (le-leb 8 _ c.if-input-lt8.false))) in
     record { value = told.0; out_after = told.1.0; upper_bound = told.1.1 }
 
 pub returns : goal.returns
 unfolding built_of
 returns c =
     let input = c.args.input.now in let told = ends c.put_built-2.ensures.put c.bytes-1.given.0.1 c.put_built-2.ensures.b_len_bound
-    (ap built_report (c.field_of_list-b.ensures ∙ made input c.if-input-lt10.false c.legs_in-legs.ensures c.word-speed.ensures) ∙ sym (if_true _ _ (le-leb 8 _ c.if-input-lt8.false))) in
+    (ap built_report (c.field_of_list-b.ensures ∙ made input c.if-input-lt10.false c.legs_of-legs.ensures c.number16-speed.ensures) ∙ sym (if_true _ _ (le-leb 8 _ c.if-input-lt8.false))) in
     record { value = told.0; out_after = told.1.0; upper_bound = told.1.1 }

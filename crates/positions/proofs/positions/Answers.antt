@@ -5,6 +5,7 @@ use Prim.Native.Nat.{ℕ, ◌-◌, ◌≤◌}
 use native.Mathlib.Omega.{arith}
 use lib.ListN.{length, take, drop}
 use borrow.Author.Rules.{part_to_end}
+use Rattle.refusals.proofs.Outcomes.{number_some}
 use Rattle.practice.specs.File.{legs_of, legs_body, file_number}
 use Rattle.practice.specs.Requests.{requests_of}
 use Rattle.practice.proofs.Meaning.{Held, held}
@@ -17,7 +18,7 @@ use Rattle.session.specs.Report.{refused_report}
 use Rattle.positions.specs.Positions.{lines_from, practice_positions, positions_of, positions_room, AreBytes}
 use Rattle.positions.proofs.Fields.{ends_within}
 use Rattle.positions.proofs.LineSizes.{positions_fit}
-use Rattle.positions.proofs.positions.Goals.{After-file_number-number, Else-number-ne0}
+use Rattle.positions.proofs.positions.Goals.{After-check_file, In_default}
 use Rattle.positions.proofs.positions.Goals as goal
 
 -- what is put is the report, where these are the same bytes, and it fits the buffer
@@ -39,40 +40,40 @@ report-held file h = sym (ap practice_positions (practice_holds file h))
 requests-read : (file : List ℕ) → requests_of (take (length file - 34) (drop 34 file)) ≡ requests_inside file
 requests-read file = ap requests_of (part_to_end file 34)
 
-room-known : (c : After-file_number-number) → length c.args.out.now ≡ positions_room
+room-known : (c : After-check_file) → length c.args.out.now ≡ positions_room
 room-known c = c.bytes-1.given.0.1
 
-bytes-known : (c : After-file_number-number) → AreBytes (c.args.file.now)
+bytes-known : (c : After-check_file) → AreBytes (c.args.file.now)
 bytes-known c i = omega (arith, c.shared_slice_known-1.given i)
 
-accepted : (c : Else-number-ne0) → file_number (c.args.file.now) ≡ 0
-accepted c = sym c.file_number-number.ensures ∙ c.if-number-ne0.false
+accepted : (c : In_default) → file_number (c.args.file.now) ≡ 0
+accepted c = sym c.in_default.ensures
 
-holding : (c : Else-number-ne0) → Held (c.args.file.now) (legs_of (legs_body (c.args.file.now))) (requests_inside (c.args.file.now))
+holding : (c : In_default) → Held (c.args.file.now) (legs_of (legs_body (c.args.file.now))) (requests_inside (c.args.file.now))
 holding c =
     let file = c.args.file.now in
     held file (legs_of (legs_body file)) (requests_inside file) (practice_holds file (accepted c))
 
-pub returns-then-number-ne0 : goal.returns-then-number-ne0
-returns-then-number-ne0 c =
-    let n = c.file_number-number.ensures in
-    let file = c.args.file.now in let told = ends c.put_refused.ensures (ap refused_report n ∙ report_refused file (λ e. c.if-number-ne0.true (n ∙ e))) (room-known (goal.at.returns-then-number-ne0 c).After-file_number-number) (positions_fit file (bytes-known (goal.at.returns-then-number-ne0 c).After-file_number-number)) in
+pub returns-in-Err : goal.returns-in-Err
+returns-in-Err c =
+    let n = c.number.ensures ∙ c.in-Err.ensures in
+    let file = c.args.file.now in let told = ends c.put_refused.ensures (ap refused_report n ∙ report_refused file (λ e. number_some _ (c.in-Err.ensures ∙ e))) (room-known (goal.at.returns-in-Err c).After-check_file) (positions_fit file (bytes-known (goal.at.returns-in-Err c).After-check_file)) in
     record { value = told.0; out_after = told.1.0; upper_bound = told.1.1 }
 
 pub slice_bounds-put_body-count : goal.slice_bounds-put_body-count
-slice_bounds-put_body-count c = (holding (goal.at.slice_bounds-put_body-count c).Else-number-ne0).long
+slice_bounds-put_body-count c = (holding (goal.at.slice_bounds-put_body-count c).In_default).long
 
 pub slice_bounds-put_body-start : goal.slice_bounds-put_body-start
-slice_bounds-put_body-start c = (holding (goal.at.slice_bounds-put_body-start c).Else-number-ne0).long
+slice_bounds-put_body-start c = (holding (goal.at.slice_bounds-put_body-start c).In_default).long
 
 pub put_body-requires : goal.put_body-requires
 put_body-requires c =
     let n = ap length (requests-read (c.args.file.now)) in
-    omega (arith, (holding (goal.at.put_body-requires c).Else-number-ne0).few)
+    omega (arith, (holding (goal.at.put_body-requires c).In_default).few)
 
 pub returns : goal.returns
 returns c =
     let file = c.args.file.now in
-    let legs = c.legs_in_miles.ensures ∙ ap legs_in_miles (c.file_legs.ensures ∙ (holding (goal.at.returns c).Else-number-ne0).legs_read) in
-    let rs = requests-read file in let told = ends c.put_body.ensures ((λ i. lines_from 1 (empty_field (legs i)) (rs i)) ∙ report-held file (accepted (goal.at.returns c).Else-number-ne0)) (room-known (goal.at.returns c).After-file_number-number) (positions_fit file (bytes-known (goal.at.returns c).After-file_number-number)) in
+    let legs = c.legs_in_miles.ensures ∙ ap legs_in_miles (c.file_legs.ensures ∙ (holding (goal.at.returns c).In_default).legs_read) in
+    let rs = requests-read file in let told = ends c.put_body.ensures ((λ i. lines_from 1 (empty_field (legs i)) (rs i)) ∙ report-held file (accepted (goal.at.returns c).In_default)) (room-known (goal.at.returns c).After-check_file) (positions_fit file (bytes-known (goal.at.returns c).After-check_file)) in
     record { value = told.0; out_after = told.1.0; upper_bound = told.1.1 }

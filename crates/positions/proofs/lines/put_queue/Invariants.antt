@@ -1,10 +1,9 @@
--- `positions::lines::put_queue` meets its contract. The loop's invariant: those from place i on are left to put. Assumes nothing.
-use Prim.Native.Nat.{◌-◌}
-use Rattle.positions.proofs.QueueLines.{Queue}
+-- `positions::lines::put_queue` meets its contract. The loop's invariant: those from the loop's place on are left to put. Assumes nothing.
+use lib.ListN.{drop}
+use Rattle.field.specs.Airspace.{queue_of}
+use Rattle.text.proofs.Texts.{Left}
+use Rattle.positions.specs.Positions.{queue_text}
 use Rattle.positions.proofs.lines.put_queue.Given as goal
 
-abbrev pub invariant-loop-i : goal.invariant-loop-i
-invariant-loop-i l = Queue l.initial.out l.at l.zone l.q l.end l.out l.next l.i
-
-abbrev pub decreases-loop-i : goal.decreases-loop-i
-decreases-loop-i l = l.end - l.i
+abbrev pub invariant-loop-a : goal.invariant-loop-a
+invariant-loop-a l = Left l.initial.out l.at (queue_text l.zone (queue_of l.fn.q)) l.out l.next (queue_text l.zone (drop l.a-index (queue_of l.fn.q)))
