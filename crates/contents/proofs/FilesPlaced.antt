@@ -1,14 +1,14 @@
 -- The files of a binder back to back: a turn of the loop that tests them, and what is known of those that pass. Assumes nothing.
 use mathlib.Core.Path.{◌≡◌, sym, ap, subst, ◌∙◌}
 use mathlib.Core.List.{List}
-use mathlib.Core.Bool.{Bool, true, false, ◌&&◌}
+use mathlib.Core.Bool.{Bool, true, ◌&&◌}
 use Prim.Native.Nat.{ℕ, zero, suc, ◌+◌, ◌-◌, ◌≤◌, ◌<◌}
 use native.Mathlib.Numerals.{add-one}
 use native.Mathlib.Omega.{arith}
 use lib.Dec.{eqb}
 use lib.ListN.{length}
-use borrow.Author.Tests.{eq-eqb, ne_eqb, eqb-true}
-use Rattle.request.proofs.InputTests.{both_left, both_right, left_fails}
+use borrow.Author.Tests.{eq-eqb, eqb-true}
+use Rattle.request.proofs.InputTests.{both_left, both_right}
 use Rattle.contents.specs.Contents.{entry_count, entry_place, offset_at, length_at, back_to_back, files_placed}
 
 module _ (bytes : List ℕ) where
@@ -38,17 +38,6 @@ module _ (bytes : List ℕ) where
         let after : ℕ → Bool = λ n. back_to_back bytes (end + n) (i + 1) (count - (i + 1)) in
         let here = next end i count h ∙ ap (λ (t : Bool). t && after (length_at bytes i)) (eq-eqb (offset_at bytes i) end o) in
         record { below = omega arith; rest = ap after z ∙ sym here ∙ p.rest }
-
-    -- a file that does not
-    pub passed_stop : i < count → (offset_at bytes i ≡ end → ⊥) → false ≡ files_placed bytes
-    passed_stop h o =
-        sym (next end i count h ∙ left_fails (eqb (offset_at bytes i) end) _ (ne_eqb (offset_at bytes i) end o)) ∙ p.rest
-
-    -- after the last
-    pub passed_all : count ≤ i → eqb end (length bytes) ≡ files_placed bytes
-    passed_all h =
-        let e : count - i ≡ 0 = omega arith in
-        sym (ap (back_to_back bytes end i) e) ∙ p.rest
 
   -- files back to back end within the binder
   pub start_within : (n at i : ℕ) → back_to_back bytes at i n ≡ true → at ≤ length bytes

@@ -7,7 +7,7 @@ use native.Mathlib.Omega.{arith}
 use lib.ListN.{length, drop, get_or, set}
 use lib.Seq.{sets, length-sets, drop-nil, get_or-set_same}
 use Rattle.request.specs.declared.Request.{Request}
-use Rattle.practice.specs.declared.Reading.TheVariants.{One, End}
+use Rattle.std.specs.Prelude.{None, Some}
 use Rattle.practice.specs.Requests.{reading_at}
 use Rattle.field.specs.declared.Field.{Field}
 use Rattle.field.specs.declared.Legs.{Legs}
@@ -26,17 +26,17 @@ use Rattle.playing.proofs.Logs.{sets_append}
 
 -- ---- the i-th request of a list
 module _ where
-  pub here : (rs : List Request) (i : ℕ) (r : Request) → reading_at rs i ≡ One r → i < length rs
+  pub here : (rs : List Request) (i : ℕ) (r : Request) → reading_at rs i ≡ Some r → i < length rs
   here [] i r e = absurd (let z : ◌≡◌ {A = ℕ} 0 1 = cc in omega arith)
   here (q ∷ rs) zero r e = omega arith
   here (q ∷ rs) (suc i) r e = let h = here rs i r e in omega arith
 
-  pub rest_here : (rs : List Request) (i : ℕ) (r : Request) → reading_at rs i ≡ One r → drop i rs ≡ r ∷ drop (suc i) rs
+  pub rest_here : (rs : List Request) (i : ℕ) (r : Request) → reading_at rs i ≡ Some r → drop i rs ≡ r ∷ drop (suc i) rs
   rest_here [] i r e = absurd (let z : ◌≡◌ {A = ℕ} 0 1 = cc in omega arith)
   rest_here (q ∷ rs) zero r e = let h : q ≡ r = cc in ap (λ (x : Request). x ∷ rs) h
   rest_here (q ∷ rs) (suc i) r e = rest_here rs i r e
 
-  pub rest_none : (rs : List Request) (i : ℕ) → reading_at rs i ≡ End → drop i rs ≡ []
+  pub rest_none : (rs : List Request) (i : ℕ) → reading_at rs i ≡ None → drop i rs ≡ []
   rest_none [] i e = drop-nil i
   rest_none (q ∷ rs) zero e = absurd (let z : ◌≡◌ {A = ℕ} 0 1 = cc in omega arith)
   rest_none (q ∷ rs) (suc i) e = rest_none rs i e
@@ -47,7 +47,7 @@ unfolding with_index
 made_own f e = e ∙ sym (ap (λ (y : Indexed). with_index y.field) e)
 
 -- ---- the file
-none_left : (rs : List Request) (i : ℕ) → reading_at rs i ≡ End → length rs ≤ i
+none_left : (rs : List Request) (i : ℕ) → reading_at rs i ≡ None → length rs ≤ i
 none_left [] i e = omega arith
 none_left (q ∷ rs) zero e = absurd (let z : ◌≡◌ {A = ℕ} 0 1 = cc in omega arith)
 none_left (q ∷ rs) (suc i) e = let h = none_left rs i e in omega arith
@@ -83,7 +83,7 @@ module _ (rs : List Request) {x₀ : Indexed} {log₀ log : List ℕ} {x : Index
       ((λ h. n.0 (sym e ∙ h)), (λ h. n.1 (sym e ∙ h)))
 
   -- one request more
-  pub playing_more : (r : Request) (s : SteppedIndexed) {log' : List ℕ} → reading_at rs i ≡ One r → s ≡ step_indexed x r → log' ≡ sets log (7 * i) (log_entry (r, s.answer))
+  pub playing_more : (r : Request) (s : SteppedIndexed) {log' : List ℕ} → reading_at rs i ≡ Some r → s ≡ step_indexed x r → log' ≡ sets log (7 * i) (log_entry (r, s.answer))
       → Playing rs x₀ log₀ log' s.after (i + 1)
   unfolding with_index
   playing_more r s {log'} e q' w =
@@ -110,7 +110,7 @@ module _ (rs : List Request) {x₀ : Indexed} {log₀ log : List ℕ} {x : Index
       subst⁻¹ (λ (y : Indexed). Playing rs x₀ log₀ log y i) (get_or-set_same fields (i % 2) x d (let h : i % 2 < 2 = omega arith in omega arith)) p
 
   -- none is left: all is in the log, and the field is the last
-  module _ (z : reading_at rs i ≡ End) where
+  module _ (z : reading_at rs i ≡ None) where
     pub all_logged : log ≡ sets log₀ 0 (log_of (played f₀ rs))
     all_logged = sym (ap (λ (l : List Request). sets log (7 * i) (log_of (played f l))) (rest_none rs i z)) ∙ p.logged
 

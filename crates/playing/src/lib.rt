@@ -7,16 +7,16 @@ ghost use Rattle.limits.specs.Limits.{most_requests};
 ghost use Rattle.practice.specs.Requests.{requests_of};
 ghost use Rattle.field.specs.Airspace.{empty_field};
 ghost use Rattle.fits.specs.Fits.{legal_legs};
-ghost use Rattle.indexed.specs.Indexed.{number_indexed, step_indexed};
 ghost use Rattle.playing.specs.Playing.{legs_in_miles, no_legs, answers_from, present_from, field_from, answers_of, played_of};
 ghost use Rattle.playing.specs.Log.{log_entry, log_of};
+ghost use Rattle.playing.specs.Asked.{MayBeAsked, IsTheStep};
 
 use field::airspace::empty_field;
 use field::{Field, Legs};
 use finder::Indexed;
 use indexed::{SteppedIndexed, step_indexed, step_indexed_unjudged, with_index};
 use leg::of_sixty_fourths;
-use practice::{FileLegs, Reading, file_legs, file_number, request_at};
+use practice::{FileLegs, check_file, file_legs, request_at};
 use questions::counts::present_on;
 use request::Request;
 use rules::Answer;
@@ -46,17 +46,6 @@ pub fn legs_in_miles(legs: FileLegs) -> Legs
     }
 }
 
-// The step of a request whose number is neither 10 nor 25, with the field and its index judged before and the field after, or nothing.
-fn stepped(x: Indexed, r: Request, judged: bool) -> SteppedIndexed
-    requires { (number_indexed x r ≡ 10 → ⊥) × (number_indexed x r ≡ 25 → ⊥) }
-    ensures { result ≡ step_indexed x r }
-{
-    if judged {
-        return step_indexed(x, r);
-    }
-    step_indexed_unjudged(x, r)
-}
-
 // Writes what the log holds of a request and its answer, from a place on.
 fn put_entry(log: &mut [u16], at: usize, r: Request, a: Answer)
     requires at_in_bounds { at + 7 ≤ length log.old }
@@ -72,12 +61,19 @@ fn put_entry(log: &mut [u16], at: usize, r: Request, a: Answer)
     log[at + 6] = a.along;
 }
 
-// Plays the requests of a body from the empty field into the log.
-// Two fields take turns, each with its index: the one before a request and the one after it. They need not be judged, since from an empty field
-// with legal legs neither 10 nor 25 is answered.
-fn play_body(body: &[u8], legs: Legs, judged: bool, log: &mut [u16]) -> Played
+// Plays the requests of a body from the empty field into the log, each by a step that is asked only where neither 10 nor 25 is answered.
+// From an empty field with legal legs that is so at every request. Two fields take turns, each with its index: the one before a request
+// and the one after it.
+fn play_body<S: Fn(Indexed, Request) -> SteppedIndexed>(
+    body: &[u8],
+    legs: Legs,
+    step: S,
+    log: &mut [u16],
+) -> Played
     requires body_len_bound { (length (requests_of body.now) ≤ most_requests) × (7 * most_requests ≤ length log.old) }
     requires t { T (legal_legs legs) }
+    requires callable { MayBeAsked (S.pre step) }
+    requires steps { IsTheStep (S.post step) }
     ensures value { result ≡ record {
       number = 0;
       requests = length (requests_of body.now);
@@ -89,12 +85,9 @@ fn play_body(body: &[u8], legs: Legs, judged: bool, log: &mut [u16]) -> Played
     let empty = with_index(empty_field(legs));
     let mut fields = [empty; 2];
     let mut i = 0;
-    loop {
-        let Reading::One(r) = request_at(body, i) else {
-            break;
-        };
+    while let Some(r) = request_at(body, i) {
         let x = fields[i % 2];
-        let s = stepped(x, r, judged);
+        let s = step(x, r);
         let a = s.answer;
         put_entry(log, 7 * i, r, a);
         let next = s.after;
@@ -122,22 +115,39 @@ fn nothing_played(number: u16) -> Played
         final_approach: 0,
     };
     Played {
-        number: number,
+        number,
         requests: 0,
         present: 0,
         field: empty_field(legs_in_miles(legs)),
     }
 }
 
-// Plays a practice file into the log, with each field judged or not. A refused file plays nothing.
-pub fn play(file: &[u8], judged: bool, log: &mut Log) -> Played
+// Plays a practice file into the log by a step that is asked as in `play_body`. A refused file plays nothing.
+fn play_by<S: Fn(Indexed, Request) -> SteppedIndexed>(file: &[u8], step: S, log: &mut Log) -> Played
+    requires callable { MayBeAsked (S.pre step) }
+    requires steps { IsTheStep (S.post step) }
     ensures value { result ≡ played_of file.now }
     ensures log_after { log.new ≡ log_of (answers_of file.now) ++ drop (7 * result.requests) log.old }
 {
     let numbers: &mut [u16] = log;
-    let number = file_number(file);
-    if number != 0 {
-        return nothing_played(number);
+    if let Err(refusal) = check_file(file) {
+        return nothing_played(refusal.number());
     }
-    play_body(&file[34..], legs_in_miles(file_legs(file)), judged, numbers)
+    play_body(&file[34..], legs_in_miles(file_legs(file)), step, numbers)
+}
+
+// Plays a practice file into the log, with no field judged. A refused file plays nothing.
+pub fn play(file: &[u8], log: &mut Log) -> Played
+    ensures value { result ≡ played_of file.now }
+    ensures log_after { log.new ≡ log_of (answers_of file.now) ++ drop (7 * result.requests) log.old }
+{
+    play_by(file, step_indexed_unjudged, log)
+}
+
+// The same, with the field and its index judged before each request, and the field after it.
+pub fn play_judged(file: &[u8], log: &mut Log) -> Played
+    ensures value { result ≡ played_of file.now }
+    ensures log_after { log.new ≡ log_of (answers_of file.now) ++ drop (7 * result.requests) log.old }
+{
+    play_by(file, step_indexed, log)
 }

@@ -2,12 +2,12 @@
 use mathlib.Core.Path.{◌≡◌, refl, sym, ap, ◌∙◌}
 use mathlib.Core.List.{List, [], ◌∷◌}
 use Prim.Native.Nat.{ℕ, zero, suc, ◌+◌, ◌*◌, ◌/◌, ◌<◌, ◌≤◌}
+use Rattle.std.specs.Prelude.{None, Some}
 use native.Mathlib.Nat.{le_of_suc-le-suc}
 use native.Mathlib.Omega.{arith}
 use lib.ListN.{length, get_or}
 use Rattle.request.specs.declared.Request.{Request}
 use Rattle.request.specs.Input.{request_of}
-use Rattle.practice.specs.declared.Reading.TheVariants.{One, End}
 use Rattle.practice.specs.Requests.{requests_of, reading_at, request_at}
 
 sixth : (m n : ℕ) → m ≡ n / 6 → suc m ≡ suc (suc (suc (suc (suc (suc n))))) / 6
@@ -47,7 +47,7 @@ nothing h = absurd (omega arith)
 one_less : (j n : ℕ) → suc j < suc (suc (suc (suc (suc (suc n))))) / 6 → j < n / 6
 one_less j n h = omega arith
 
-pub at_index : (xs : List ℕ) (i : ℕ) → i < length xs / 6 → request_at xs i ≡ One (request_of (six xs (6 * i)))
+pub at_index : (xs : List ℕ) (i : ℕ) → i < length xs / 6 → request_at xs i ≡ Some (request_of (six xs (6 * i)))
 at_index [] i h = nothing h
 at_index (a ∷ []) i h = nothing h
 at_index (a ∷ b ∷ []) i h = nothing h
@@ -56,15 +56,15 @@ at_index (a ∷ b ∷ c ∷ d ∷ []) i h = nothing h
 at_index (a ∷ b ∷ c ∷ d ∷ e ∷ []) i h = nothing h
 at_index (a ∷ b ∷ c ∷ d ∷ e ∷ f ∷ rest) zero h = refl
 at_index (a ∷ b ∷ c ∷ d ∷ e ∷ f ∷ rest) (suc j) h =
-    at_index rest j (one_less j (length rest) h) ∙ ap (λ (l : List ℕ). One (request_of l)) (sym (six_past a b c d e f rest j))
+    at_index rest j (one_less j (length rest) h) ∙ ap (λ (l : List ℕ). Some (request_of l)) (sym (six_past a b c d e f rest j))
 
 -- ---- the i-th of a list of requests
-pub reading_past : (rs : List Request) (i : ℕ) → length rs ≤ i → reading_at rs i ≡ End
+pub reading_past : (rs : List Request) (i : ℕ) → length rs ≤ i → reading_at rs i ≡ None
 reading_past [] i h = refl
 reading_past (r ∷ rest) zero h = nothing h
 reading_past (r ∷ rest) (suc i) h = reading_past rest i (le_of_suc-le-suc h)
 
-pub reading_within : (rs : List Request) (i : ℕ) (d : Request) → i < length rs → reading_at rs i ≡ One (get_or rs i d)
+pub reading_within : (rs : List Request) (i : ℕ) (d : Request) → i < length rs → reading_at rs i ≡ Some (get_or rs i d)
 reading_within [] i d h = nothing h
 reading_within (r ∷ rest) zero d h = refl
 reading_within (r ∷ rest) (suc i) d h = reading_within rest i d (le_of_suc-le-suc h)

@@ -1,16 +1,23 @@
--- The test for two lists of bytes to be the same. Assumes nothing.
-use mathlib.Core.Path.{◌≡◌, refl, sym, ap, subst, ◌∙◌}
+-- The library's comparison of two slices of bytes, and the test for two lists of bytes to be the same. Assumes nothing.
+use mathlib.Core.Path.{◌≡◌, refl, sym, ap, ◌∙◌}
 use mathlib.Core.List.{List, [], ◌∷◌}
 use mathlib.Core.Bool.{Bool, true, false, ◌&&◌, false≢true}
 use Prim.Native.Nat.{ℕ}
 use lib.Dec.{eqb}
+use lib.ListN.{take}
 use borrow.Author.Tests.{eq-eqb, eqb-true}
+use Rattle.std.specs.List.{starts_with}
+use Rattle.std.specs.Cmp.Lexicographic.{pointwise}
 use Rattle.request.proofs.InputTests.{both_left, both_right}
-use Rattle.practice.specs.File.{are_the_same_bytes}
+use Rattle.practice.specs.File.{letters, are_the_same_bytes}
 
-same_refl : (xs : List ℕ) → are_the_same_bytes xs xs ≡ true
-same_refl [] = refl
-same_refl (x ∷ xs) = ap (λ (b : Bool). b && are_the_same_bytes xs xs) (eq-eqb x x refl) ∙ same_refl xs
+either_way : (r t : Bool) → (r ≡ true → t ≡ true) → (t ≡ true → r ≡ true) → r ≡ t
+either_way true t f g = sym (f refl)
+either_way false true f g = g refl
+either_way false false f g = refl
+
+eqb_swapped : (x y : ℕ) → eqb x y ≡ eqb y x
+eqb_swapped x y = either_way (eqb x y) (eqb y x) (λ e. eq-eqb y x (sym (eqb-true x y e))) (λ e. eq-eqb x y (sym (eqb-true y x e)))
 
 pub same_true : (xs ys : List ℕ) → are_the_same_bytes xs ys ≡ true → xs ≡ ys
 same_true [] [] e = refl
@@ -18,11 +25,12 @@ same_true [] (y ∷ ys) e = absurd (false≢true e)
 same_true (x ∷ xs) [] e = absurd (false≢true e)
 same_true (x ∷ xs) (y ∷ ys) e = λ i. eqb-true x y (both_left (eqb x y) (are_the_same_bytes xs ys) e) i ∷ same_true xs ys (both_right (eqb x y) (are_the_same_bytes xs ys) e) i
 
-either_way : (r t : Bool) → (r ≡ true → t ≡ true) → (t ≡ true → r ≡ true) → r ≡ t
-either_way true t f g = sym (f refl)
-either_way false true f g = g refl
-either_way false false f g = refl
+-- which list of the two comes first does not matter
+pub pointwise_same : (xs ys : List ℕ) → pointwise eqb xs ys ≡ are_the_same_bytes ys xs
+pointwise_same [] [] = refl
+pointwise_same [] (y ∷ ys) = refl
+pointwise_same (x ∷ xs) [] = refl
+pointwise_same (x ∷ xs) (y ∷ ys) = ap (λ (b : Bool). b && pointwise eqb xs ys) (eqb_swapped x y) ∙ ap (λ (b : Bool). eqb y x && b) (pointwise_same xs ys)
 
--- a result that is true exactly where the lists are equal is the test's
-pub is_same : (r : Bool) (xs ys : List ℕ) → (r ≡ true → xs ≡ ys) → (xs ≡ ys → r ≡ true) → r ≡ are_the_same_bytes xs ys
-is_same r xs ys f g = either_way r (are_the_same_bytes xs ys) (λ e. subst (λ (zs : List ℕ). are_the_same_bytes xs zs ≡ true) (f e) (same_refl xs)) (λ e. g (same_true xs ys e))
+pub starts_same : (file : List ℕ) → starts_with eqb file letters ≡ are_the_same_bytes (take 4 file) letters
+starts_same file = pointwise_same letters (take 4 file)

@@ -3,8 +3,10 @@
 
 ghost use Rattle.std.specs.Prelude.{◌≡◌, true};
 ghost use Rattle.request.specs.Input.{word, request_of, range, in_range, rule_of, input_number};
+ghost use Rattle.refusals.specs.Refusals.{outcome_number};
 
 use limits::{DESKS, FASTEST, LONGEST_TICK};
+use refusals::{Refusal, require};
 
 // Document 01's request: what is asked, the side, the aircraft's number, and a speed or the 64ths of a minute of a tick; and document 02's
 // desk that asks.
@@ -109,25 +111,23 @@ pub fn rule_of(kind: u8) -> KindRule
     }
 }
 
-// The number of the input rule that the request breaks first; 0 where it keeps them all.
-pub fn input_number(r: Request) -> u16
-    ensures { result ≡ input_number r }
+// Why the request is turned away by itself, by the first input rule that it breaks; nothing where it keeps them all.
+pub fn check_input(r: Request) -> Result<(), Refusal>
+    ensures { outcome_number result ≡ input_number r }
 {
-    if !in_range(Range(1, DESKS), r.desk as usize) {
-        return 31;
-    }
     let rule = rule_of(r.kind);
-    if !rule.known {
-        return 1;
-    }
-    if !in_range(rule.sides, r.side as usize) {
-        return 2;
-    }
-    if rule.aircraft != (r.number != 0) {
-        return 3;
-    }
-    if !in_range(rule.amounts, r.amount as usize) {
-        return 4;
-    }
-    0
+    require(
+        in_range(Range(1, DESKS), r.desk as usize),
+        Refusal::NoSuchDesk,
+    )?;
+    require(rule.known, Refusal::NoSuchKind)?;
+    require(
+        in_range(rule.sides, r.side as usize),
+        Refusal::SideDoesNotFit,
+    )?;
+    require(rule.aircraft == (r.number != 0), Refusal::NumberDoesNotFit)?;
+    require(
+        in_range(rule.amounts, r.amount as usize),
+        Refusal::AmountDoesNotFit,
+    )
 }

@@ -3,7 +3,6 @@ use Prim.Native.Nat.{◌<◌}
 use native.Mathlib.Omega.{arith}
 use Rattle.contents.specs.Contents.{file_count}
 use Rattle.contents.proofs.AcceptedBinder.{Held, held}
-use Rattle.contents.proofs.FileStretches.{is_held, is_none}
 use Rattle.contents.proofs.file_at.Goals.{Else-file_count-i}
 use Rattle.contents.proofs.file_at.Goals as goal
 
@@ -19,14 +18,8 @@ overflow_mul-at c = let k = known (goal.at.overflow_mul-at c).Else-file_count-i 
 pub overflow_add-at : goal.overflow_add-at
 overflow_add-at c = let k = known (goal.at.overflow_add-at c).Else-file_count-i in omega arith
 
-pub number32-start-requires : goal.number32-start-requires
-number32-start-requires c = let k = known (goal.at.number32-start-requires c).Else-file_count-i in omega arith
-
 pub overflow_add-at-2 : goal.overflow_add-at-2
 overflow_add-at-2 c = let k = known (goal.at.overflow_add-at-2 c).Else-file_count-i in omega arith
-
-pub number32-requires : goal.number32-requires
-number32-requires c = let k = known (goal.at.number32-requires c).Else-file_count-i in omega arith
 
 pub slice_bounds-result-end-2 : goal.slice_bounds-result-end-2
 slice_bounds-result-end-2 c = let k = known (goal.at.slice_bounds-result-end-2 c).Else-file_count-i in omega arith

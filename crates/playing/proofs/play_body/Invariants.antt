@@ -10,8 +10,8 @@ use Rattle.playing.proofs.play_body.Given as goal
 -- played from the field reached. Assumes nothing.
 -- of the two fields, the one at i % 2 is the field before request i
 abbrev pub invariant-loop-r : goal.invariant-loop-r
-invariant-loop-r l =
+invariant-loop-r g l =
     (length l.fields ≡ 2) × ((d : Indexed) → Playing (requests_of l.body) (get_or l.initial.fields 0 d) l.initial.log l.log (get_or l.fields (l.i % 2) d) l.i)
 
 abbrev pub decreases-loop-r : goal.decreases-loop-r
-decreases-loop-r l = length (requests_of l.body) - l.i
+decreases-loop-r g l = length (requests_of l.body) - l.i
