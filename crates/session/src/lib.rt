@@ -13,7 +13,7 @@ ghost use Rattle.session.specs.Entries.{played_report};
 
 use crate::lines::{put_answers, put_end, put_refused};
 use crate::tally::tally_of;
-use playing::{Played, play};
+use playing::{Played, play, play_judged};
 use text::Buffer;
 
 // The report of what was played, from the buffer's first byte on; the log holds the answers to the requests. Yields the place after it.
@@ -37,7 +37,7 @@ pub fn report(file: &[u8], out: &mut Buffer) -> usize
     ensures upper_bound { result ≤ room }
 {
     let mut log = [0u16; 28672];
-    let p = play(file, false, &mut log);
+    let p = play(file, &mut log);
     put_played(out, &p, &log)
 }
 
@@ -48,6 +48,6 @@ pub fn report_judged(file: &[u8], out: &mut Buffer) -> usize
     ensures upper_bound { result ≤ room }
 {
     let mut log = [0u16; 28672];
-    let p = play(file, true, &mut log);
+    let p = play_judged(file, &mut log);
     put_played(out, &p, &log)
 }
