@@ -2,3 +2,4 @@ pub mod AnswerSizes
 pub mod Logs
 pub mod Playing
 pub mod PlayedFiles
+pub mod LogEntries

@@ -1,9 +1,12 @@
 -- The lines and the closing counts of a log are those of the answers that it holds, and how long the lines are. Assumes nothing.
-use mathlib.Core.Path.{◌≡◌, refl, sym, ap, ◌∙◌, subst}
-use mathlib.Core.List.{List, [], ◌∷◌, ◌++◌, append_assoc, append-nil}
-use Prim.Native.Nat.{ℕ, zero, suc, ◌+◌, ◌*◌, ◌^◌, ◌≤◌, ◌<◌}
+use mathlib.Core.Path.{◌≡◌, refl, ap, ◌∙◌}
+use mathlib.Core.List.{List, [], ◌∷◌, ◌++◌}
+use Prim.Native.Nat.{ℕ, suc, ◌+◌, ◌*◌, ◌^◌, ◌≤◌, ◌<◌}
 use native.Mathlib.Omega.{arith}
-use lib.ListN.{length, drop, get_or, length-append, drop_of_length-le}
+use lib.ListN.{length, set, drop, get_or, length-append, drop_of_length-le}
+use lib.Seq.{drop-cons}
+use native.Mathlib.Numerals.{add-one}
+use Rattle.std.proofs.Common.{map}
 use Rattle.request.specs.declared.Request.{Request}
 use Rattle.field.specs.declared.Field.{Field}
 use Rattle.rules.specs.declared.Answer.{Answer}
@@ -11,65 +14,46 @@ use Rattle.rules.specs.Step.{step_of}
 use Rattle.rules.specs.Play.{played}
 use Rattle.text.specs.Text.{line_of}
 use Rattle.text.proofs.Texts.{line_length}
-use Rattle.playing.specs.Log.{log_of, number_at, HasWords}
+use Rattle.playing.specs.Log.{log_entry, log_of, HasWords}
 use Rattle.playing.proofs.AnswerSizes.{Short, short_step}
-use Rattle.playing.proofs.Logs.{Here, here_in, kind_here}
 use Rattle.session.specs.declared.tally.Tally.{Tally}
-use Rattle.session.specs.Tally.{tally_of, tallied}
 use Rattle.session.specs.Report.{answer_line, answer_lines, end_line, refused_report}
-use Rattle.session.specs.Entries.{line_at, lines_to, tallied_to}
-use Rattle.session.proofs.Tallies.{Adds, adds_none, adds_more, adds_all}
+use Rattle.session.specs.Entries.{entry_line, entry_lines}
 
--- ---- the lines and the counts
-module _ (ps : List (Request × Answer)) (rest : List ℕ) where
-  abbrev log : List ℕ
-  log = log_of ps ++ rest
+-- ---- the lines of the entries of a log are those of the answers
+pub lines_all : (index : ℕ) (ps : List (Request × Answer)) → entry_lines index (map log_entry ps) ≡ answer_lines index ps
+unfolding answer_line
+lines_all index [] = refl
+lines_all index (p ∷ ps) = ap (λ (l : List ℕ). answer_line index p.1 ++ l) (lines_all (suc index) ps)
 
-  -- the i-th line
-  line_here : (i : ℕ) (t : Here ps log i) → line_at log i ≡ answer_line (suc i) t.pair.1
-  unfolding line_at answer_line
-  line_here i t =
-      let e1 = t.entry 1 (omega arith) in
-      let e2 = t.entry 2 (omega arith) in
-      let e3 = t.entry 3 (omega arith) in
-      let e4 = t.entry 4 (omega arith) in
-      let e5 = t.entry 5 (omega arith) in
-      let e6 = t.entry 6 (omega arith) in
-      let n : i + 1 ≡ suc i = omega arith in
-      let a = t.pair.1 in
-      let numbers : ◌≡◌ {A = List ℕ}
-      ((i + 1) ∷ get_or log (7 * i + 1) 0 ∷ get_or log (7 * i + 2) 0 ∷ get_or log (7 * i + 3) 0 ∷ get_or log (7 * i + 4) 0 ∷ get_or log (7 * i + 5) 0 ∷ get_or log (7 * i + 6) 0 ∷ [])
-      (suc i ∷ a.number ∷ a.aircraft ∷ a.zone ∷ a.fix ∷ a.leader ∷ a.along ∷ []) = cc in
-      ap line_of numbers
+-- the line of the i-th entry, and those behind it
+pub line_here : (entries : List (List ℕ)) (i : ℕ) (d : List ℕ) → i < length entries
+    → entry_lines (suc i) (drop i entries) ≡ entry_line (suc i) (get_or entries i d) ++ entry_lines (suc (i + 1)) (drop (i + 1) entries)
+line_here entries i d h = rw (add-one) (ap (entry_lines (suc i)) (drop-cons entries i d h))
 
-  -- the first i lines, and those of the answers from the i-th on
-  lines_so_far : (i : ℕ) → i ≤ length ps → lines_to log i ++ answer_lines (suc i) (drop i ps) ≡ answer_lines 1 ps
-  lines_so_far zero h = refl
-  lines_so_far (suc i) h =
-      let t = here_in ps rest i (omega arith) in
-      append_assoc (lines_to log i) (line_at log i) (answer_lines (suc (suc i)) (drop (suc i) ps))
-      ∙ ap (λ (l : List ℕ). lines_to log i ++ (l ++ answer_lines (suc (suc i)) (drop (suc i) ps))) (line_here i t)
-      ∙ sym (ap (λ (l : List (Request × Answer)). lines_to log i ++ answer_lines (suc i) l) t.rest)
-      ∙ lines_so_far i (omega arith)
+pub no_line : (index : ℕ) (entries : List (List ℕ)) (i : ℕ) → length entries ≤ i → entry_lines index (drop i entries) ≡ []
+no_line index entries i h = ap (entry_lines index) (drop_of_length-le entries h)
 
-  pub lines_all : lines_to log (length ps) ≡ answer_lines 1 ps
-  lines_all =
-      sym (append-nil (lines_to log (length ps)))
-      ∙ sym (ap (λ (l : List (Request × Answer)). lines_to log (length ps) ++ answer_lines (suc (length ps)) l) (drop_of_length-le ps {i = length ps} (omega arith)))
-      ∙ lines_so_far (length ps) (omega arith)
+-- an entry's line, by numbers that are those of the entry
+same_numbers : (xs ys : List ℕ) → length xs ≡ length ys → ((k : ℕ) → k < length ys → get_or xs k 0 ≡ get_or ys k 0) → xs ≡ ys
+same_numbers [] [] n same = refl
+same_numbers [] (y ∷ ys) n same = absurd (omega arith)
+same_numbers (x ∷ xs) [] n same = absurd (omega arith)
+same_numbers (x ∷ xs) (y ∷ ys) n same =
+    let first : x ≡ y = same 0 (omega arith) in
+    let rest : xs ≡ ys = same_numbers xs ys (omega arith) (λ k h. same (suc k) (omega arith)) in
+    cc
 
-  counted_so_far : (i : ℕ) → i ≤ length ps → Adds (tallied_to log i) (drop i ps) ps
-  counted_so_far zero h = adds_none ps
-  counted_so_far (suc i) h =
-      let t = here_in ps rest i (omega arith) in
-      let k = kind_here t in
-      let n : number_at log i ≡ t.pair.1.number = t.entry 1 (omega arith) in
-      adds_more (subst (λ (l : List (Request × Answer)). Adds (tallied_to log i) l ps) t.rest (counted_so_far i (omega arith)))
-      (ap (λ (m : ℕ). tallied (tallied_to log i) m (number_at log i)) k ∙ ap (tallied (tallied_to log i) t.pair.0.kind) n)
+indexed : (index : ℕ) (entry : List ℕ) → 0 < length entry → set entry 0 index ≡ index ∷ drop 1 entry
+indexed index [] h = absurd (omega arith)
+indexed index (n ∷ ns) h = refl
 
-  pub counted_all : tallied_to log (length ps) ≡ tally_of ps
-  counted_all =
-      adds_all (subst (λ (l : List (Request × Answer)). Adds (tallied_to log (length ps)) l ps) (drop_of_length-le ps {i = length ps} (omega arith)) (counted_so_far (length ps) (omega arith)))
+pub numbers_line : (numbers entry : List ℕ) (i : ℕ) → length numbers ≡ 7 → length entry ≡ 7 → ((k : ℕ) → k < 7 → get_or numbers k 0 ≡ get_or entry k 0)
+    → line_of (set numbers 0 (i + 1)) ≡ entry_line (suc i) entry
+numbers_line numbers entry i m n same =
+    let all = same_numbers numbers entry (omega arith) (λ k h. same k (omega arith)) in
+    let index : i + 1 ≡ suc i = omega arith in
+    ap (λ (ns : List ℕ). line_of (set ns 0 (i + 1))) all ∙ ap (λ (k : ℕ). line_of (set entry 0 k)) index ∙ ap line_of (indexed (suc i) entry (omega arith))
 
 -- ---- how long a line is
 

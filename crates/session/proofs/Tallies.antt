@@ -1,53 +1,26 @@
 -- Laws of the closing counts: one request counted by its kind, and the counts of a list. Assumes nothing.
-use mathlib.Core.Path.{◌≡◌, sym, ap, ◌∙◌}
+use mathlib.Core.Path.{◌≡◌, refl, sym, ap, ◌∙◌}
 use mathlib.Core.Bool.{Bool, true, false, cond, ◌&&◌}
 use mathlib.Core.List.{List, [], ◌∷◌}
-use Prim.Native.Nat.{ℕ, zero, suc, ◌+◌, ◌≤◌, ◌<◌}
+use Prim.Native.Nat.{ℕ, suc, ◌+◌, ◌≤◌, ◌<◌}
 use native.Mathlib.Omega.{arith}
 use lib.Dec.{eqb}
-use borrow.Author.Tests.{eq-eqb, ne_eqb}
+use lib.ListN.{length, get_or, drop, drop_of_length-le}
+use lib.Seq.{drop-cons}
+use native.Mathlib.Numerals.{add-one}
+use Rattle.std.proofs.Common.{map}
 use Rattle.request.specs.declared.Request.{Request}
 use Rattle.request.specs.Input.{is_entry}
 use Rattle.rules.specs.declared.Answer.{Answer}
-use Rattle.playing.specs.Log.{kind_at, number_at, of_kinds}
+use Rattle.playing.specs.Log.{log_entry, of_kinds}
 use Rattle.rules.specs.Play.{let_in, taxied_off, exited_from, misses}
 use Rattle.session.specs.declared.tally.Tally.{Tally}
 use Rattle.session.specs.Tally.{tally_of, empty_tally, tallied, Under}
-use Rattle.session.specs.Entries.{tallied_to}
+use Rattle.session.specs.Entries.{all_tallied}
 
 -- 1 or 0 by a test
 abbrev unit : Bool → ℕ
 unit b = cond b 1 0
-
-module _ (t : Tally) {u : Tally} (kind number : ℕ) where
-  -- a request of kind k that is accepted
-  pub counted_at : (k : ℕ) → number ≡ 0 → kind ≡ k → u.entries ≡ t.entries + unit (is_entry k) → u.taxis ≡ t.taxis + unit (eqb k 8) → u.exits ≡ t.exits + unit (eqb k 9)
-      → u.misses ≡ t.misses + unit (eqb k 10) → u ≡ tallied t kind number
-  unfolding tallied
-  counted_at k z e en ta ex mi i =
-      record {
-        entries = (en ∙ sym (by is_entry t.entries)) i;
-        taxis = (ta ∙ sym (by (λ kind. eqb kind 8) t.taxis)) i;
-        exits = (ex ∙ sym (by (λ kind. eqb kind 9) t.exits)) i;
-        misses = (mi ∙ sym (by (λ kind. eqb kind 10) t.misses)) i;
-      }
-    where
-      by : (kinds : ℕ → Bool) (n : ℕ) → n + of_kinds kinds kind number ≡ n + unit (kinds k)
-      by kinds n = ap (λ (b : Bool). n + unit (b && kinds kind)) (eq-eqb number 0 z) ∙ ap (λ (j : ℕ). n + unit (kinds j)) e
-
-  -- one that is refused
-  pub counted_none : (number ≡ 0 → ⊥) → u ≡ t → u ≡ tallied t kind number
-  unfolding tallied
-  counted_none z e =
-      e ∙ λ i. record {
-        entries = same is_entry t.entries i;
-        taxis = same (λ kind. eqb kind 8) t.taxis i;
-        exits = same (λ kind. eqb kind 9) t.exits i;
-        misses = same (λ kind. eqb kind 10) t.misses i;
-      }
-    where
-      same : (kinds : ℕ → Bool) (n : ℕ) → n ≡ n + of_kinds kinds kind number
-      same kinds n = let a : n ≡ n + 0 = omega arith in a ∙ sym (ap (λ (b : Bool). n + unit (b && kinds kind)) (ne_eqb number 0 z))
 
 -- ---- the counts of a list
 
@@ -84,14 +57,29 @@ adds_all {t} {all} a i =
     ends : (m n : ℕ) → m + 0 ≡ n → m ≡ n
     ends m n e = omega arith
 
--- ---- the counts of a log
+-- ---- the counts of the entries of a log
 
--- each count is no more than what was counted
-pub counted_few : (log : List ℕ) (n : ℕ) → Under (suc n) (tallied_to log n)
+-- those of requests and their answers, where what is counted and these are the counts of all
+pub all_counted : (ps : List (Request × Answer)) {t : Tally} {all : List (Request × Answer)} → Adds t ps all → all_tallied t (map log_entry ps) ≡ tally_of all
+all_counted [] a = adds_all a
+all_counted (p ∷ ps) a = all_counted ps (adds_more a refl)
+
+-- those of the entries from the i-th on
+pub counted_here : (t : Tally) (entries : List (List ℕ)) (i : ℕ) (d : List ℕ) → i < length entries
+    → all_tallied (tallied t (get_or (get_or entries i d) 0 0) (get_or (get_or entries i d) 1 0)) (drop (i + 1) entries) ≡ all_tallied t (drop i entries)
+counted_here t entries i d h = rw (add-one) (sym (ap (all_tallied t) (drop-cons entries i d h)))
+
+pub none_counted : (t : Tally) (entries : List (List ℕ)) (i : ℕ) {all : Tally} → length entries ≤ i → all_tallied t (drop i entries) ≡ all → t ≡ all
+none_counted t entries i h e = sym (ap (all_tallied t) (drop_of_length-le entries h)) ∙ e
+
+-- each count grows by one at most
+unit_low : (b : Bool) → unit b ≤ 1
+unit_low true = omega arith
+unit_low false = omega arith
+
+pub few_tallied : (t : Tally) (kind number : ℕ) {n : ℕ} → Under n t → Under (suc n) (tallied t kind number)
 unfolding tallied
-counted_few log zero = record { entries = omega arith; taxis = omega arith; exits = omega arith; misses = omega arith }
-counted_few log (suc n) =
-    let u = counted_few log n in
+few_tallied t kind number u =
     record {
       entries = more is_entry u.entries;
       taxis = more (λ k. eqb k 8) u.taxis;
@@ -99,9 +87,5 @@ counted_few log (suc n) =
       misses = more (λ k. eqb k 10) u.misses;
     }
   where
-    unit_low : (b : Bool) → unit b ≤ 1
-    unit_low true = omega arith
-    unit_low false = omega arith
-
-    more : (kinds : ℕ → Bool) {m : ℕ} → m < suc n → m + of_kinds kinds (kind_at log n) (number_at log n) < suc (suc n)
-    more kinds h = let l = unit_low (eqb (number_at log n) 0 && kinds (kind_at log n)) in omega arith
+    more : (kinds : ℕ → Bool) {n m : ℕ} → m < n → m + of_kinds kinds kind number < suc n
+    more kinds h = let l = unit_low (eqb number 0 && kinds kind) in omega arith

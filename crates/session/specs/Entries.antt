@@ -1,23 +1,31 @@
--- The lines and the closing counts of a log, one request after the other. Definitions only.
-use Rattle.std.specs.Prelude.{ℕ, zero, suc, ◌+◌, ◌*◌, List, [], ◌∷◌, ◌++◌, get_or}
+-- The lines and the closing counts of the entries of a log, one request after the other. Definitions only.
+use Rattle.std.specs.Prelude.{ℕ, suc, ◌*◌, ◌/◌, cond, List, [], ◌∷◌, ◌++◌, eqb, length, get_or, take, drop}
+use Rattle.std.specs.Simd.{first_chunks}
 use Rattle.text.specs.Text.{line_of}
-use Rattle.playing.specs.Log.{kind_at, number_at}
+use Rattle.playing.specs.declared.Played.{Played}
 use Rattle.session.specs.declared.tally.Tally.{Tally}
 use Rattle.session.specs.Tally.{empty_tally, tallied}
+use Rattle.session.specs.Report.{end_line, refused_report}
 
--- the line of the i-th request in a log, counted from 0: its index from 1, and its answer's six numbers
-unfoldable pub line_at : List ℕ → ℕ → List ℕ
-line_at log i =
-    line_of
-    ((i + 1)
-    ∷ get_or log (7 * i + 1) 0 ∷ get_or log (7 * i + 2) 0 ∷ get_or log (7 * i + 3) 0 ∷ get_or log (7 * i + 4) 0 ∷ get_or log (7 * i + 5) 0 ∷ get_or log (7 * i + 6) 0 ∷ [])
+-- the entries of the first n requests in a log
+abbrev pub entries_in : List ℕ → ℕ → List (List ℕ)
+entries_in log n = first_chunks 7 (length (take (7 * n) log) / 7) (take (7 * n) log)
 
--- the lines of the first n
-abbrev pub lines_to : List ℕ → ℕ → List ℕ
-lines_to log zero = []
-lines_to log (suc n) = lines_to log n ++ line_at log n
+-- the line of an entry: its index, and what stands behind the kind, the six numbers of the answer
+abbrev pub entry_line : ℕ → List ℕ → List ℕ
+entry_line index entry = line_of (index ∷ drop 1 entry)
 
--- the closing counts of the first n
-abbrev pub tallied_to : List ℕ → ℕ → Tally
-tallied_to log zero = empty_tally
-tallied_to log (suc n) = tallied (tallied_to log n) (kind_at log n) (number_at log n)
+-- the lines of entries, the first with this index
+abbrev pub entry_lines : ℕ → List (List ℕ) → List ℕ
+entry_lines index [] = []
+entry_lines index (entry ∷ entries) = entry_line index entry ++ entry_lines (suc index) entries
+
+-- the counts with each entry counted, by its kind and its answer's number
+abbrev pub all_tallied : Tally → List (List ℕ) → Tally
+all_tallied t [] = t
+all_tallied t (entry ∷ entries) = all_tallied (tallied t (get_or entry 0 0) (get_or entry 1 0)) entries
+
+-- the report of what was played, with its log: the lines of the entries and the last line, or that of a refused file
+unfoldable pub played_report : Played → List ℕ → List ℕ
+played_report p log =
+    cond (eqb p.number 0) (entry_lines 1 (entries_in log p.requests) ++ end_line (all_tallied empty_tally (entries_in log p.requests)) p.present) (refused_report p.number)

@@ -1,8 +1,8 @@
 // The closing counts of a session, kept answer by answer.
-ghost use Rattle.std.specs.Prelude.{◌≡◌, ◌*◌, ◌≤◌, length};
+ghost use Rattle.std.specs.Prelude.{◌≡◌, ◌≤◌, length};
 ghost use Rattle.limits.specs.Limits.{most_requests};
 ghost use Rattle.session.specs.Tally.{Under, empty_tally, tallied};
-ghost use Rattle.session.specs.Entries.{tallied_to};
+ghost use Rattle.session.specs.Entries.{all_tallied};
 
 // How many entries, taxis, exits and misses were accepted.
 #[derive(Clone, Copy)]
@@ -26,6 +26,7 @@ fn empty_tally() -> Tally
 }
 
 // The counts with a request of this kind and its answer's number counted.
+#[tactic(auto, unfolding(crate::specs::Tally::tallied))]
 fn tallied(t: Tally, kind: u16, number: u16) -> Tally
     requires { Under 65536 t }
     ensures { result ≡ tallied t kind number }
@@ -36,42 +37,32 @@ fn tallied(t: Tally, kind: u16, number: u16) -> Tally
     match kind {
         1..=2 => Tally {
             entries: t.entries + 1,
-            taxis: t.taxis,
-            exits: t.exits,
-            misses: t.misses,
+            ..t
         },
         8 => Tally {
-            entries: t.entries,
             taxis: t.taxis + 1,
-            exits: t.exits,
-            misses: t.misses,
+            ..t
         },
         9 => Tally {
-            entries: t.entries,
-            taxis: t.taxis,
             exits: t.exits + 1,
-            misses: t.misses,
+            ..t
         },
         10 => Tally {
-            entries: t.entries,
-            taxis: t.taxis,
-            exits: t.exits,
             misses: t.misses + 1,
+            ..t
         },
         _ => t,
     }
 }
 
-// The counts of the first n answers in a log.
-pub(crate) fn tally_of(log: &[u16], n: usize) -> Tally
-    requires { (7 * n ≤ length log.now) × (n ≤ most_requests) }
-    ensures { result ≡ tallied_to log.now n }
+// The counts of the entries of a log.
+pub(crate) fn tally_of(entries: &[[u16; 7]]) -> Tally
+    requires { length entries.now ≤ most_requests }
+    ensures { result ≡ all_tallied empty_tally entries.now }
 {
     let mut t = empty_tally();
-    let mut i = 0;
-    while i < n {
-        t = tallied(t, log[7 * i], log[7 * i + 1]);
-        i += 1;
+    for entry in entries {
+        t = tallied(t, entry[0], entry[1]);
     }
     t
 }

@@ -1,45 +1,25 @@
--- `session::lines::put_answers` meets its contract. The loop's invariant: the lines of the first i are put. Assumes nothing.
-use mathlib.Core.Path.{◌≡◌}
-use Prim.Native.Nat.{◌+◌, ◌*◌}
-use native.Mathlib.Numerals.{add-one}
-use native.Mathlib.Omega.{arith}
-use Rattle.text.proofs.Texts.{put_none, put_more, put_same}
-use Rattle.session.specs.Entries.{line_at}
+-- `session::lines::put_answers` meets its contract. The loop's invariant: the lines of the entries from this one on are left to put. Assumes nothing.
+use mathlib.Core.Path.{subst}
+use mathlib.Core.List.{List, []}
+use Prim.Native.Nat.{ℕ, suc, ◌+◌}
+use lib.ListN.{get_or, drop}
+use Rattle.text.specs.Buffer.{Put}
+use Rattle.text.proofs.Texts.{left_all, left_more, left_none}
+use Rattle.session.specs.Entries.{entry_line, entry_lines}
+use Rattle.session.proofs.LogLines.{line_here, numbers_line, no_line}
 use Rattle.session.proofs.lines.put_answers.Goals as goal
 
 pub loop-i-init : goal.loop-i-init
-loop-i-init c = (omega arith, put_none _ _)
-
-pub overflow_mul-e : goal.overflow_mul-e
-overflow_mul-e c = omega (arith, c.requires)
-
-pub overflow_cast-numbers : goal.overflow_cast-numbers
-overflow_cast-numbers c = omega (arith, c.shared_slice_known-in-loop-i-1.given (7 * c.loop-i.i + 1))
-
-pub overflow_cast-numbers-in-loop-i : goal.overflow_cast-numbers-in-loop-i
-overflow_cast-numbers-in-loop-i c = omega (arith, c.shared_slice_known-in-loop-i-2-1.given (7 * c.loop-i.i + 2))
-
-pub overflow_cast-numbers-in-loop-i-2 : goal.overflow_cast-numbers-in-loop-i-2
-overflow_cast-numbers-in-loop-i-2 c = omega (arith, c.shared_slice_known-in-loop-i-3-1.given (7 * c.loop-i.i + 3))
-
-pub overflow_cast-numbers-in-loop-i-3 : goal.overflow_cast-numbers-in-loop-i-3
-overflow_cast-numbers-in-loop-i-3 c = omega (arith, c.shared_slice_known-in-loop-i-4-1.given (7 * c.loop-i.i + 4))
-
-pub overflow_cast-numbers-in-loop-i-4 : goal.overflow_cast-numbers-in-loop-i-4
-overflow_cast-numbers-in-loop-i-4 c = omega (arith, c.shared_slice_known-in-loop-i-5-1.given (7 * c.loop-i.i + 5))
-
-pub overflow_cast-numbers-in-loop-i-5 : goal.overflow_cast-numbers-in-loop-i-5
-overflow_cast-numbers-in-loop-i-5 c = omega (arith, c.shared_slice_known-in-loop-i-6-1.given (7 * c.loop-i.i + 6))
+loop-i-init c = left_all _ _ _
 
 pub loop-i-preserved : goal.loop-i-preserved
-unfolding line_at
 loop-i-preserved c =
-    (omega arith, rw (add-one) (put_more c.loop-i.invariant.1 c.put_line-at.ensures))
-
-pub shape_of-out : goal.shape_of-out
-shape_of-out c = put_same c.loop-i.invariant.1
+    let l = c.loop-i in
+    let entries = c.args.entries.now in
+    let entry = get_or entries l.i [] in
+    let line = numbers_line c.map-numbers.result entry l.i c.map-numbers.ensures.items.long (c.told-entries l.i c.loop-i-test.true) (λ k h. (c.map-numbers.ensures.items.at k 0 0 h).2.met) in
+    left_more (entry_line (suc l.i) entry) (entry_lines (suc (l.i + 1)) (drop (l.i + 1) entries)) l.invariant (line_here entries l.i [] c.loop-i-test.true)
+    (subst (λ (bytes : List ℕ). Put l.out l.at bytes c.put_line-at.new.out c.put_line-at.result) line c.put_line-at.ensures)
 
 pub returns : goal.returns
-returns c =
-    let l = c.loop-i in
-    let e : l.i ≡ c.args.n = omega arith in record { put = rw e at l.invariant.1; has_words = λ k. omega (arith, c.shared_slice_known-1.given k) }
+returns c = left_none c.loop-i.invariant (no_line _ c.args.entries.now c.loop-i.i c.loop-i-test.false)

@@ -1,11 +1,9 @@
--- `session::lines::put_answers` meets its contract. The loop's invariant: the lines of the first i are put. Assumes nothing.
-use Prim.Native.Nat.{◌-◌, ◌≤◌}
-use Rattle.text.specs.Buffer.{Put}
-use Rattle.session.specs.Entries.{lines_to}
+-- `session::lines::put_answers` meets its contract. The loop's invariant: the lines of the entries from this one on are left to put. Assumes nothing.
+use Prim.Native.Nat.{suc}
+use lib.ListN.{drop}
+use Rattle.text.proofs.Texts.{Left}
+use Rattle.session.specs.Entries.{entry_lines}
 use Rattle.session.proofs.lines.put_answers.Given as goal
 
 abbrev pub invariant-loop-i : goal.invariant-loop-i
-invariant-loop-i l = (l.i ≤ l.n) × Put l.initial.out 0 (lines_to l.log l.i) l.out l.at
-
-abbrev pub decreases-loop-i : goal.decreases-loop-i
-decreases-loop-i l = l.n - l.i
+invariant-loop-i l = Left l.initial.out 0 (entry_lines 1 l.entries) l.out l.at (entry_lines (suc l.i) (drop l.i l.entries))

@@ -1,31 +1,39 @@
--- `session::tally::tally_of` meets its contract. The loop's invariant: the first i are counted. Assumes nothing.
-use mathlib.Core.Path.{◌≡◌, ap, ◌∙◌, subst⁻¹}
-use Prim.Native.Nat.{suc}
-use native.Mathlib.Numerals.{add-one}
+-- `session::tally::tally_of` meets its contract. The loop's invariant: with the entries from this one on counted, the counts are those of all. Assumes nothing.
+use mathlib.Core.Path.{ap, ◌∙◌, subst⁻¹}
+use mathlib.Core.List.{[]}
+use Prim.Native.Nat.{suc, ◌+◌}
 use native.Mathlib.Omega.{arith}
+use native.Mathlib.Numerals.{add-one}
+use lib.ListN.{drop}
 use Rattle.session.specs.declared.tally.Tally.{Tally}
-use Rattle.playing.specs.Log.{kind_at, number_at}
-use Rattle.session.specs.Tally.{Under, tallied}
-use Rattle.session.proofs.Tallies.{counted_few}
+use Rattle.session.specs.Tally.{Under}
+use Rattle.session.specs.Entries.{all_tallied}
+use Rattle.session.proofs.Tallies.{few_tallied, counted_here, none_counted}
 use Rattle.session.proofs.tally.tally_of.Goals as goal
 
-pub loop-i-init : goal.loop-i-init
-loop-i-init c = (omega arith, c.empty_tally-t.ensures)
+pub loop-entry-init : goal.loop-entry-init
+loop-entry-init c =
+    record {
+      few = subst⁻¹ (Under 1) c.empty_tally-t.ensures (record { entries = omega arith; taxis = omega arith; exits = omega arith; misses = omega arith });
+      same = ap (λ (t : Tally). all_tallied t c.args.entries.now) c.empty_tally-t.ensures;
+    }
 
 pub tallied-t-requires : goal.tallied-t-requires
 tallied-t-requires c =
-    let u = subst⁻¹ (Under (suc c.loop-i.i)) c.loop-i.invariant.1 (counted_few _ _) in
-    let few = c.requires.1 in
+    let u = c.loop-entry.invariant.few in
+    let few = c.requires in
     record { entries = omega (arith, u.entries); taxis = omega (arith, u.taxis); exits = omega (arith, u.exits); misses = omega (arith, u.misses) }
 
-pub loop-i-preserved : goal.loop-i-preserved
-loop-i-preserved c =
-    let l = c.loop-i in
-    let log = c.args.log.now in
-    (omega arith, rw (add-one) (c.tallied-t.ensures ∙ ap (λ (t : Tally). tallied t (kind_at log l.i) (number_at log l.i)) l.invariant.1))
+pub loop-entry-preserved : goal.loop-entry-preserved
+loop-entry-preserved c =
+    let l = c.loop-entry in
+    let rest = drop (l.entry-index + 1) c.args.entries.now in
+    record {
+      few = rw (add-one) (subst⁻¹ (Under (suc (suc l.entry-index))) c.tallied-t.ensures (few_tallied l.t _ _ l.invariant.few));
+      same = ap (λ (t : Tally). all_tallied t rest) c.tallied-t.ensures ∙ counted_here l.t c.args.entries.now l.entry-index [] c.loop-entry-test.true ∙ l.invariant.same;
+    }
 
 pub returns : goal.returns
 returns c =
-    let l = c.loop-i in
-    let e : l.i ≡ c.args.n = omega arith in
-    rw e at l.invariant.1
+    let l = c.loop-entry in
+    none_counted l.t c.args.entries.now l.entry-index c.loop-entry-test.false l.invariant.same

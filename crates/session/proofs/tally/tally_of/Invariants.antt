@@ -1,11 +1,10 @@
--- `session::tally::tally_of` meets its contract. The loop's invariant: the first i are counted. Assumes nothing.
+-- `session::tally::tally_of` meets its contract. The loop's invariant: with the entries from this one on counted, the counts are those of all. Assumes nothing.
 use mathlib.Core.Path.{◌≡◌}
-use Prim.Native.Nat.{◌-◌, ◌≤◌}
-use Rattle.session.specs.Entries.{tallied_to}
+use Prim.Native.Nat.{suc}
+use lib.ListN.{drop}
+use Rattle.session.specs.Tally.{Under, empty_tally}
+use Rattle.session.specs.Entries.{all_tallied}
 use Rattle.session.proofs.tally.tally_of.Given as goal
 
-abbrev pub invariant-loop-i : goal.invariant-loop-i
-invariant-loop-i l = (l.i ≤ l.n) × (l.t ≡ tallied_to l.log l.i)
-
-abbrev pub decreases-loop-i : goal.decreases-loop-i
-decreases-loop-i l = l.n - l.i
+abbrev pub invariant-loop-entry : goal.invariant-loop-entry
+invariant-loop-entry l = record { few : Under (suc l.entry-index) l.t; same : all_tallied l.t (drop l.entry-index l.entries) ≡ all_tallied empty_tally l.entries }
