@@ -8,24 +8,25 @@ use practice::FileLegs;
 pub(crate) fn in_8(n: usize) -> u8
     ensures { result ≡ in8 n }
 {
-    if n < 255 { n as u8 } else { 255 }
+    u8::try_from(n).unwrap_or(u8::MAX)
 }
 
 // A leg, a speed, an amount or a spacing.
 pub(crate) fn in_16(n: usize) -> u16
     ensures { result ≡ in16 n }
 {
-    if n < 65535 { n as u16 } else { 65535 }
+    u16::try_from(n).unwrap_or(u16::MAX)
 }
 
 // An aircraft's number, for a request of a kind.
 pub(crate) fn number_in_16(kind: usize, n: usize) -> u16
     ensures { result ≡ number_in16 kind n }
 {
-    if n <= 65535 {
-        return n as u16;
+    match u16::try_from(n) {
+        Ok(number) => number,
+        Err(_) if kind == 12 => 1,
+        Err(_) => 0,
     }
-    if kind == 12 { 1 } else { 0 }
 }
 
 // The four legs of a file or of a start.
