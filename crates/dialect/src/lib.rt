@@ -4,7 +4,7 @@
 pub mod going;
 
 // One of the list: a number, its location (the zone's number), its place in the landing sequence from 1, 0 on the runway, and its fix.
-#[derive(Clone, Copy)]
+#[derive(Clone, Copy, Debug, Default, PartialEq, Eq)]
 pub struct ListEntry {
     pub number: u16,
     pub location: u16,
