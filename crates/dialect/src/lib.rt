@@ -13,6 +13,7 @@ pub struct ListEntry {
 }
 
 // The answer of `list_of`: a number, 0 where it is not refused, and the first `count` of `entries`, in sequence order.
+// No Result: its parts are the numbers that the C interface is given.
 #[derive(Clone, Copy)]
 pub struct Listing {
     pub number: u16,

@@ -17,6 +17,7 @@ use refusals::Refusal;
 const WIDEST: u16 = 512;
 
 // Document 02's answer of a pair, with the gap in miles: under the spacing that was asked for, or not.
+// A variant for each answer as document 02 names it, and no flag beside a gap.
 #[derive(Clone, Copy)]
 pub enum Spacing {
     Close(f64),
@@ -32,6 +33,7 @@ pub struct Pair {
 }
 
 // The answer of `gaps`: a number, 0 where it is not refused, and the first `count` of `pairs`, in sequence order.
+// No Result: its parts are the numbers that the C interface is given.
 #[derive(Clone, Copy)]
 pub struct Spacings {
     pub number: u16,
