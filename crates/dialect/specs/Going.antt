@@ -1,10 +1,12 @@
 -- The classroom dialect (02, 2.12), going: the list of a field, in sequence order. Definitions only.
-use Rattle.std.specs.Prelude.{Bool, cond, List, [], ◌∷◌, ◌++◌, ℕ, suc, ◌-◌, length, replicate}
+use Rattle.std.specs.Prelude.{Bool, cond, List, [], ◌∷◌, ◌++◌, ℕ, suc, ◌-◌, length, replicate, Result, Ok, Err}
 use Rattle.field.specs.declared.Field.{Field}
 use Rattle.field.specs.Airspace.{right, left, lateral, intermediate, runway, order_of}
 use Rattle.field.specs.Lists.{every}
 use Rattle.questions.specs.Counts.{is_empty}
 use Rattle.questions.specs.Find.{place_of, fix_of, aircraft_at}
+use Rattle.refusals.specs.declared.Refusal.{Refusal}
+use Rattle.refusals.specs.Refusals.{number_of}
 use Rattle.finder.specs.declared.Indexed.{Indexed}
 use Rattle.finder.specs.Finder.{within_bounds_indexed}
 use Rattle.dialect.specs.declared.ListEntry.{ListEntry}
@@ -48,6 +50,11 @@ entries_listed entries = record { number = 0; count = length entries; entries = 
 -- a refusal, with nobody listed
 unfoldable pub list_refused : ℕ → Listing
 list_refused number = record { number = number; count = 0; entries = replicate 5 no_entry }
+
+-- the answer that a reason to refuse gives, by its number, or the list
+abbrev pub answered : Result Listing Refusal → Listing
+answered (Ok listing) = listing
+answered (Err refusal) = list_refused (number_of refusal)
 
 -- the list of a field with an index beside it: refused by 10 where the bounds are broken, which an index that disagrees does too (02, 2.9), and then by 29
 -- where somebody is in a zone that the dialect lacks

@@ -4,7 +4,7 @@
 pub mod going;
 
 // One of the list: a number, its location (the zone's number), its place in the landing sequence from 1, 0 on the runway, and its fix.
-#[derive(Clone, Copy)]
+#[derive(Clone, Copy, Debug, Default, PartialEq, Eq)]
 pub struct ListEntry {
     pub number: u16,
     pub location: u16,
@@ -13,6 +13,7 @@ pub struct ListEntry {
 }
 
 // The answer of `list_of`: a number, 0 where it is not refused, and the first `count` of `entries`, in sequence order.
+// No Result: its parts are the numbers that the C interface is given.
 #[derive(Clone, Copy)]
 pub struct Listing {
     pub number: u16,

@@ -1,4 +1,4 @@
--- The field of a list by which test is the first that fails. Assumes nothing.
+-- The field of a list that is allowed: refused by 25, or accepted. Assumes nothing.
 use mathlib.Core.Path.{◌≡◌, sym, ap, ◌∙◌}
 use mathlib.Core.Bool.{true, false, cond}
 use mathlib.Core.List.{List}
@@ -25,27 +25,13 @@ module _ (legs : FileLegs) (speed : ℕ) (bytes : List ℕ) where
   unfolding field_of_list
   by_number e = ap (λ (n : ℕ). cond (eqb n 0) (record { number = 0; after = on_list }) (not_built n)) e
 
-  pub refused_7 : legs_allowed legs ≡ false → field_of_list legs speed bytes ≡ not_built 7
-  unfolding coming_number
-  refused_7 e = by_number (if_false _ _ e)
-
-  module _ (l : legs_allowed legs ≡ true) where
-    pub refused_4 : within 1 fastest speed ≡ false → field_of_list legs speed bytes ≡ not_built 4
+  module _ (l : legs_allowed legs ≡ true) (s : within 1 fastest speed ≡ true) (a : list_allowed bytes ≡ true) {x : Indexed} (q : x ≡ on_list) where
+    pub refused_25 : within_bounds_indexed x ≡ false → field_of_list legs speed bytes ≡ not_built 25
     unfolding coming_number
-    refused_4 e = by_number (if_true _ _ l ∙ if_false _ _ e)
+    refused_25 e = by_number (if_true _ _ l ∙ if_true _ _ s ∙ if_true _ _ a ∙ if_false _ _ (ap within_bounds_indexed (sym q) ∙ e))
 
-    module _ (s : within 1 fastest speed ≡ true) where
-      pub refused_29 : list_allowed bytes ≡ false → field_of_list legs speed bytes ≡ not_built 29
-      unfolding coming_number
-      refused_29 e = by_number (if_true _ _ l ∙ if_true _ _ s ∙ if_false _ _ e)
-
-      module _ (a : list_allowed bytes ≡ true) where
-        pub refused_25 : {x : Indexed} → x ≡ on_list → within_bounds_indexed x ≡ false → field_of_list legs speed bytes ≡ not_built 25
-        unfolding coming_number
-        refused_25 q e = by_number (if_true _ _ l ∙ if_true _ _ s ∙ if_true _ _ a ∙ if_false _ _ (ap within_bounds_indexed (sym q) ∙ e))
-
-        pub accepted : {x : Indexed} → x ≡ on_list → within_bounds_indexed x ≡ true → field_of_list legs speed bytes ≡ record { number = 0; after = x }
-        unfolding coming_number
-        accepted q e =
-            by_number (if_true _ _ l ∙ if_true _ _ s ∙ if_true _ _ a ∙ if_true _ _ (ap within_bounds_indexed (sym q) ∙ e))
-            ∙ ap {B = Built} (λ (y : Indexed). record { number = 0; after = y }) (sym q)
+    pub accepted : within_bounds_indexed x ≡ true → field_of_list legs speed bytes ≡ record { number = 0; after = x }
+    unfolding coming_number
+    accepted e =
+        by_number (if_true _ _ l ∙ if_true _ _ s ∙ if_true _ _ a ∙ if_true _ _ (ap within_bounds_indexed (sym q) ∙ e))
+        ∙ ap {B = Built} (λ (y : Indexed). record { number = 0; after = y }) (sym q)

@@ -1,5 +1,5 @@
 -- The classroom dialect (02, 2.12), coming back: the field of a list in which everyone is in a holding. Definitions only.
-use Rattle.std.specs.Prelude.{Bool, true, cond, ◌&&◌, List, [], ◌∷◌, ℕ, suc, ◌%◌, eqb, leb, length, get_or}
+use Rattle.std.specs.Prelude.{Bool, true, cond, ◌&&◌, List, [], ◌∷◌, ℕ, suc, ◌%◌, eqb, leb, length, get_or, Result, Ok, Err}
 use Rattle.limits.specs.Limits.{fastest}
 use Rattle.request.specs.Input.{word, within, first_refused}
 use Rattle.practice.specs.declared.FileLegs.{FileLegs}
@@ -8,6 +8,9 @@ use Rattle.field.specs.declared.Legs.{Legs}
 use Rattle.field.specs.declared.Field.{Field}
 use Rattle.field.specs.Airspace.{is_side, opposite, zone_of, entering, empty_field}
 use Rattle.edits.specs.Edits.{with_tail, appended, with_zone, with_sequence}
+use Rattle.refusals.specs.declared.Refusal.{Refusal}
+use Rattle.refusals.specs.Refusals.{number_of}
+use Rattle.finder.specs.declared.Indexed.{Indexed}
 use Rattle.finder.specs.Finder.{within_bounds_indexed}
 use Rattle.indexed.specs.Indexed.{with_index}
 use Rattle.playing.specs.Playing.{legs_in_miles, no_legs}
@@ -88,6 +91,11 @@ coming_number legs speed bytes =
 -- a refusal, with the field of a refused practice file: nobody is on it, and it has no legs
 unfoldable pub not_built : ℕ → Built
 not_built number = record { number = number; after = with_index (empty_field (legs_in_miles no_legs)) }
+
+-- the answer that a reason to refuse gives, by its number, or the field
+abbrev pub answered : Result Indexed Refusal → Built
+answered (Ok x) = record { number = 0; after = x }
+answered (Err refusal) = not_built (number_of refusal)
 
 -- the field of a list, with its index beside it; it keeps the bounds, and need not be one that requests reach
 unfoldable pub field_of_list : FileLegs → ℕ → List ℕ → Built

@@ -1,22 +1,21 @@
 // The field of a list (specs/Coming.antt). It need not be a field that requests reach: nothing of demand 3 is claimed of it, and somebody may be on
 // it with nobody able to move.
-ghost use Rattle.std.specs.Prelude.{◌≡◌, get_or};
+ghost use Rattle.std.specs.Prelude.{◌≡◌, map};
 ghost use Rattle.limits.specs.Limits.{fastest};
 ghost use Rattle.request.specs.Input.{within};
-ghost use Rattle.dialect.specs.Going.{no_entry};
-ghost use Rattle.dialect_field.specs.Coming.{entries_in, is_placed, placed_from, list_allowed, fix_in, with_entry, built, not_built, field_of_list};
+ghost use Rattle.dialect_field.specs.Coming.{entry_in, is_placed, placed_from, list_allowed, fix_in, with_entry, built, not_built, answered, field_of_list};
 
 use crate::Built;
 use dialect::ListEntry;
-use dialect::going::no_entry;
 use edits::{appended, with_sequence, with_tail, with_zone};
 use field::airspace::{empty_field, entering, opposite, zone_of};
 use field::{Field, Legs};
-use finder::within_bounds_indexed;
+use finder::{Indexed, within_bounds_indexed};
 use indexed::with_index;
 use limits::FASTEST;
 use playing::legs_in_miles;
 use practice::{FileLegs, legs_allowed};
+use refusals::Refusal;
 use request::word;
 
 // How many bytes an entry has.
@@ -25,45 +24,32 @@ const ENTRY: usize = 8;
 // The most entries of a list.
 const MOST: usize = 5;
 
-// The i-th entry of a list, counted from 0; all zero where there is none.
-fn entry_at(list: &[u8], i: usize) -> ListEntry
-    ensures { result ≡ get_or (entries_in list.now) i no_entry }
+// An entry by its eight bytes.
+fn entry_in(bytes: &[u8; ENTRY]) -> ListEntry
+    ensures { result ≡ entry_in bytes.now }
 {
-    if i < list.len() / ENTRY {
-        let at = ENTRY * i;
-        ListEntry {
-            number: word(list[at], list[at + 1]),
-            location: word(list[at + 2], list[at + 3]),
-            place: word(list[at + 4], list[at + 5]),
-            fix: word(list[at + 6], list[at + 7]),
-        }
-    } else {
-        no_entry()
+    ListEntry {
+        number: word(bytes[0], bytes[1]),
+        location: word(bytes[2], bytes[3]),
+        place: word(bytes[4], bytes[5]),
+        fix: word(bytes[6], bytes[7]),
     }
 }
 
 // Whether an entry's location is 1 to 4 and its place is this one.
+#[tactic(auto, unfolding(crate::specs::Coming::is_placed))]
 fn is_placed(e: ListEntry, place: usize) -> bool
     ensures { result ≡ is_placed e place }
 {
-    let location = e.location;
-    if location < 1 {
-        return false;
-    }
-    if 4 < location {
-        return false;
-    }
-    e.place as usize == place
+    1 <= e.location && e.location <= 4 && e.place as usize == place
 }
 
 // Whether every entry's location is 1 to 4 and its place is its position.
-fn all_placed(list: &[u8]) -> bool
-    ensures { result ≡ placed_from 1 (entries_in list.now) }
+fn all_placed(entries: &[[u8; ENTRY]]) -> bool
+    ensures { result ≡ placed_from 1 (map entry_in entries.now) }
 {
-    let n = list.len() / ENTRY;
-    for i in 0..n {
-        let e = entry_at(list, i);
-        if !is_placed(e, i + 1) {
+    for (i, bytes) in entries.iter().enumerate() {
+        if !is_placed(entry_in(bytes), i + 1) {
             return false;
         }
     }
@@ -74,37 +60,34 @@ fn all_placed(list: &[u8]) -> bool
 fn list_allowed(list: &[u8]) -> bool
     ensures { result ≡ list_allowed list.now }
 {
-    let size = list.len();
-    if size % ENTRY != 0 {
+    let (entries, part) = list.as_chunks::<ENTRY>();
+    if part.len() != 0 {
         return false;
     }
-    if MOST < size / ENTRY {
-        return false;
-    }
-    all_placed(list)
+    entries.len() <= MOST && all_placed(entries)
 }
 
 // Whether a speed is 1 to 512.
 fn speed_allowed(speed: u16) -> bool
     ensures { result ≡ within 1 fastest speed }
 {
-    if 1 <= speed { speed <= FASTEST } else { false }
+    1 <= speed && speed <= FASTEST
 }
 
 // A fix as the field holds it; 0 for what is no side.
+#[tactic(auto, unfolding(crate::specs::Coming::fix_in, field::specs::Airspace::is_side))]
 fn fix_in(fix: u16) -> u8
     ensures { result ≡ fix_in fix }
 {
-    if fix == 1 {
-        1
-    } else if fix == 2 {
-        2
-    } else {
-        0
+    match fix {
+        1 => 1,
+        2 => 2,
+        _ => 0,
     }
 }
 
 // The field with one of the list in its zone, at the end of the sequence.
+#[tactic(auto, unfolding(crate::specs::Coming::with_entry))]
 fn with_entry(f: Field, speed: u16, e: ListEntry) -> Field
     ensures { result ≡ with_entry f speed e }
 {
@@ -116,19 +99,18 @@ fn with_entry(f: Field, speed: u16, e: ListEntry) -> Field
 }
 
 // The field of every entry of a list, one after the other on the empty field.
-fn built(legs: Legs, speed: u16, list: &[u8]) -> Field
-    ensures { result ≡ built legs speed (entries_in list.now) }
+fn built(legs: Legs, speed: u16, entries: &[[u8; ENTRY]]) -> Field
+    ensures { result ≡ built legs speed (map entry_in entries.now) }
 {
-    let n = list.len() / ENTRY;
     let mut f = empty_field(legs);
-    for i in 0..n {
-        let e = entry_at(list, i);
-        f = with_entry(f, speed, e);
+    for bytes in entries {
+        f = with_entry(f, speed, entry_in(bytes));
     }
     f
 }
 
 // A refusal's number, and a field with nobody on it.
+#[tactic(auto, unfolding(crate::specs::Coming::not_built))]
 fn not_built(number: u16) -> Built
     ensures { result ≡ not_built number }
 {
@@ -139,30 +121,39 @@ fn not_built(number: u16) -> Built
         missed: 0,
     };
     Built {
-        number: number,
+        number,
         after: with_index(empty_field(legs_in_miles(none))),
     }
+}
+
+// The field of a list with its index, or why it is refused.
+#[tactic(auto, unfolding(crate::specs::Coming::field_of_list, crate::specs::Coming::coming_number, refusals::specs::Refusals::number_of))]
+fn field_or_refusal(legs: FileLegs, speed: u16, list: &[u8]) -> Result<Indexed, Refusal>
+    ensures { answered result ≡ field_of_list legs speed list.now }
+{
+    if !legs_allowed(legs) {
+        return Err(Refusal::LegOutOfRange);
+    }
+    if !speed_allowed(speed) {
+        return Err(Refusal::AmountDoesNotFit);
+    }
+    if !list_allowed(list) {
+        return Err(Refusal::NotInTheDialect);
+    }
+    let (entries, _) = list.as_chunks::<ENTRY>();
+    let x = with_index(built(legs_in_miles(legs), speed, entries));
+    if !within_bounds_indexed(x) {
+        return Err(Refusal::BoundWouldBreak);
+    }
+    Ok(x)
 }
 
 // The field of a list lent as bytes, eight for each entry; 7 for a leg, then 4 for the speed, then 29 for the list, then 25 for a field that breaks a bound.
 pub fn field_of_list(legs: FileLegs, speed: u16, list: &[u8]) -> Built
     ensures { result ≡ field_of_list legs speed list.now }
 {
-    if !legs_allowed(legs) {
-        return not_built(7);
-    }
-    if !speed_allowed(speed) {
-        return not_built(4);
-    }
-    if !list_allowed(list) {
-        return not_built(29);
-    }
-    let x = with_index(built(legs_in_miles(legs), speed, list));
-    if !within_bounds_indexed(x) {
-        return not_built(25);
-    }
-    Built {
-        number: 0,
-        after: x,
+    match field_or_refusal(legs, speed, list) {
+        Ok(after) => Built { number: 0, after },
+        Err(refusal) => not_built(refusal.number()),
     }
 }

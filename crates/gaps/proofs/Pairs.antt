@@ -1,15 +1,12 @@
--- The pairs of a field as the loop of `pairs_listed` finds them, one neighbour after the other, in an array of three places. Assumes nothing.
+-- The pairs of a field as the loop of `pairs_listed` finds them, two neighbours after two, in an array of three places. Assumes nothing.
 use mathlib.Core.Path.{◌≡◌, refl, sym, ap, ◌∙◌}
 use mathlib.Core.Bool.{Bool, true, false, cond, ◌&&◌}
 use mathlib.Core.List.{List, [], ◌∷◌, ◌++◌, append_assoc, append-nil}
 use Prim.Native.Nat.{ℕ, suc, ◌+◌, ◌-◌, ◌≤◌, ◌<◌}
 use native.Mathlib.Omega.{arith}
-use lib.ListN.{length, get_or, drop, set, replicate, length-append, length-drop}
+use lib.ListN.{length, get_or, take, drop, set, replicate, length-append}
 use lib.Seq.{set_at, append_snoc}
 use Rattle.field.specs.declared.Field.{Field}
-use Rattle.field.specs.declared.Sequence.{Sequence}
-use Rattle.field.specs.Airspace.{order_of}
-use Rattle.field.proofs.Shapes.{order_next}
 use Rattle.gaps.specs.declared.Pair.{Pair}
 use Rattle.gaps.specs.declared.Spacings.{Spacings}
 use Rattle.gaps.specs.Gaps.{on_approach, pair_of, pair_if_both, pairs_in, no_pair, pairs_listed}
@@ -29,77 +26,77 @@ held_more found p h =
     ∙ ap (λ (n : ℕ). (found ++ (p ∷ [])) ++ replicate n no_pair) same
 
 module _ (f : Field) (spacing : ℕ) where
-  -- what is found before neighbour i: the array, the count, and that the rest of the sequence gives the rest of the pairs
-  pub record PairsFound (s : Sequence) (pairs : List Pair) (count i : ℕ) : Type 0 where
+  -- what is found before the rest of the sequence: the array, the count, and that the rest gives the rest of the pairs
+  pub record PairsFound (order : List ℕ) (pairs : List Pair) (count : ℕ) (rest : List ℕ) : Type 0 where
     pub found : List Pair
     pub array : pairs ≡ held found
     pub counted : count ≡ length found
-    pub few : count < i
-    pub rest : found ++ pairs_in f spacing (drop (i - 1) (order_of s)) ≡ pairs_in f spacing (order_of s)
+    pub few : count + length rest ≤ length order
+    pub more : found ++ pairs_in f spacing rest ≡ pairs_in f spacing order
 
-  pub found_none : (s : Sequence) {pairs : List Pair} → pairs ≡ replicate 3 no_pair → PairsFound s pairs 0 1
-  found_none s e = record { found = []; array = e; counted = refl; few = omega arith; rest = refl }
+  pub found_none : (order : List ℕ) {pairs : List Pair} → pairs ≡ replicate 3 no_pair → PairsFound order pairs 0 order
+  found_none order e = record { found = []; array = e; counted = refl; few = omega arith; more = refl }
 
-  -- neighbour i and the one before it, and the rest from neighbour i on
-  neighbours : (s : Sequence) (i : ℕ) → 1 ≤ i → i < length (order_of s)
-      → pairs_in f spacing (drop (i - 1) (order_of s)) ≡ pair_if_both f spacing (get_or s.numbers (i - 1) 0) (get_or s.numbers i 0) ++ pairs_in f spacing (drop (i + 1 - 1) (order_of s))
-  neighbours s i low h =
-      let back : i - 1 + 1 ≡ i = omega arith in
-      let on : i ≡ i + 1 - 1 = omega arith in
-      let l = get_or s.numbers (i - 1) 0 in
-      let m = get_or s.numbers i 0 in
-      ap (pairs_in f spacing) (order_next s (i - 1) (omega arith) ∙ ap (λ (k : ℕ). l ∷ drop k (order_of s)) back ∙ ap (λ (r : List ℕ). l ∷ r) (order_next s i h))
-      ∙ ap (λ (r : List ℕ). pair_if_both f spacing l m ++ pairs_in f spacing r) (sym (order_next s i h) ∙ ap (λ (k : ℕ). drop k (order_of s)) on)
+  -- the first two of the rest, and the rest from the second of them on
+  neighbours : (rest : List ℕ) {two behind : List ℕ} → 2 ≤ length rest → two ≡ take 2 rest → behind ≡ drop 1 rest
+      → (length behind + 1 ≡ length rest) × (pair_if_both f spacing (get_or two 0 0) (get_or two 1 0) ++ pairs_in f spacing behind ≡ pairs_in f spacing rest)
+  neighbours [] h w e = absurd (omega arith)
+  neighbours (n ∷ []) h w e = absurd (omega arith)
+  neighbours (n ∷ m ∷ ns) {two} {behind} h w e =
+      let k = ap length e in (
+        omega arith,
+        ap (λ (x : List ℕ). pair_if_both f spacing (get_or x 0 0) (get_or x 1 0) ++ pairs_in f spacing behind) w
+            ∙ ap (λ (r : List ℕ). pair_if_both f spacing n m ++ pairs_in f spacing r) e,
+      )
 
-  module _ (s : Sequence) (i : ℕ) (low : 1 ≤ i) (h : i < length (order_of s)) {pairs : List Pair} {count : ℕ} (p : PairsFound s pairs count i) where
+  module _ {order rest two behind : List ℕ} (low : 2 ≤ length rest) (w : two ≡ take 2 rest) (e : behind ≡ drop 1 rest) {pairs : List Pair} {count : ℕ}
+      (p : PairsFound order pairs count rest) where
     abbrev l : ℕ
-    l = get_or s.numbers (i - 1) 0
+    l = get_or two 0 0
 
     abbrev m : ℕ
-    m = get_or s.numbers i 0
+    m = get_or two 1 0
 
     -- neighbours that are no pair
-    pub found_same : (on_approach f l && on_approach f m) ≡ false → {pairs' : List Pair} {count' : ℕ} → pairs' ≡ pairs → count' ≡ count → PairsFound s pairs' count' (i + 1)
+    pub found_same : (on_approach f l && on_approach f m) ≡ false → PairsFound order pairs count behind
     unfolding pair_if_both
-    found_same e a n = record {
+    found_same t = record {
       found = p.found;
-      array = a ∙ p.array;
-      counted = n ∙ p.counted;
-      few = let k = p.few in omega arith;
-      rest =
-          let none : pair_if_both f spacing l m ≡ [] = ap (λ (t : Bool). cond t (pair_of f spacing l m ∷ []) []) e in
-          ap (λ (r : List Pair). p.found ++ (r ++ pairs_in f spacing (drop (i + 1 - 1) (order_of s)))) (sym none) ∙ ap (λ (r : List Pair). p.found ++ r) (sym (neighbours s i low h)) ∙ p.rest;
+      array = p.array;
+      counted = p.counted;
+      few = let k = p.few in let j = (neighbours rest low w e).0 in omega arith;
+      more =
+          let none : pair_if_both f spacing l m ≡ [] = ap (λ (b : Bool). cond b (pair_of f spacing l m ∷ []) []) t in
+          ap (λ (r : List Pair). p.found ++ (r ++ pairs_in f spacing behind)) (sym none) ∙ ap (λ (r : List Pair). p.found ++ r) (neighbours rest low w e).1 ∙ p.more;
     }
 
     -- neighbours that are one
-    pub found_more : (on_approach f l && on_approach f m) ≡ true → count < 3 → {q : Pair} → q ≡ pair_of f spacing l m → {pairs' : List Pair} {count' : ℕ} → pairs' ≡ set pairs count q → count' ≡ count + 1
-        → PairsFound s pairs' count' (i + 1)
+    pub found_more : (on_approach f l && on_approach f m) ≡ true → count < 3 → {q : Pair} → q ≡ pair_of f spacing l m → PairsFound order (set pairs count q) (count + 1) behind
     unfolding pair_if_both
-    found_more e room {q} same a n = record {
+    found_more t room {q} same = record {
       found = p.found ++ (q ∷ []);
       array =
-          a ∙ ap (λ (r : List Pair). set r count q) p.array
+          ap (λ (r : List Pair). set r count q) p.array
           ∙ ap (λ (n : ℕ). set (held p.found) n q) p.counted
           ∙ held_more p.found q (let c = p.counted in omega arith);
       counted = let c = p.counted in let long = length-append p.found (q ∷ []) in omega arith;
-      few = let k = p.few in omega arith;
-      rest =
-          let rest = pairs_in f spacing (drop (i + 1 - 1) (order_of s)) in
-          let one : q ∷ [] ≡ pair_if_both f spacing l m = ap (λ (x : Pair). x ∷ []) same ∙ sym (ap (λ (t : Bool). cond t (pair_of f spacing l m ∷ []) []) e) in
-          append_assoc p.found (q ∷ []) rest ∙ ap (λ (r : List Pair). p.found ++ (r ++ rest)) one ∙ ap (λ (r : List Pair). p.found ++ r) (sym (neighbours s i low h)) ∙ p.rest;
+      few = let k = p.few in let j = (neighbours rest low w e).0 in omega arith;
+      more =
+          let others = pairs_in f spacing behind in
+          let one : q ∷ [] ≡ pair_if_both f spacing l m = ap (λ (x : Pair). x ∷ []) same ∙ sym (ap (λ (b : Bool). cond b (pair_of f spacing l m ∷ []) []) t) in
+          append_assoc p.found (q ∷ []) others ∙ ap (λ (r : List Pair). p.found ++ (r ++ others)) one ∙ ap (λ (r : List Pair). p.found ++ r) (neighbours rest low w e).1 ∙ p.more;
     }
 
   -- fewer than two have no neighbours
-  alone : (order : List ℕ) → length order ≤ 1 → pairs_in f spacing order ≡ []
+  alone : (order : List ℕ) → length order < 2 → pairs_in f spacing order ≡ []
   alone [] h = refl
   alone (n ∷ []) h = refl
   alone (n ∷ m ∷ ns) h = absurd (omega arith)
 
-  -- past the last neighbour
-  pub found_all : (s : Sequence) (i : ℕ) {pairs : List Pair} {count : ℕ} → length (order_of s) ≤ i → PairsFound s pairs count i
-      → ◌≡◌ {A = Spacings} (record { number = 0; count = count; pairs = pairs }) (pairs_listed (pairs_in f spacing (order_of s)))
+  -- past the last neighbours
+  pub found_all : {order rest : List ℕ} {pairs : List Pair} {count : ℕ} → length rest < 2 → PairsFound order pairs count rest
+      → ◌≡◌ {A = Spacings} (record { number = 0; count = count; pairs = pairs }) (pairs_listed (pairs_in f spacing order))
   unfolding pairs_listed
-  found_all s i h p =
-      let short : length (drop (i - 1) (order_of s)) ≤ 1 = omega (arith, length-drop (i - 1) (order_of s)) in
-      let all : p.found ≡ pairs_in f spacing (order_of s) = sym (append-nil p.found) ∙ ap (λ (r : List Pair). p.found ++ r) (sym (alone (drop (i - 1) (order_of s)) short)) ∙ p.rest in
+  found_all {order} {rest} h p =
+      let all : p.found ≡ pairs_in f spacing order = sym (append-nil p.found) ∙ ap (λ (r : List Pair). p.found ++ r) (sym (alone rest h)) ∙ p.more in
       (λ t. record { number = 0; count = p.counted t; pairs = p.array t }) ∙ ap pairs_listed all

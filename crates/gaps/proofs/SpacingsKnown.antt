@@ -1,7 +1,7 @@
 -- What is known of an answer of `gaps` that is a parameter or that a callee returned: how many places it has, and that its numbers are of 16
 -- bits. Assumes nothing.
 use mathlib.Core.Path.{◌≡◌}
-use mathlib.Core.List.{List, [], ◌∷◌, map}
+use mathlib.Core.List.{List, [], ◌∷◌}
 use Prim.Native.Nat.{◌<◌}
 use native.Mathlib.Omega.{arith}
 use lib.ListN.{length}
@@ -9,7 +9,6 @@ use mir.Val.{Val}
 use denote.Shadow.{shadow}
 use denote.Laws.{Is}
 use denote.Array.{each}
-use Rattle.field.proofs.FieldKnown.{array_known}
 use Rattle.gaps.specs.declared.Pair.{Pair}
 use Rattle.gaps.specs.declared.Spacings.{Spacings}
 use Rattle.gaps.specs.contracts.Pair as pair

@@ -1,5 +1,5 @@
 -- Spacing along the path (02, 2.8): the way to the threshold, the gap of a pair, and the pairs of a field. Definitions only.
-use Rattle.std.specs.Prelude.{Bool, cond, ◌&&◌, List, [], ◌∷◌, ◌++◌, ℕ, ◌-◌, eqb, leb, length, replicate, Float}
+use Rattle.std.specs.Prelude.{Bool, cond, ◌&&◌, List, [], ◌∷◌, ◌++◌, ℕ, ◌-◌, eqb, leb, length, replicate, Float, Result, Ok, Err}
 use Rattle.std.specs.Float.{binary64}
 use Rattle.std.specs.Float.Ieee.{add, sub, lt}
 use Rattle.leg.specs.Progress.{whole, sixty_fourths, remaining}
@@ -8,6 +8,8 @@ use Rattle.field.specs.declared.Field.{Field}
 use Rattle.field.specs.Airspace.{intermediate, final_approach_zone, order_of}
 use Rattle.questions.specs.Find.{place_of, aircraft_at}
 use Rattle.bounds.specs.Bounds.{within_bounds}
+use Rattle.refusals.specs.declared.Refusal.{Refusal}
+use Rattle.refusals.specs.Refusals.{number_of}
 use Rattle.gaps.specs.declared.Spacing.{Spacing}
 use Rattle.gaps.specs.declared.Spacing.TheVariants.{Close, Clear}
 use Rattle.gaps.specs.declared.Pair.{Pair}
@@ -73,6 +75,11 @@ pairs_listed pairs = record { number = 0; count = length pairs; pairs = pairs ++
 -- a refusal, with no pair
 unfoldable pub spacing_refused : ℕ → Spacings
 spacing_refused number = record { number = number; count = 0; pairs = replicate 3 no_pair }
+
+-- the answer that a reason to refuse gives, by its number, or the pairs
+abbrev pub answered : Result Spacings Refusal → Spacings
+answered (Ok spacings) = spacings
+answered (Err refusal) = spacing_refused (number_of refusal)
 
 -- a spacing that is not refused: 1 to 512 64ths of a mile
 abbrev pub legal_spacing : ℕ → Bool

@@ -4,19 +4,20 @@
 
 ghost use Rattle.std.specs.Prelude.{◌≡◌, ◌&&◌};
 ghost use Rattle.field.specs.Airspace.{order_of};
-ghost use Rattle.gaps.specs.Gaps.{to_go, way_of, gap_of, spacing_of, on_approach, no_pair, pair_of, pairs_in, pairs_listed, spacing_refused, legal_spacing, gaps_of};
+ghost use Rattle.gaps.specs.Gaps.{to_go, way_of, gap_of, spacing_of, on_approach, no_pair, pair_of, pairs_in, pairs_listed, spacing_refused, legal_spacing, answered, gaps_of};
 
 use bounds::within_bounds;
-use field::airspace::order_length;
 use field::zones::{FINAL, FIRST_BASE, INTERMEDIATE};
 use field::{Field, Legs};
 use leg::{of_sixty_fourths, remaining};
 use questions::find::{aircraft_at, place_of};
+use refusals::Refusal;
 
 // The widest spacing that may be asked for, in 64ths of a mile.
 const WIDEST: u16 = 512;
 
 // Document 02's answer of a pair, with the gap in miles: under the spacing that was asked for, or not.
+// A variant for each answer as document 02 names it, and no flag beside a gap.
 #[derive(Clone, Copy)]
 pub enum Spacing {
     Close(f64),
@@ -32,6 +33,7 @@ pub struct Pair {
 }
 
 // The answer of `gaps`: a number, 0 where it is not refused, and the first `count` of `pairs`, in sequence order.
+// No Result: its parts are the numbers that the C interface is given.
 #[derive(Clone, Copy)]
 pub struct Spacings {
     pub number: u16,
@@ -40,6 +42,7 @@ pub struct Spacings {
 }
 
 // The miles to the threshold from what is left of the leg of a zone of the approach: the legs that follow are added in order, each sum rounded once.
+#[tactic(auto, unfolding(crate::specs::Gaps::to_go))]
 fn to_go(legs: Legs, zone: usize, left: f64) -> f64
     ensures { result ≡ to_go legs zone left }
 {
@@ -51,18 +54,18 @@ fn to_go(legs: Legs, zone: usize, left: f64) -> f64
 }
 
 // The miles to the threshold of the aircraft with a number.
+#[tactic(auto, unfolding(crate::specs::Gaps::way_of))]
 fn way_of(f: Field, number: u16) -> f64
     ensures { result ≡ way_of f number }
 {
     let at = place_of(f, number);
     let zone = at.zone as usize;
     let a = aircraft_at(f, zone, at.place);
-    let p = a.progress;
-    let legs = f.legs;
-    to_go(legs, zone, remaining(p, a.leg))
+    to_go(f.legs, zone, remaining(a.progress, a.leg))
 }
 
 // How much longer the follower's way to the threshold is than the leader's, in miles, rounded once.
+#[tactic(auto, unfolding(crate::specs::Gaps::gap_of))]
 fn gap_of(f: Field, leader: u16, follower: u16) -> f64
     ensures { result ≡ gap_of f leader follower }
 {
@@ -70,6 +73,7 @@ fn gap_of(f: Field, leader: u16, follower: u16) -> f64
 }
 
 // Whether a gap is close: under the spacing in 64ths of a mile.
+#[tactic(auto, unfolding(crate::specs::Gaps::spacing_of))]
 fn spacing_of(gap: f64, spacing: u16) -> Spacing
     ensures { result ≡ spacing_of gap spacing }
 {
@@ -81,27 +85,19 @@ fn spacing_of(gap: f64, spacing: u16) -> Spacing
 }
 
 // Whether the aircraft with a number is on the approach, zones 9 to 12.
+#[tactic(auto, unfolding(crate::specs::Gaps::on_approach))]
 fn on_approach(f: Field, number: u16) -> bool
     ensures { result ≡ on_approach f number }
 {
-    let at = place_of(f, number);
-    let zone = at.zone as usize;
-    if FIRST_BASE <= zone {
-        zone <= FINAL
-    } else {
-        false
-    }
+    let zone = place_of(f, number).zone as usize;
+    FIRST_BASE <= zone && zone <= FINAL
 }
 
 // Whether two are both on the approach.
 fn both_on_approach(f: Field, leader: u16, follower: u16) -> bool
     ensures { result ≡ (on_approach f leader && on_approach f follower) }
 {
-    if on_approach(f, leader) {
-        on_approach(f, follower)
-    } else {
-        false
-    }
+    on_approach(f, leader) && on_approach(f, follower)
 }
 
 // A place past the count: numbers 0, and clear with a gap of 0.
@@ -116,25 +112,26 @@ fn no_pair() -> Pair
 }
 
 // A pair with its gap.
+#[tactic(auto, unfolding(crate::specs::Gaps::pair_of))]
 fn pair_of(f: Field, spacing: u16, leader: u16, follower: u16) -> Pair
     ensures { result ≡ pair_of f spacing leader follower }
 {
     Pair {
-        leader: leader,
-        follower: follower,
+        leader,
+        follower,
         spacing: spacing_of(gap_of(f, leader, follower), spacing),
     }
 }
 
 // The answer with a refusal's number and no pair.
+#[tactic(auto, unfolding(crate::specs::Gaps::spacing_refused))]
 pub fn spacing_refused(number: u16) -> Spacings
     ensures { result ≡ spacing_refused number }
 {
-    let p = no_pair();
     Spacings {
-        number: number,
+        number,
         count: 0,
-        pairs: [p; 3],
+        pairs: [no_pair(); 3],
     }
 }
 
@@ -142,14 +139,11 @@ pub fn spacing_refused(number: u16) -> Spacings
 fn pairs_listed(f: Field, spacing: u16) -> Spacings
     ensures { result ≡ pairs_listed (pairs_in f spacing (order_of f.sequence)) }
 {
-    let s = f.sequence;
-    let end = order_length(s);
-    let p = no_pair();
-    let mut pairs = [p; 3];
+    let mut pairs = [no_pair(); 3];
     let mut count = 0;
-    for i in 1..end {
-        let leader = s.numbers[i - 1];
-        let follower = s.numbers[i];
+    for neighbours in f.sequence.order().windows(2) {
+        let leader = neighbours[0];
+        let follower = neighbours[1];
         if both_on_approach(f, leader, follower) {
             pairs[count] = pair_of(f, spacing, leader, follower);
             count += 1;
@@ -157,8 +151,8 @@ fn pairs_listed(f: Field, spacing: u16) -> Spacings
     }
     Spacings {
         number: 0,
-        count: count,
-        pairs: pairs,
+        count,
+        pairs,
     }
 }
 
@@ -166,22 +160,29 @@ fn pairs_listed(f: Field, spacing: u16) -> Spacings
 pub fn legal_spacing(spacing: u16) -> bool
     ensures { result ≡ legal_spacing spacing }
 {
-    if 1 <= spacing {
-        spacing <= WIDEST
-    } else {
-        false
+    1 <= spacing && spacing <= WIDEST
+}
+
+// The pairs of a field, or why a spacing or a field is refused.
+#[tactic(auto, unfolding(crate::specs::Gaps::gaps_of, refusals::specs::Refusals::number_of))]
+fn pairs_or_refusal(f: Field, spacing: u16) -> Result<Spacings, Refusal>
+    ensures { answered result ≡ gaps_of f spacing }
+{
+    if !legal_spacing(spacing) {
+        return Err(Refusal::AmountDoesNotFit);
     }
+    if !within_bounds(f) {
+        return Err(Refusal::BoundBroken);
+    }
+    Ok(pairs_listed(f, spacing))
 }
 
 // The spacing of each pair on the approach, in sequence order; 4 for a spacing that is not 1 to 512, then 10 for a field that breaks a bound.
 pub fn gaps(f: Field, spacing: u16) -> Spacings
     ensures { result ≡ gaps_of f spacing }
 {
-    if !legal_spacing(spacing) {
-        return spacing_refused(4);
+    match pairs_or_refusal(f, spacing) {
+        Ok(spacings) => spacings,
+        Err(refusal) => spacing_refused(refusal.number()),
     }
-    if !within_bounds(f) {
-        return spacing_refused(10);
-    }
-    pairs_listed(f, spacing)
 }
