@@ -20,6 +20,7 @@ use request::{Range, Request, in_range};
 use tick::ticked;
 
 // The field with the head of a zone taken off it.
+#[tactic(auto, unfolding(rules::specs::Kinds::head_gone))]
 fn head_gone(f: Field, zone: usize) -> Field
     ensures { result ≡ head_gone f zone }
 {
@@ -27,6 +28,7 @@ fn head_gone(f: Field, zone: usize) -> Field
 }
 
 // The field with an aircraft put at the tail of a zone.
+#[tactic(auto, unfolding(rules::specs::Kinds::tail_put))]
 fn tail_put(f: Field, zone: usize, a: Aircraft) -> Field
     ensures { result ≡ tail_put f zone a }
 {
@@ -37,20 +39,14 @@ fn tail_put(f: Field, zone: usize, a: Aircraft) -> Field
 fn moved(f: Field, from: usize, to: usize) -> Field
     ensures { result ≡ moved f from to }
 {
-    let legs = f.legs;
-    let a = arrived(legs, to, aircraft_at(f, from, 1));
-    if !in_range(Range(1, 13), from) {
+    let a = arrived(f.legs, to, aircraft_at(f, from, 1));
+    if !in_range(Range(1, 13), from) || !in_range(Range(1, 13), to) {
         return tail_put(head_gone(f, from), to, a);
     }
-    if !in_range(Range(1, 13), to) {
-        return tail_put(head_gone(f, from), to, a);
-    }
-    let mut g = f;
-    let q = g.zones[from - 1];
-    g.zones[from - 1] = without_head(q);
-    let p = g.zones[to - 1];
-    g.zones[to - 1] = with_tail(p, a);
-    g
+    let mut after = f;
+    after.zones[from - 1] = without_head(after.zones[from - 1]);
+    after.zones[to - 1] = with_tail(after.zones[to - 1], a);
+    after
 }
 
 // Kind 3: the field with the head of a zone, a holding at 3000, moved to 2000 of its side.
@@ -62,42 +58,49 @@ fn descended(f: Field, zone: u8) -> Field
 }
 
 // The field with a number out of the landing sequence.
+#[tactic(auto, unfolding(rules::specs::Kinds::out_of_sequence))]
 fn out_of_sequence(f: Field, number: u16) -> Field
     ensures { result ≡ out_of_sequence f number }
 {
-    let s = f.sequence;
-    with_sequence(f, removed(s, number), f.next)
+    with_sequence(f, removed(f.sequence, number), f.next)
 }
 
 // The fix that an entry from a side takes.
+#[tactic(auto, unfolding(rules::specs::Kinds::fix_taken, field::specs::Airspace::order_length))]
 fn fix_taken(f: Field, side: u8) -> u8
     ensures { result ≡ fix_taken f side }
 {
-    let s = f.sequence;
-    if order_length(s) == 0 { side } else { f.next }
+    if order_length(f.sequence) == 0 {
+        side
+    } else {
+        f.next
+    }
 }
 
 // Kinds 1 and 2: the field with the request's aircraft entered into a zone.
+#[tactic(auto, unfolding(rules::specs::Kinds::entered))]
 fn entered(f: Field, r: Request, zone: usize) -> Field
     ensures { result ≡ entered f r zone }
 {
     let fix = fix_taken(f, r.side);
     let g = tail_put(f, zone, entering(r.number, fix, r.amount, r.desk));
-    let s = f.sequence;
-    with_sequence(g, appended(s, r.number), opposite(fix))
+    with_sequence(g, appended(f.sequence, r.number), opposite(fix))
 }
 
 // Kind 1: the field with 3000 of a side empty: whoever was there has descended.
+#[tactic(auto, unfolding(rules::specs::Kinds::made_room))]
 fn made_room(f: Field, side: u8) -> Field
     ensures { result ≡ made_room f side }
 {
     if is_empty(f, side as usize) {
-        return f;
+        f
+    } else {
+        descended(f, side)
     }
-    descended(f, side)
 }
 
 // Kind 1: the field with whoever was at 3000 of the side at 2000, and the request's aircraft entered at 3000.
+#[tactic(auto, unfolding(rules::specs::Kinds::entered_above))]
 fn entered_above(f: Field, r: Request) -> Field
     ensures { result ≡ entered_above f r }
 {
@@ -108,28 +111,28 @@ fn entered_above(f: Field, r: Request) -> Field
 fn approach_zone(f: Field, number: u16, side: u8, ahead: usize) -> usize
     ensures { result ≡ cond (may_approach f.sequence number ahead && base_free f side) (base side) (at2000 side) }
 {
-    let s = f.sequence;
-    if !may_approach(s, number, ahead) {
-        return AT_2000 + side as usize;
+    if may_approach(f.sequence, number, ahead) && base_free(f, side) {
+        BASE + side as usize
+    } else {
+        AT_2000 + side as usize
     }
-    if !base_free(f, side) {
-        return AT_2000 + side as usize;
-    }
-    BASE + side as usize
 }
 
 // Kind 4: the field with the head of a zone moved to base, or from a lateral zone to 2000 where a need of the approach is not met.
+#[tactic(auto, unfolding(rules::specs::Kinds::approached))]
 fn approached(f: Field, number: u16, zone: usize, ahead: usize) -> Field
     ensures { result ≡ approached f number zone ahead }
 {
     let side = side_of(zone);
     if in_range(Range(5, 6), zone) {
-        return moved(f, zone, approach_zone(f, number, side, ahead));
+        moved(f, zone, approach_zone(f, number, side, ahead))
+    } else {
+        moved(f, zone, BASE + side as usize)
     }
-    moved(f, zone, BASE + side as usize)
 }
 
 // Kind 7: the field with the head of final on the runway and the request's aircraft out of the sequence.
+#[tactic(auto, unfolding(rules::specs::Kinds::landed))]
 fn landed(f: Field, r: Request) -> Field
     ensures { result ≡ landed f r }
 {
@@ -137,6 +140,7 @@ fn landed(f: Field, r: Request) -> Field
 }
 
 // Kind 9: the field with the head of intermediate gone and the request's aircraft out of the sequence.
+#[tactic(auto, unfolding(rules::specs::Kinds::exited))]
 fn exited(f: Field, r: Request) -> Field
     ensures { result ≡ exited f r }
 {
@@ -144,43 +148,49 @@ fn exited(f: Field, r: Request) -> Field
 }
 
 // The fix of an aircraft after its missed approach.
+#[tactic(auto, unfolding(rules::specs::Kinds::fix_after_miss, field::specs::Airspace::order_length))]
 fn fix_after_miss(f: Field, a: Aircraft) -> u8
     ensures { result ≡ fix_after_miss f a }
 {
-    let s = f.sequence;
-    if order_length(s) == 1 { a.fix } else { f.next }
+    if order_length(f.sequence) == 1 {
+        a.fix
+    } else {
+        f.next
+    }
 }
 
 // Kind 10: the field with the head of final in its old fix's missed zone, with the rest of final ahead of it too, and last in the sequence.
+#[tactic(auto, unfolding(rules::specs::Kinds::missed_approach))]
 fn missed_approach(f: Field, r: Request) -> Field
     ensures { result ≡ missed_approach f r }
 {
     let a = aircraft_at(f, FINAL, 1);
     let zone = MISSED + a.fix as usize;
     let fix = fix_after_miss(f, a);
-    let legs = f.legs;
-    let b = with_fix(arrived_by_miss(legs, zone, a), fix);
+    let b = with_fix(arrived_by_miss(f.legs, zone, a), fix);
     let g = tail_put(head_gone(f, FINAL), zone, b);
-    let s = f.sequence;
-    with_sequence(g, appended(removed(s, r.number), r.number), opposite(fix))
+    let s = appended(removed(f.sequence, r.number), r.number);
+    with_sequence(g, s, opposite(fix))
 }
 
 // Kind 11: the field with the head of a zone held at 2000 or 3000, and the one at 3000 moved to 2000 where both are needed.
+#[tactic(auto, unfolding(rules::specs::Kinds::held))]
 fn held(f: Field, zone: usize) -> Field
     ensures { result ≡ held f zone }
 {
     let own = side_of(zone);
     let side = own as usize;
     if !is_empty(f, side) {
-        return moved(descended(f, own), zone, side);
+        moved(descended(f, own), zone, side)
+    } else if is_empty(f, AT_2000 + side) {
+        moved(f, zone, AT_2000 + side)
+    } else {
+        moved(f, zone, side)
     }
-    if is_empty(f, AT_2000 + side) {
-        return moved(f, zone, AT_2000 + side);
-    }
-    moved(f, zone, side)
 }
 
 // The number of an aircraft as a desk is shown it: 0 where it is another desk's.
+#[tactic(auto, unfolding(rules::specs::Kinds::shown_to))]
 pub fn shown_to(desk: u8, a: Aircraft) -> u16
     ensures { result ≡ shown_to desk a }
 {
@@ -188,6 +198,7 @@ pub fn shown_to(desk: u8, a: Aircraft) -> u16
 }
 
 // The aircraft at 3000 of a side, which an entry or a hold there moves, as a desk is shown its number; 0 where there is none.
+#[tactic(auto, unfolding(rules::specs::Kinds::shown_at3000))]
 pub fn shown_at_3000(f: Field, desk: u8, side: u8) -> u16
     ensures { result ≡ shown_at3000 f desk side }
 {
@@ -199,9 +210,8 @@ pub fn shown_at_3000(f: Field, desk: u8, side: u8) -> u16
 pub fn effect(f: Field, r: Request, zone: u8, ahead: usize) -> Field
     ensures { result ≡ effect_for r.kind f r zone ahead }
 {
-    let kind = r.kind;
     let z = zone as usize;
-    match kind {
+    match r.kind {
         1 => entered_above(f, r),
         2 => entered(f, r, LATERAL + r.side as usize),
         3 => descended(f, zone),

@@ -2,9 +2,7 @@
 use mathlib.Core.Path.{◌≡◌, sym, ap, ◌∙◌}
 use mathlib.Core.List.{List}
 use Prim.Native.Nat.{ℕ, ◌-◌, ◌≤◌}
-use native.Mathlib.Omega.{arith}
 use lib.ListN.{length, get_or, set, length-set}
-use Rattle.request.proofs.InputTests.{within_low, within_high}
 use Rattle.field.specs.declared.Aircraft.{Aircraft}
 use Rattle.field.specs.declared.Zone.{Zone}
 use Rattle.field.specs.declared.Field.{Field}
@@ -12,11 +10,9 @@ use Rattle.field.specs.Airspace.{arrived}
 use Rattle.edits.specs.Edits.{without_head, with_tail, with_zone}
 use Rattle.field.proofs.Arrays.{set_from_one_lem}
 use Rattle.field.proofs.Shapes.{zone_read}
-use Rattle.field.proofs.FieldKnown.{field_known}
-use Rattle.field.proofs.TestParts.{holds}
 use Rattle.questions.specs.Find.{aircraft_at}
 use Rattle.rules.specs.Kinds.{head_gone, tail_put, moved}
-use Rattle.effects.proofs.moved.Goals.{Else-not-in_range, Else-not-in_range-2}
+use Rattle.std.proofs.Common.{rules}
 use Rattle.effects.proofs.moved.Goals as goal
 
 -- the field with another list of zones
@@ -44,63 +40,10 @@ called : (f : Field) (from to : ℕ) {a b : Aircraft} {g h : Field} → b ≡ ai
 unfolding moved
 called f from to eb ea eg eh = cc
 
-from_low : (c : Else-not-in_range) → 1 ≤ c.args.from
-from_low c = within_low 1 13 _ (holds c.in_range.ensures c.if-not-in_range.false-raw)
-
-from-high : (c : Else-not-in_range) → c.args.from ≤ 13
-from-high c = within_high 1 13 _ (holds c.in_range.ensures c.if-not-in_range.false-raw)
-
-to_low : (c : Else-not-in_range-2) → 1 ≤ c.args.to
-to_low c = within_low 1 13 _ (holds c.in_range-2.ensures c.if-not-in_range-2.false-raw)
-
-to_high : (c : Else-not-in_range-2) → c.args.to ≤ 13
-to_high c = within_high 1 13 _ (holds c.in_range-2.ensures c.if-not-in_range-2.false-raw)
-
 pub returns-then-not-in_range : goal.returns-then-not-in_range
 returns-then-not-in_range c =
     let s = c.args in
     called s.f s.from s.to c.aircraft_at.ensures c.arrived-a.ensures c.head_gone.ensures c.tail_put.ensures
-
-pub returns-then-not-in_range-2 : goal.returns-then-not-in_range-2
-returns-then-not-in_range-2 c =
-    let s = c.args in
-    called s.f s.from s.to c.aircraft_at.ensures c.arrived-a.ensures c.head_gone-then-not-in_range-2.ensures c.tail_put-then-not-in_range-2.ensures
-
-pub overflow_sub-q : goal.overflow_sub-q
-overflow_sub-q c = from_low (goal.at.overflow_sub-q c).Else-not-in_range
-
-pub offset_bounds-g-from : goal.offset_bounds-g-from
-offset_bounds-g-from c = record { fits = omega (arith, from-high (goal.at.offset_bounds-g-from c).Else-not-in_range) }
-
-pub bounds-g-from : goal.bounds-g-from
-bounds-g-from c = omega (arith, from-high (goal.at.bounds-g-from c).Else-not-in_range)
-
-pub overflow_sub-p : goal.overflow_sub-p
-overflow_sub-p c = from_low (goal.at.overflow_sub-p c).Else-not-in_range
-
-pub offset_bounds-g-from-2 : goal.offset_bounds-g-from-2
-offset_bounds-g-from-2 c = record { fits = omega (arith, from-high (goal.at.offset_bounds-g-from-2 c).Else-not-in_range) }
-
-pub bounds-g-from-2 : goal.bounds-g-from-2
-bounds-g-from-2 c = omega (arith, from-high (goal.at.bounds-g-from-2 c).Else-not-in_range)
-
-pub overflow_sub-p-2 : goal.overflow_sub-p-2
-overflow_sub-p-2 c = to_low (goal.at.overflow_sub-p-2 c).Else-not-in_range-2
-
-pub offset_bounds-g-to : goal.offset_bounds-g-to
-offset_bounds-g-to c = record { fits = omega (arith, to_high (goal.at.offset_bounds-g-to c).Else-not-in_range-2) }
-
-pub bounds-g-to : goal.bounds-g-to
-bounds-g-to c = omega (arith, to_high (goal.at.bounds-g-to c).Else-not-in_range-2)
-
-pub overflow_sub-to : goal.overflow_sub-to
-overflow_sub-to c = to_low (goal.at.overflow_sub-to c).Else-not-in_range-2
-
-pub offset_bounds-g-to-2 : goal.offset_bounds-g-to-2
-offset_bounds-g-to-2 c = record { fits = omega (arith, to_high (goal.at.offset_bounds-g-to-2 c).Else-not-in_range-2) }
-
-pub bounds-g-to-2 : goal.bounds-g-to-2
-bounds-g-to-2 c = omega (arith, to_high (goal.at.bounds-g-to-2 c).Else-not-in_range-2)
 
 pub returns : goal.returns
 unfolding moved
@@ -108,11 +51,15 @@ returns c =
     let f = c.args.f in
     let from = c.args.from in
     let to = c.args.to in
-    let long = (field_known f c.well_formed.0).zones in
+    let from_low : 1 ≤ from = search rules in
+    let from_high : from ≤ 13 = search rules in
+    let to_low : 1 ≤ to = search rules in
+    let to_high : to ≤ 13 = search rules in
+    let long : length f.zones ≡ 13 = search rules in
     let q = c.without_head.result in
     let f₁ = zoned f (set f.zones (from - 1) q) in
     let long₁ = length-set f.zones (from - 1) q ∙ long in
     let a = c.arrived-a.ensures ∙ ap (arrived f.legs to) c.aircraft_at.ensures in
-    tail-on f₁ to c.arrived-a.result _ long₁ (to_low (goal.at.returns c).Else-not-in_range-2) (to_high (goal.at.returns c).Else-not-in_range-2) c.with_tail.ensures
-    ∙ ap (λ (g : Field). tail_put g to c.arrived-a.result) (head-off f from _ long (from_low (goal.at.returns c).Else-not-in_range) (from-high (goal.at.returns c).Else-not-in_range) c.without_head.ensures)
+    tail-on f₁ to c.arrived-a.result _ long₁ to_low to_high c.with_tail.ensures
+    ∙ ap (λ (g : Field). tail_put g to c.arrived-a.result) (head-off f from _ long from_low from_high c.without_head.ensures)
     ∙ ap (tail_put (head_gone f from) to) a
