@@ -3,28 +3,14 @@
 
 ghost use Rattle.std.specs.Prelude.{◌≡◌, ◌++◌, ◌≤◌, length, drop};
 ghost use Rattle.text.specs.Buffer.{Put};
-ghost use Rattle.authored.specs.Authored.{file_room, legs_given, refused_line, authored_of};
+ghost use Rattle.authored.specs.Authored.{file_room, refused_line, authored_of};
 
-use practice::FileLegs;
-use request::word;
+use practice::legs_of;
 use text::{put_line, put_text};
 use writer::write;
 
 // The caller's buffer, long enough for every practice file.
 pub type FileBuffer = [u8; 24610];
-
-// The legs that the input starts with.
-fn legs_given(input: &[u8]) -> FileLegs
-    requires { 8 ≤ length input.now }
-    ensures { result ≡ legs_given input.now }
-{
-    FileLegs {
-        base: word(input[0], input[1]),
-        intermediate: word(input[2], input[3]),
-        final_approach: word(input[4], input[5]),
-        missed: word(input[6], input[7]),
-    }
-}
 
 // A refusal, from the buffer's first byte on.
 pub fn put_refused(out: &mut [u8], number: u16) -> usize
@@ -45,7 +31,7 @@ pub fn authored(input: &[u8], out: &mut FileBuffer) -> usize
     if input.len() < 8 {
         return put_refused(bytes, 7);
     }
-    let legs = legs_given(input);
+    let legs = legs_of(input);
     let w = write(legs, &input[8..], bytes);
     let number = w.number;
     if number != 0 {

@@ -8,6 +8,11 @@ use lib.Dec.{eqb, leb}
 use lib.ListN.{length, drop}
 use lib.Seq.{sets, sets-eq}
 use borrow.Author.Tests.{eq-eqb, ne_eqb, eqb-true, leb-true}
+use Rattle.std.specs.Prelude.{Result}
+use Rattle.std.specs.Result.{IsErrAnd}
+use Rattle.refusals.specs.declared.Refusal.{Refusal}
+use Rattle.refusals.specs.Refusals.{number_of, outcome_number}
+use Rattle.refusals.proofs.Outcomes.{unmet}
 use Rattle.limits.specs.Limits.{most_requests}
 use Rattle.request.specs.Input.{first_refused}
 use Rattle.request.proofs.InputTests.{both_left, both_right}
@@ -29,14 +34,23 @@ file_size legs bytes = size legs (requests_of bytes) ∙ ap (λ (n : ℕ). 34 + 
 abbrev pub first_number : Bool → Bool → ℕ → Bool → ℕ
 first_number legs list offence room = first_refused ((7, legs) ∷ (5, list) ∷ (offence, eqb offence 0) ∷ (28, room) ∷ [])
 
-pub numbered : (legs : FileLegs) (bytes : List ℕ) (room : ℕ) {r o : ℕ} {a l f : Bool} → r ≡ first_number a l o f → a ≡ legs_allowed legs
-    → l ≡ (eqb (length bytes % 6) 0 && leb (length bytes / 6) most_requests) → o ≡ first_offence (requests_of bytes) → f ≡ leb (34 + 6 * (length bytes / 6)) room
-    → r ≡ writing_number legs bytes room
-unfolding writing_number
-numbered legs bytes room e a l o f =
-    let list : _ ≡ requests_allowed bytes = l ∙ ap (λ (n : ℕ). eqb (length bytes % 6) 0 && leb n most_requests) (sym (count bytes)) in
-    let fits : _ ≡ file_fits legs bytes room = f ∙ ap (λ (n : ℕ). leb n room) (sym (file_size legs bytes)) in
-    e ∙ (λ i. first_number (a i) (list i) (o i) (fits i))
+-- the tests of the list and of the room, from how many bytes were lent
+pub list_read : (bytes : List ℕ) {l : Bool} → l ≡ (eqb (length bytes % 6) 0 && leb (length bytes / 6) most_requests) → l ≡ requests_allowed bytes
+list_read bytes l = l ∙ ap (λ (n : ℕ). eqb (length bytes % 6) 0 && leb n most_requests) (sym (count bytes))
+
+pub fits_read : (legs : FileLegs) (bytes : List ℕ) (room : ℕ) {f : Bool} → f ≡ leb (34 + 6 * (length bytes / 6)) room → f ≡ file_fits legs bytes room
+fits_read legs bytes room f = f ∙ ap (λ (n : ℕ). leb n room) (sym (file_size legs bytes))
+
+-- where no request breaks the rules, what follows decides; where one does, its number is the answer
+pub offence_none : {o x y : ℕ} → 0 ≡ o → y ≡ x → y ≡ cond (eqb o 0) x o
+offence_none {o} {x} e q = q ∙ sym (ap (λ (t : Bool). cond t x o) (eq-eqb o 0 (sym e)))
+
+pub offence_some : {A : Type 0} {o : ℕ} (x : ℕ) (p : Result A Refusal) (why : Refusal) → number_of why ≡ o → IsErrAnd p (λ y. y ≡ why) → outcome_number p ≡ cond (eqb o 0) x o
+offence_some {o = o} x p why h f = unmet {b = eqb o 0} {t = eqb o 0} o x p why (h ∙ go (eqb o 0) refl) refl f
+  where
+    go : (t : Bool) → eqb o 0 ≡ t → o ≡ cond t 0 o
+    go true t = eqb-true o 0 t
+    go false t = refl
 
 -- ---- the number 0: every test is passed
 pub record Allowed (legs : FileLegs) (bytes : List ℕ) (room : ℕ) : Type 0 where

@@ -2,19 +2,21 @@
 // lent buffer.
 #![tactic(auto)]
 
-ghost use Rattle.std.specs.Prelude.{◌≡◌, [], ◌∷◌, ◌++◌, ◌&&◌, ◌+◌, ◌*◌, ◌%◌, ◌/◌, ◌≤◌, eqb, leb, length, take, drop};
+ghost use Rattle.std.specs.Prelude.{◌≡◌, ◌++◌, ◌&&◌, ◌+◌, ◌*◌, ◌%◌, ◌/◌, ◌≤◌, eqb, leb, length};
 ghost use Rattle.limits.specs.Limits.{most_requests, longest_body};
-ghost use Rattle.request.specs.Input.{first_refused};
+ghost use Rattle.refusals.specs.Refusals.{outcome_number};
 ghost use Rattle.practice.specs.File.{letters};
 ghost use Rattle.practice.specs.Requests.{requests_of};
-ghost use Rattle.practice.specs.Practice.{bytes16, bytes32, entry_bytes, leg_bytes};
+ghost use Rattle.practice.specs.Practice.{bytes16, entry_bytes, leg_bytes};
 ghost use Rattle.text.specs.Buffer.{Put};
 ghost use Rattle.writer.specs.Writer.{first_offence, writing_number, writing_of, buffer_after};
 
 use limits::MOST_REQUESTS;
-use practice::{FileLegs, Reading, legs_allowed, request_at};
-use request::input_number;
-use text::{put_byte, put_text};
+use practice::{FileLegs, legs_allowed, request_at};
+use refusals::{Refusal, require};
+use request::check_input;
+use text::put_text;
+use words::{put_number16, put_number32};
 
 // What writing answers: its number, 0 where the file is written, and the file's length, 0 where it is refused.
 #[derive(Clone, Copy)]
@@ -27,95 +29,37 @@ pub struct Writing {
 fn requests_allowed(size: usize) -> bool
     ensures { result ≡ (eqb (size % 6) 0 && leb (size / 6) most_requests) }
 {
-    if size % 6 != 0 {
-        return false;
-    }
-    size / 6 <= MOST_REQUESTS
+    size % 6 == 0 && size / 6 <= MOST_REQUESTS
 }
 
 // Whether the file of n requests fits into a buffer of so many bytes.
 fn file_fits(n: usize, room: usize) -> bool
     ensures { result ≡ leb (34 + 6 * n) room }
 {
-    if room < 34 {
-        return false;
-    }
-    n <= (room - 34) / 6
+    34 <= room && n <= (room - 34) / 6
 }
 
-// The number of the input rule that the i-th request breaks first; 0 where it keeps them all, or where there is no such request.
-fn offence_at(requests: &[u8], i: usize) -> u16
-    ensures { result ≡ first_offence (take 1 (drop i (requests_of requests.now))) }
+// Whether each request of the list keeps the input rules, or why the first one that breaks them is refused.
+pub fn check_requests(requests: &[u8]) -> Result<(), Refusal>
+    ensures { outcome_number result ≡ first_offence (requests_of requests.now) }
 {
-    let reading = request_at(requests, i);
-    match reading {
-        Reading::One(r) => input_number(r),
-        Reading::End => 0,
-    }
-}
-
-// The number of the first request in the list that breaks the input rules; 0 where none does.
-pub fn first_offence(requests: &[u8]) -> u16
-    ensures { result ≡ first_offence (requests_of requests.now) }
-{
-    let n = requests.len() / 6;
-    let mut number = 0;
-    let mut i = 0;
-    while i < n {
-        let found = offence_at(requests, i);
-        i += 1;
-        if number == 0 {
-            number = found;
+    for i in 0..requests.len() / 6 {
+        if let Some(r) = request_at(requests, i) {
+            check_input(r)?;
         }
     }
-    number
+    Ok(())
 }
 
-// The first number that applies, in document 02's order; 0 where none does.
-fn first_number(legs: bool, list: bool, offence: u16, room: bool) -> u16
-    ensures { result ≡ first_refused ((7, legs) ∷ (5, list) ∷ (offence, eqb offence 0) ∷ (28, room) ∷ []) }
-{
-    if !legs {
-        return 7;
-    }
-    if !list {
-        return 5;
-    }
-    if offence != 0 {
-        return offence;
-    }
-    if !room {
-        return 28;
-    }
-    0
-}
-
-// The number of a writing into a buffer of so many bytes.
-pub fn writing_number(legs: FileLegs, requests: &[u8], room: usize) -> u16
-    ensures { result ≡ writing_number legs requests.now room }
+// Whether the file may be written into a buffer of so many bytes, or the first reason that applies, in document 02's order.
+pub fn check_writing(legs: FileLegs, requests: &[u8], room: usize) -> Result<(), Refusal>
+    ensures { outcome_number result ≡ writing_number legs requests.now room }
 {
     let size = requests.len();
-    let allowed = legs_allowed(legs);
-    let list = requests_allowed(size);
-    let offence = first_offence(requests);
-    let fits = file_fits(size / 6, room);
-    first_number(allowed, list, offence, fits)
-}
-
-// A number of 16 bits.
-fn put_number16(out: &mut [u8], at: usize, n: u16) -> usize
-    ensures { Put out.old at (bytes16 n) out.new result }
-{
-    let next = put_byte(out, at, (n % 256) as u8);
-    put_byte(out, next, (n / 256) as u8)
-}
-
-// A number of 32 bits.
-fn put_number32(out: &mut [u8], at: usize, n: u32) -> usize
-    ensures { Put out.old at (bytes32 n) out.new result }
-{
-    let next = put_number16(out, at, (n % 65536) as u16);
-    put_number16(out, next, (n / 65536) as u16)
+    require(legs_allowed(legs), Refusal::LegOutOfRange)?;
+    require(requests_allowed(size), Refusal::WrongSizeOrLetters)?;
+    check_requests(requests)?;
+    require(file_fits(size / 6, room), Refusal::BufferTooShort)
 }
 
 // An entry of the contents.
@@ -157,10 +101,9 @@ pub fn write(legs: FileLegs, requests: &[u8], out: &mut [u8]) -> Writing
     ensures value { result ≡ writing_of legs requests.now (length out.old) }
     ensures out_after { out.new ≡ buffer_after legs requests.now out.old }
 {
-    let number = writing_number(legs, requests, out.len());
-    if number != 0 {
+    if let Err(refusal) = check_writing(legs, requests, out.len()) {
         return Writing {
-            number: number,
+            number: refusal.number(),
             length: 0,
         };
     }

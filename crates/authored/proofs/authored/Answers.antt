@@ -22,10 +22,10 @@ long : (c : After-write-w) → 8 ≤ length (c.args.input.now)
 long c = c.if-input-lt8.false
 
 answered : (c : After-write-w) → c.write-w.result ≡ writing_of (legs_given (c.args.input.now)) (requests_given (c.args.input.now)) (length (c.args.out.now))
-answered c = c.write-w.ensures.value ∙ (λ i. writing_of (c.legs_given-legs.ensures i) (all_left (c.args.input.now) i) (length (c.args.out.now)))
+answered c = c.write-w.ensures.value ∙ (λ i. writing_of (c.legs_of-legs.ensures i) (all_left (c.args.input.now) i) (length (c.args.out.now)))
 
 left_so : (c : After-write-w) → c.write-w.new.out ≡ buffer_after (legs_given (c.args.input.now)) (requests_given (c.args.input.now)) (c.args.out.now)
-left_so c = c.write-w.ensures.out_after ∙ (λ i. buffer_after (c.legs_given-legs.ensures i) (all_left (c.args.input.now) i) (c.args.out.now))
+left_so c = c.write-w.ensures.out_after ∙ (λ i. buffer_after (c.legs_of-legs.ensures i) (all_left (c.args.input.now) i) (c.args.out.now))
 
 pub returns-then-input-lt8 : goal.returns-then-input-lt8
 returns-then-input-lt8 c =
