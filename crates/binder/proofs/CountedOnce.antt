@@ -32,7 +32,7 @@ use Rattle.rules.proofs.StepLaws.{number_is}
 use Rattle.line.proofs.CountedOnLine.{total_add, total_none}
 use Rattle.playing.specs.Playing.{legs_in_miles, answers_from, requests_of_practice, answers_of_practice, requests_of_file, answers_of}
 use Rattle.playing.proofs.Playing.{length_answers}
-use Rattle.binder.specs.Counting.{requests_in, answers_in, row_of, rows, columns, is_answered, answered, table_sum, files_numbered, listed, InOnePlace, CountedOnceOf, CountedOnce}
+use Rattle.binder.specs.Counting.{requests_in, answers_in, row_of, rows, columns, is_answered, answered, table_sum, files_numbered, listed, InOnePlace, CountedOnce}
 
 -- ---- sums over the table
 

@@ -4,4 +4,3 @@ pub mod Adding
 pub mod Sums
 pub mod Rows
 pub mod Reported
-pub mod TableKnown

@@ -2,11 +2,14 @@
 use mathlib.Core.Path.{◌≡◌, refl, sym, ap, ◌∙◌}
 use mathlib.Core.Bool.{Bool, cond}
 use mathlib.Core.List.{List, [], ◌∷◌, ◌++◌}
-use Prim.Native.Nat.{ℕ, ◌+◌, ◌^◌, ◌≤◌, ◌<◌}
+use Prim.Native.Nat.{ℕ, zero, suc, ◌+◌, ◌*◌, ◌/◌, ◌^◌, ◌≤◌, ◌<◌}
 use native.Mathlib.Omega.{arith}
 use lib.Dec.{eqb}
-use lib.ListN.{length, get_or, length-append}
-use lib.Seq.{append_snoc}
+use lib.ListN.{length, get_or, take, drop, length-append, length-drop}
+use lib.Seq.{append_snoc, length-take-le}
+use Rattle.std.specs.Simd.{first_chunks}
+use Rattle.std.proofs.lemmas.List.{drop-drop}
+use Rattle.practice.specs.Sections.{stretch}
 use borrow.Author.Tests.{eqb-true, ne_eqb}
 use Rattle.field.proofs.TestLaws.{passed, every_from}
 use Rattle.text.specs.Text.{digits_up_to, decimal, space, line_of}
@@ -21,6 +24,24 @@ use Rattle.binder.specs.Counts.{row_at, rows_to, week_lines}
 row_kind : (row : ℕ) → row < 12 → row_at row ≡ row + 1
 unfolding rows
 row_kind row h = eqb-true (row_at row) (row + 1) (passed (every_from (λ r. eqb (row_at r) (r + 1)) 0 12 tt row (omega arith) (omega arith)))
+
+-- the i-th chunk of a list
+chunk_at : (n k : ℕ) (xs : List ℕ) (i : ℕ) → i < k → get_or (first_chunks n k xs) i [] ≡ take n (drop (n * i) xs)
+chunk_at n zero xs i h = absurd (omega arith)
+chunk_at n (suc k) xs zero h = ap (λ (m : ℕ). take n (drop m xs)) {x = 0} {y = n * 0} (omega arith)
+chunk_at n (suc k) xs (suc i) h =
+    let more : n + n * i ≡ n * suc i = omega arith in
+    chunk_at n k (drop n xs) i (omega arith) ∙ ap (take n) (drop-drop (n * i) n xs) ∙ ap (λ (m : ℕ). take n (drop m xs)) more
+
+-- a row of the table is a stretch of its places
+module _ (cells : List ℕ) (rows : List (List ℕ)) (places : length cells ≡ 273) (e : rows ≡ first_chunks 21 (length cells / 21) cells) (row : ℕ) (h : row < 13) where
+  pub row_here : get_or rows row [] ≡ stretch cells (21 * row) 21
+  row_here =
+      let k : length cells / 21 ≡ 13 = omega arith in
+      ap (λ (rs : List (List ℕ)). get_or rs row []) e ∙ ap (λ (n : ℕ). get_or (first_chunks 21 n cells) row []) k ∙ chunk_at 21 13 cells row h
+
+  pub row_size : length (get_or rows row []) ≡ 21
+  row_size = ap length row_here ∙ length-take-le 21 (drop (21 * row) cells) (simp length-drop (omega arith))
 
 module _ (row : ℕ) (counts : List ℕ) where
   module _ (h : row < 12) where

@@ -1,11 +1,11 @@
 -- What the counts of files come to: the files by number, the moves and landings, and each place of the table. Assumes nothing.
 use mathlib.Core.Path.{◌≡◌, refl, sym, ap, ◌∙◌, subst}
 use mathlib.Core.Bool.{Bool, true, false, not, cond, ◌&&◌}
-use mathlib.Core.List.{List, [], ◌∷◌, ◌++◌, append-nil}
-use Prim.Native.Nat.{ℕ, zero, suc, ◌+◌, ◌-◌, ◌*◌, ◌≤◌, ◌<◌}
+use mathlib.Core.List.{List, [], ◌∷◌, ◌++◌}
+use Prim.Native.Nat.{ℕ, ◌+◌, ◌-◌, ◌*◌, ◌≤◌, ◌<◌}
 use native.Mathlib.Omega.{arith}
 use lib.Dec.{T, eqb}
-use lib.ListN.{length, get_or, set, drop, length-set, length-replicate, drop_of_length-le}
+use lib.ListN.{length, get_or, set, length-set, length-replicate}
 use lib.Seq.{get_or-set_same, get_or-set_other}
 use borrow.Author.Tests.{eq-eqb, ne_eqb, eqb-true, eqb-false}
 use Rattle.request.specs.Input.{within}
@@ -18,12 +18,12 @@ use Rattle.practice.specs.File.{file_number}
 use Rattle.rules.specs.declared.Answer.{Answer}
 use Rattle.rules.specs.Play.{accepted, moves}
 use Rattle.playing.specs.Playing.{answers_of}
-use Rattle.playing.specs.Log.{log_of, number_at}
-use Rattle.playing.proofs.Logs.{here_in, kind_here}
+use Rattle.playing.specs.Log.{log_entry}
+use Rattle.std.proofs.Common.{map}
 use Rattle.binder.specs.declared.counts.Counts.{Counts}
 use Rattle.binder.specs.Counting.{answers_in, row_of, rows, columns, is_answered, answered, landings, files_numbered, listed}
 use Rattle.week_table.specs.Table.{row_place, column_place, cell_of}
-use Rattle.binder.specs.Counts.{row_at, empty_counts, with_answer, with_number, counted_to, with_file, with_files, counts_of}
+use Rattle.binder.specs.Counts.{row_at, empty_counts, with_answer, with_answers, with_number, with_file, with_files, counts_of}
 use Rattle.binder.proofs.CountedOnce.{Headed, headed_file}
 use Rattle.binder.proofs.Cells.{listed_low, column_low}
 
@@ -92,29 +92,6 @@ cell_test p row column e h g =
 
 -- ---- answer by answer
 
--- the counts with a list of answers
-abbrev with_answers : Counts → List (Request × Answer) → Counts
-with_answers c [] = c
-with_answers c (p ∷ ps) = with_answers (with_answer c p.0.kind p.1.number) ps
-
--- counted from the log, and what is left of the list
-so_far : (c : Counts) (ps : List (Request × Answer)) (i : ℕ) → i ≤ length ps → with_answers (counted_to c (log_of ps ++ []) i) (drop i ps) ≡ with_answers c ps
-so_far c ps zero h = refl
-so_far c ps (suc i) h =
-    let t = here_in ps [] i (omega arith) in
-    let log = log_of ps ++ [] in
-    let d = counted_to c log i in
-    ap (λ (k : ℕ). with_answers (with_answer d k (number_at log i)) (drop (suc i) ps)) (kind_here t)
-    ∙ ap (λ (n : ℕ). with_answers (with_answer d t.pair.0.kind n) (drop (suc i) ps)) (t.entry 1 (omega arith))
-    ∙ sym (ap (with_answers d) t.rest)
-    ∙ so_far c ps i (omega arith)
-
-log_counted : (c : Counts) (ps : List (Request × Answer)) → counted_to c (log_of ps) (length ps) ≡ with_answers c ps
-log_counted c ps =
-    sym (ap (λ (l : List ℕ). counted_to c l (length ps)) (append-nil (log_of ps)))
-    ∙ sym (ap (with_answers (counted_to c (log_of ps ++ []) (length ps))) (drop_of_length-le ps {i = length ps} (omega arith)))
-    ∙ so_far c ps (length ps) (omega arith)
-
 -- what a list of answers adds
 record Added (c d : Counts) (ps : List (Request × Answer)) : Type 0 where
   played : d.played ≡ c.played
@@ -152,7 +129,7 @@ one_counted c p row column e n h g = go (eqb at cell) refl
         let k = get_or-set_other c.cells cell at one 0 (eqb-false at cell f) in
         omega arith
 
-answers_added : (c : Counts) (ps : List (Request × Answer)) → Headed ps → length c.cells ≡ 273 → Added c (with_answers c ps) ps
+answers_added : (c : Counts) (ps : List (Request × Answer)) → Headed ps → length c.cells ≡ 273 → Added c (with_answers c (map log_entry ps)) ps
 unfolding with_answer
 answers_added c [] h n =
     record {
@@ -195,8 +172,7 @@ answered_append row number (p ∷ ps) qs = let rest = answered_append row number
 file_added : (c : Counts) (file : List ℕ) → length c.cells ≡ 273 → Added (with_number c (file_number file)) (with_file c file) (answers_of file)
 unfolding with_file with_number
 file_added c file n =
-    subst (λ (d : Counts). Added (with_number c (file_number file)) d (answers_of file)) (sym (log_counted (with_number c (file_number file)) (answers_of file)))
-    (answers_added (with_number c (file_number file)) (answers_of file) (headed_file file) n)
+    answers_added (with_number c (file_number file)) (answers_of file) (headed_file file) n
 
 -- what a list of files adds
 pub record Summed (c d : Counts) (files : List (List ℕ)) : Type 0 where

@@ -1,11 +1,11 @@
 -- The counts that the report of a binder is made from, as the loops keep them: answer by answer, and file by file. Definitions only.
-use Rattle.std.specs.Prelude.{ℕ, zero, suc, ◌+◌, ◌*◌, ◌≤◌, ◌<◌, ◌≡◌, List, [], ◌∷◌, ◌++◌, Bool, true, cond, eqb, length, get_or, set, replicate}
+use Rattle.std.specs.Prelude.{ℕ, zero, suc, ◌+◌, ◌*◌, ◌≤◌, ◌≡◌, List, [], ◌∷◌, ◌++◌, Bool, true, cond, eqb, length, map, get_or, set, replicate}
 use Rattle.request.specs.Input.{within}
 use Rattle.practice.specs.File.{file_number}
 use Rattle.practice.specs.Sections.{stretch}
 use Rattle.questions.specs.Counts.{total}
 use Rattle.playing.specs.Playing.{answers_of}
-use Rattle.playing.specs.Log.{log_of, kind_at, number_at, of_kinds}
+use Rattle.playing.specs.Log.{log_entry, of_kinds}
 use Rattle.week_table.specs.Table.{cell_of}
 use Rattle.binder.specs.declared.counts.Counts.{Counts}
 use Rattle.binder.specs.Counting.{rows, columns}
@@ -40,10 +40,10 @@ with_answer c kind number =
       cells = set c.cells (cell_of kind number) (get_or c.cells (cell_of kind number) 0 + 1);
     }
 
--- the counts with the first n requests of a log
-abbrev pub counted_to : Counts → List ℕ → ℕ → Counts
-counted_to c log zero = c
-counted_to c log (suc n) = with_answer (counted_to c log n) (kind_at log n) (number_at log n)
+-- the counts with each entry of a log counted, by its kind and its answer's number
+abbrev pub with_answers : Counts → List (List ℕ) → Counts
+with_answers c [] = c
+with_answers c (entry ∷ entries) = with_answers (with_answer c (get_or entry 0 0) (get_or entry 1 0)) entries
 
 -- the counts with one more file, of this number
 unfoldable pub with_number : Counts → ℕ → Counts
@@ -60,7 +60,7 @@ with_number c number =
 
 -- the counts with one more file of these bytes
 unfoldable pub with_file : Counts → List ℕ → Counts
-with_file c file = counted_to (with_number c (file_number file)) (log_of (answers_of file)) (length (answers_of file))
+with_file c file = with_answers (with_number c (file_number file)) (map log_entry (answers_of file))
 
 -- the counts with a list of files
 abbrev pub with_files : Counts → List (List ℕ) → Counts
@@ -103,6 +103,6 @@ pub record Small (bound : ℕ) (c : Counts) : Type 0 where
   pub landings : c.landings ≤ bound
   pub cells : (i : ℕ) → get_or c.cells i 0 ≤ bound
 
--- the numbers of a log's first n answers head columns
-abbrev pub Columned : List ℕ → ℕ → Type 0
-Columned log n = (i : ℕ) → i < n → is_column (number_at log i) ≡ true
+-- the number of an entry's answer heads a column
+abbrev pub Columned : List ℕ → Type 0
+Columned entry = is_column (get_or entry 1 0) ≡ true

@@ -1,9 +1,10 @@
 // The counts that the report of a binder is made from, kept answer by answer and file by file.
-ghost use Rattle.std.specs.Prelude.{◌≡◌, ◌*◌, ◌≤◌, length};
+ghost use Rattle.std.specs.Prelude.{◌≡◌, ◌≤◌, true, length};
 ghost use Rattle.limits.specs.Limits.{most_requests};
-ghost use Rattle.binder.specs.Counts.{Small, Columned, empty_counts, with_number, counted_to};
+ghost use Rattle.field.specs.Lists.{Each};
+ghost use Rattle.binder.specs.Counts.{Small, Columned, is_column, empty_counts, with_number, with_answer, with_answers};
 
-use week_table::{cell_of, landed, moved, one_where};
+use week_table::{cell_of, landed, moved};
 
 // How many files play and how many are refused 5, 6 and 7; how many moves and landings there were; and the table of numbers by kind, row
 // by row.
@@ -33,50 +34,38 @@ pub(crate) fn empty_counts() -> Counts
     }
 }
 
-// The counts with a file of this number.
-pub(crate) fn with_number(c: Counts, number: u16) -> Counts
-    requires { Small 1000000 c }
-    ensures { result ≡ with_number c number }
-{
-    let cells = c.cells;
-    Counts {
-        played: c.played + one_where(number, 0),
-        refused5: c.refused5 + one_where(number, 5),
-        refused6: c.refused6 + one_where(number, 6),
-        refused7: c.refused7 + one_where(number, 7),
-        moves: c.moves,
-        landings: c.landings,
-        cells: cells,
+impl Counts {
+    // Counts a file of this number.
+    pub(crate) fn add_number(&mut self, number: u16)
+        requires { Small 1000000 self.old }
+        ensures { self.new ≡ with_number self.old number }
+    {
+        self.played += usize::from(number == 0);
+        self.refused5 += usize::from(number == 5);
+        self.refused6 += usize::from(number == 6);
+        self.refused7 += usize::from(number == 7);
     }
-}
 
-// The counts with the first n answers of a log.
-pub(crate) fn with_answers(c: Counts, log: &[u16], n: usize) -> Counts
-    requires small { Small 1000000 c }
-    requires n_in_bounds { (7 * n ≤ length log.now) × (n ≤ most_requests) }
-    requires columned { Columned log.now n }
-    ensures { result ≡ counted_to c log.now n }
-{
-    let mut cells = c.cells;
-    let mut moves = c.moves;
-    let mut landings = c.landings;
-    let mut i = 0;
-    while i < n {
-        let kind = log[7 * i];
-        let number = log[7 * i + 1];
-        let cell = cell_of(kind, number);
-        cells[cell] = cells[cell] + 1;
-        moves += moved(kind, number);
-        landings += landed(kind, number);
-        i += 1;
+    // Counts a request of this kind that was answered with this number.
+    fn add_answer(&mut self, kind: u16, number: u16)
+        requires small { Small 2000000 self.old }
+        requires columned { is_column number ≡ true }
+        ensures { self.new ≡ with_answer self.old kind number }
+    {
+        self.cells[cell_of(kind, number)] += 1;
+        self.moves += moved(kind, number);
+        self.landings += landed(kind, number);
     }
-    Counts {
-        played: c.played,
-        refused5: c.refused5,
-        refused6: c.refused6,
-        refused7: c.refused7,
-        moves: moves,
-        landings: landings,
-        cells: cells,
+
+    // Counts the entries of a log.
+    pub(crate) fn add_answers(&mut self, entries: &[[u16; 7]])
+        requires small { Small 1000000 self.old }
+        requires few { length entries.now ≤ most_requests }
+        requires columned { Each Columned entries.now }
+        ensures { self.new ≡ with_answers self.old entries.now }
+    {
+        for entry in entries {
+            self.add_answer(entry[0], entry[1]);
+        }
     }
 }

@@ -10,9 +10,9 @@ ghost use Rattle.contents.specs.Contents.{files_of};
 ghost use Rattle.binder.specs.Week.{week_of};
 ghost use Rattle.binder.specs.Counts.{counts_of};
 
-use crate::counts::{Counts, empty_counts, with_answers, with_number};
+use crate::counts::{Counts, empty_counts};
 use crate::lines::{put_refused, put_week};
-use contents::{binder_number, file_at, file_count};
+use contents::{check_binder, file_at, file_count};
 use playing::play;
 use text::Buffer;
 
@@ -20,16 +20,13 @@ use text::Buffer;
 fn counts_of(binder: &[u8]) -> Counts
     ensures { result ≡ counts_of (files_of binder.now) }
 {
-    let count = file_count(binder);
     let mut log = [0u16; 28672];
     let mut c = empty_counts();
-    let mut i = 0;
-    while i < count {
-        let p = play(file_at(binder, i), false, &mut log);
-        let number = p.number;
-        let n = p.requests;
-        c = with_answers(with_number(c, number), &log, n);
-        i += 1;
+    for i in 0..file_count(binder) {
+        let p = play(file_at(binder, i), &mut log);
+        c.add_number(p.number);
+        let (entries, _) = log[..7 * p.requests].as_chunks::<7>();
+        c.add_answers(entries);
     }
     c
 }
@@ -40,10 +37,8 @@ pub fn week(binder: &[u8], out: &mut Buffer) -> usize
     ensures out_after { out.new ≡ week_of binder.now ++ drop result out.old }
     ensures upper_bound { result ≤ room }
 {
-    let bytes: &mut [u8] = out;
-    let number = binder_number(binder);
-    if number != 0 {
-        return put_refused(bytes, number);
+    if let Err(refusal) = check_binder(binder) {
+        return put_refused(out, refusal.number());
     }
-    put_week(bytes, counts_of(binder))
+    put_week(out, counts_of(binder))
 }

@@ -1,21 +1,11 @@
 // The lines of a binder's report, put into the caller's buffer. Each function yields the place after what it put.
-ghost use Rattle.std.specs.Prelude.{◌≡◌, [], ◌∷◌, ◌++◌, ◌≤◌, ◌<◌, length};
-ghost use Rattle.text.specs.Text.{line_of};
+ghost use Rattle.std.specs.Prelude.{◌≡◌, ◌≤◌, ◌<◌, length};
 ghost use Rattle.text.specs.Buffer.{room, Put};
 ghost use Rattle.binder.specs.Week.{row_line, refused_binder};
 ghost use Rattle.binder.specs.Counts.{row_at, rows_to, week_lines};
 
 use crate::counts::Counts;
-use text::{put_byte, put_line, put_number, put_text};
-
-// A name, and the line of a number.
-fn put_count(out: &mut [u8], at: usize, name: &[u8], n: usize) -> usize
-    ensures { Put out.old at (name.now ++ line_of (n ∷ [])) out.new result }
-{
-    let next = put_text(out, at, name);
-    let numbers = [n];
-    put_line(out, next, &numbers)
-}
+use text::{put_byte, put_line, put_named, put_number, put_text};
 
 // A row of the table, counted from 0: its kind, or `other` for the last, and its counts.
 fn put_row(out: &mut [u8], at: usize, row: usize, counts: &[usize]) -> usize
@@ -33,17 +23,14 @@ fn put_row(out: &mut [u8], at: usize, row: usize, counts: &[usize]) -> usize
 }
 
 // The rows of the table.
-fn put_rows(out: &mut [u8], at: usize, cells: &[usize]) -> usize
-    requires { length cells.now ≡ 273 }
+fn put_rows(out: &mut [u8], at: usize, cells: &[usize; 273]) -> usize
     ensures put { Put out.old at (rows_to cells.now 13) out.new result }
     ensures cells_len_bound { length (rows_to cells.now 13) ≤ 5850 }
 {
+    let (rows, _) = cells.as_chunks::<21>();
     let mut end = at;
-    let mut row = 0;
-    while row < 13 {
-        let start = 21 * row;
-        end = put_row(out, end, row, &cells[start..start + 21]);
-        row += 1;
+    for (row, counts) in rows.iter().enumerate() {
+        end = put_row(out, end, row, counts);
     }
     end
 }
@@ -53,24 +40,23 @@ pub(crate) fn put_week(out: &mut [u8], c: Counts) -> usize
     ensures put { Put out.old 0 (week_lines c) out.new result }
     ensures c_len_bound { length (week_lines c) ≤ room }
 {
-    let mut at = put_count(out, 0, b"files ", c.played);
-    at = put_count(out, at, b"refused 5 ", c.refused5);
-    at = put_count(out, at, b"refused 6 ", c.refused6);
-    at = put_count(out, at, b"refused 7 ", c.refused7);
+    let mut at = put_named(out, 0, b"files ", c.played);
+    at = put_named(out, at, b"refused 5 ", c.refused5);
+    at = put_named(out, at, b"refused 6 ", c.refused6);
+    at = put_named(out, at, b"refused 7 ", c.refused7);
     at = put_text(
         out,
         at,
         b"kind 0 1 2 3 4 10 11 12 13 14 15 16 17 18 19 20 21 22 23 24 25\n",
     );
-    let cells = c.cells;
-    at = put_rows(out, at, &cells);
-    at = put_count(out, at, b"moves ", c.moves);
-    put_count(out, at, b"landings ", c.landings)
+    at = put_rows(out, at, &c.cells);
+    at = put_named(out, at, b"moves ", c.moves);
+    put_named(out, at, b"landings ", c.landings)
 }
 
 // The report of a refused binder, from the buffer's first byte on.
 pub(crate) fn put_refused(out: &mut [u8], number: u16) -> usize
     ensures { Put out.old 0 (refused_binder number) out.new result }
 {
-    put_count(out, 0, b"binder ", number as usize)
+    put_named(out, 0, b"binder ", number as usize)
 }

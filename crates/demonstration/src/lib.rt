@@ -26,8 +26,7 @@ fn put_end(out: &mut [u8], at: usize, ending: Ending, played: usize) -> usize
     ensures { Put out.old at (ending_line ending played) out.new result }
 {
     let next = put_word(out, at, ending);
-    let numbers = [played];
-    put_line(out, next, &numbers)
+    put_line(out, next, &[played])
 }
 
 // Writes the report of the button held down after a practice file into the buffer, and yields its length.
@@ -36,16 +35,11 @@ pub fn button(file: &[u8], out: &mut Buffer) -> usize
     ensures out_after { out.new ≡ button_of file.now ++ drop result out.old }
     ensures upper_bound { result ≤ room }
 {
-    let bytes: &mut [u8] = out;
     let mut log = [0u16; 28672];
-    let p = play(file, false, &mut log);
-    let number = p.number;
-    if number != 0 {
-        return put_refused(bytes, number);
+    let p = play(file, &mut log);
+    if p.number != 0 {
+        return put_refused(out, p.number);
     }
-    let f = p.field;
-    let h = hold_down(f, bytes);
-    let held = h.held;
-    let ending = held.ending;
-    put_end(bytes, h.end, ending, held.played)
+    let h = hold_down(p.field, out);
+    put_end(out, h.end, h.held.ending, h.held.played)
 }

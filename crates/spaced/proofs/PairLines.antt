@@ -1,16 +1,17 @@
 -- The lines of a report, one pair after the other, and how long they are. Assumes nothing.
-use mathlib.Core.Path.{◌≡◌, ap}
-use mathlib.Core.Bool.{Bool, cond}
-use mathlib.Core.List.{List, []}
-use Prim.Native.Nat.{ℕ, ◌+◌, ◌≤◌, ◌<◌}
+use mathlib.Core.Path.{◌≡◌, refl, sym, ap, ◌∙◌}
+use mathlib.Core.Bool.{Bool, true, false, cond}
+use mathlib.Core.List.{List, [], ◌++◌}
+use Prim.Native.Nat.{ℕ, ◌+◌, ◌≤◌, ◌<◌, min}
+use native.Mathlib.Numerals.{add-one}
 use native.Mathlib.Omega.{arith}
-use borrow.Author.Tests.{eq-eqb, ne_eqb}
-use lib.ListN.{length, get_or, take, drop, length-take, drop_of_length-le}
-use Rattle.field.proofs.Shapes.{next}
+use lib.Dec.{ltb}
+use borrow.Author.Tests.{eq-eqb, ne_eqb, ltb-true, ltb-false}
+use lib.ListN.{length, get_or, take, drop, drop_of_length-le}
+use lib.Seq.{drop-cons}
+use Rattle.std.proofs.lemmas.List.{take_all}
 use Rattle.gaps.specs.declared.Pair.{Pair}
 use Rattle.gaps.specs.declared.Spacings.{Spacings}
-use Rattle.text.specs.Buffer.{Put}
-use Rattle.text.proofs.Texts.{Left, left_more}
 use Rattle.spaced.specs.Spaced.{pair_line, pair_lines, refused_spacing, spacings_report}
 
 -- the pairs of an answer
@@ -26,27 +27,22 @@ pub report_listed : (s : Spacings) → s.number ≡ 0 → spacings_report s ≡ 
 unfolding spacings_report
 report_listed s h = ap (λ (t : Bool). cond t (pair_lines (paired s)) (refused_spacing s.number)) (eq-eqb s.number 0 h)
 
--- ---- the loop: what holds before pair i
-pub record Listing (before : List ℕ) (s : Spacings) (out : List ℕ) (at i : ℕ) : Type 0 where
-  pub accepted : s.number ≡ 0
-  pub places : length s.pairs ≡ 3
-  pub within : i ≤ 3
-  pub left : Left before 0 (pair_lines (paired s)) out at (pair_lines (drop i (paired s)))
+-- ---- the pairs that are read, of three places: those of the answer
+pub pairs_read : (s : Spacings) (n : ℕ) → n ≡ min s.count 3 → length s.pairs ≡ 3 → take n s.pairs ≡ paired s
+pairs_read s n e l = go (ltb s.count 3) refl
+  where
+    go : (b : Bool) → ltb s.count 3 ≡ b → take n s.pairs ≡ paired s
+    go true h =
+        let k = ltb-true s.count 3 h in
+        let same : n ≡ s.count = omega arith in
+        ap (λ (m : ℕ). take m s.pairs) same
+    go false h =
+        let k = ltb-false s.count 3 h in
+        take_all n s.pairs (omega arith) ∙ sym (take_all s.count s.pairs (omega arith))
 
-pub listing_more : {before m n : List ℕ} {s : Spacings} {at e i : ℕ} (d : Pair) → Listing before s m at i → i < 3 → i < s.count
-    → Put m at (pair_line (get_or s.pairs i d)) n e → Listing before s n e (i + 1)
-listing_more {s = s} {i = i} d w h k p = record {
-  accepted = w.accepted;
-  places = w.places;
-  within = omega arith;
-  left =
-      left_more (pair_line (get_or s.pairs i d)) (pair_lines (drop (i + 1) (paired s))) w.left
-      (ap pair_lines (next s.pairs s.count i d (omega (arith, length-take s.count s.pairs, w.places)))) p;
-}
+-- the line of the i-th, and those behind it
+pub pair_here : (ps : List Pair) (i : ℕ) (d : Pair) → i < length ps → pair_lines (drop i ps) ≡ pair_line (get_or ps i d) ++ pair_lines (drop (i + 1) ps)
+pair_here ps i d h = rw (add-one) (ap pair_lines (drop-cons ps i d h))
 
--- past the last pair
-pub listing_none : {before m : List ℕ} {s : Spacings} {at i : ℕ} → Listing before s m at i → s.count ≤ i → pair_lines (drop i (paired s)) ≡ []
-listing_none {s = s} {i = i} w h = ap pair_lines (drop_of_length-le (paired s) {i = i} (omega (arith, length-take s.count s.pairs)))
-
-pub listing_past : {before m : List ℕ} {s : Spacings} {at i : ℕ} → Listing before s m at i → 3 ≤ i → pair_lines (drop i (paired s)) ≡ []
-listing_past {s = s} {i = i} w h = ap pair_lines (drop_of_length-le (paired s) {i = i} (omega (arith, length-take s.count s.pairs, w.places)))
+pub no_pair : (ps : List Pair) (i : ℕ) → length ps ≤ i → pair_lines (drop i ps) ≡ []
+no_pair ps i h = ap pair_lines (drop_of_length-le ps h)

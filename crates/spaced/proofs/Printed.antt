@@ -1,7 +1,7 @@
 -- The report of a practice file, in whole numbers alone: nothing that is printed was rounded. Assumes nothing.
 use mathlib.Core.Path.{◌≡◌, refl, sym, ap, ◌∙◌}
 use mathlib.Core.List.{List, [], ◌∷◌, ◌++◌}
-use Prim.Native.Nat.{ℕ, ◌+◌}
+use Prim.Native.Nat.{ℕ}
 use lib.Dec.{T}
 use lib.ListN.{length, take}
 use borrow.Author.Tests.{eq-eqb}

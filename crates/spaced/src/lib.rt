@@ -20,16 +20,13 @@ pub fn spaced(file: &[u8], spacing: u16, out: &mut SpacingBuffer) -> usize
     ensures out_after { out.new ≡ spaced_of file.now spacing ++ drop result out.old }
     ensures upper_bound { result ≤ spaced_room }
 {
-    let bytes: &mut [u8] = out;
     if !legal_spacing(spacing) {
-        return put_refused_spacing(bytes, 4);
+        return put_refused_spacing(out, 4);
     }
     let mut log = [0u16; 28672];
-    let p = play(file, false, &mut log);
-    let number = p.number;
-    if number != 0 {
-        return put_refused(bytes, number);
+    let p = play(file, &mut log);
+    if p.number != 0 {
+        return put_refused(out, p.number);
     }
-    let f = p.field;
-    put_spacings(bytes, gaps(f, spacing))
+    put_spacings(out, gaps(p.field, spacing))
 }

@@ -4,7 +4,7 @@ ghost use Rattle.spaced.specs.Spaced.{gap_text, spacing_text, pair_line, refused
 
 use gaps::{Pair, Spacing, Spacings};
 use miles::put_miles;
-use text::{put_byte, put_line, put_number, put_text};
+use text::{put_byte, put_named, put_number, put_text};
 
 // The gap at the end of a line.
 fn put_gap(out: &mut [u8], at: usize, gap: f64) -> usize
@@ -43,12 +43,11 @@ fn put_pair(out: &mut [u8], at: usize, p: Pair) -> usize
 }
 
 // The report of a refused spacing, from the buffer's first byte on.
+#[tactic(auto, unfolding(crate::specs::Spaced::refused_spacing))]
 pub(crate) fn put_refused_spacing(out: &mut [u8], number: u16) -> usize
     ensures { Put out.old 0 (refused_spacing number) out.new result }
 {
-    let next = put_text(out, 0, b"spacing ");
-    let numbers = [number as usize];
-    put_line(out, next, &numbers)
+    put_named(out, 0, b"spacing ", number as usize)
 }
 
 // The report of an answer, from the buffer's first byte on: a refusal, or a line for each pair.
@@ -58,16 +57,9 @@ pub(crate) fn put_spacings(out: &mut [u8], s: Spacings) -> usize
     if s.number != 0 {
         return put_refused_spacing(out, s.number);
     }
-    let count = s.count;
     let mut at = 0;
-    let mut i = 0;
-    while i < 3 {
-        if count <= i {
-            return at;
-        }
-        let p = s.pairs[i];
-        at = put_pair(out, at, p);
-        i += 1;
+    for p in &s.pairs[..s.count.min(3)] {
+        at = put_pair(out, at, *p);
     }
     at
 }

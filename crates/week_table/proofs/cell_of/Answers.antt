@@ -1,30 +1,19 @@
--- `binder::counts::cell_of` meets its contract: the row and the column. Assumes nothing.
-use mathlib.Core.Path.{sym, ap, ◌∙◌}
+-- `week_table::cell_of` meets its contract: the row and the column. Assumes nothing.
+use mathlib.Core.Path.{◌≡◌, sym, ap, ◌∙◌}
 use mathlib.Core.Bool.{Bool, cond}
 use Prim.Native.Nat.{ℕ, ◌+◌, ◌-◌, ◌*◌}
-use native.Mathlib.Omega.{arith}
 use borrow.Author.Tests.{lt-ltb, le-ltb}
-use Rattle.week_table.specs.Table.{row_place, cell_of}
-use Rattle.week_table.proofs.KindRows.{row_low}
+use Rattle.week_table.specs.Table.{row_place, column_place, cell_of}
+use Rattle.week_table.proofs.cell_of.Goals.{then-number-lt10, else-number-lt10}
 use Rattle.week_table.proofs.cell_of.Goals as goal
-
-pub overflow_mul-start : goal.overflow_mul-start
-overflow_mul-start c = let low = row_low c.args.kind in omega (arith, c.row_of-start.ensures)
-
-pub overflow_add-result : goal.overflow_add-result
-overflow_add-result c = let low = row_low c.args.kind in omega (arith, c.row_of-start.ensures)
-
-pub returns-then-number-lt10 : goal.returns-then-number-lt10
-unfolding cell_of
-returns-then-number-lt10 c =
-    let s = c.args in
-    ap (λ (r : ℕ). 21 * r + s.number) c.row_of-start.ensures ∙ sym (ap (λ (b : Bool). 21 * row_place s.kind + cond b s.number (s.number - 5)) (lt-ltb s.number 10 c.if-number-lt10.true))
-
-pub overflow_add-result-2 : goal.overflow_add-result-2
-overflow_add-result-2 c = let low = row_low c.args.kind in omega (arith, c.row_of-start.ensures)
 
 pub returns : goal.returns
 unfolding cell_of
 returns c =
-    let s = c.args in
-    ap (λ (r : ℕ). 21 * r + (s.number - 5)) c.row_of-start.ensures ∙ sym (ap (λ (b : Bool). 21 * row_place s.kind + cond b s.number (s.number - 5)) (le-ltb s.number 10 c.if-number-lt10.false))
+    let number = c.args.number in
+    let column : c.if-number-lt10.column ≡ column_place number =
+    elim c.if-number-lt10.branch [
+      | then-number-lt10 w ↦ w.column-is ∙ sym (ap (λ (b : Bool). cond b number (number - 5)) (lt-ltb number 10 w.if-number-lt10.true))
+      | else-number-lt10 w ↦ w.column-is ∙ sym (ap (λ (b : Bool). cond b number (number - 5)) (le-ltb number 10 w.if-number-lt10.false))
+    ] in
+    ap (λ (r : ℕ). 21 * r + c.if-number-lt10.column) c.row_of.ensures ∙ ap (λ (k : ℕ). 21 * row_place c.args.kind + k) column
