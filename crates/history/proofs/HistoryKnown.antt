@@ -4,8 +4,6 @@ use mathlib.Core.List.{List}
 use lib.ListN.{length}
 use mir.Val.{Val}
 use denote.Laws.{Is}
-use Rattle.field.proofs.FieldKnown.{array_known}
-use Rattle.finder.specs.contracts.Indexed as indexed
 use Rattle.history.specs.declared.History.{History}
 use Rattle.history.specs.contracts.History as history
 

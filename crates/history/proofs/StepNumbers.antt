@@ -4,8 +4,12 @@ use mathlib.Core.Logic.{inl, inr}
 use mathlib.Core.Bool.{Bool, true, false, cond, ◌&&◌}
 use Prim.Native.Nat.{ℕ, ◌≤◌}
 use lib.Dec.{eqb, leb, ltb}
-use borrow.Author.Tests.{eq-eqb, ne_eqb, eqb-true, eqb-false, leb-true}
+use borrow.Author.Tests.{eq-eqb, ne_eqb, eqb-true, eqb-false, leb-true, ltb-true}
 use native.Mathlib.Omega.{arith}
+use Rattle.std.specs.Prelude.{Result, Ok, Err}
+use Rattle.refusals.specs.declared.Refusal.{Refusal}
+use Rattle.refusals.specs.Refusals.{outcome_number}
+use Rattle.leg.specs.Ticks.{Between}
 use Rattle.limits.specs.Limits.{most_kept}
 use Rattle.request.specs.Input.{within, input_number}
 use Rattle.request.specs.declared.Request.{Request}
@@ -21,6 +25,11 @@ use Rattle.indexed.specs.declared.SteppedIndexed.{SteppedIndexed}
 use Rattle.indexed.specs.Indexed.{with_index, number_indexed, step_indexed}
 use Rattle.history.specs.declared.History.{History}
 use Rattle.history.specs.History.{counted, kept_within_bounds, within_bounds_history, keeping, number_history, step_history, number_back, field_given_back, step_back}
+
+-- an outcome that is no refusal has the number 0
+pub not_refused : {A : Type 0} (p : Result A Refusal) → ((e : Refusal) → p ≡ Err e → ⊥) → outcome_number p ≡ 0
+not_refused (Ok a) h = refl
+not_refused (Err e) h = absurd (h e refl)
 
 -- ---- the step on a field with its index
 module _ (x : Indexed) (r : Request) where
@@ -73,6 +82,29 @@ module _ (h : History) (r : Request) where
   pub number_kept : input_number r ≡ 0 → kept_within_bounds h ≡ false → number_history h r ≡ 10
   unfolding number_history within_bounds_history
   number_kept i w = if_true _ _ (eq-eqb (input_number r) 0 i) ∙ if_false _ _ (and_cut (within_bounds_indexed h.now) w)
+
+  -- by either of these, as a check says before the step
+  pub checked_kept : {n : ℕ} → n ≡ cond (eqb (input_number r) 0) (cond (kept_within_bounds h) 0 10) (input_number r) → (n ≡ 0 → ⊥) → number_history h r ≡ n
+  checked_kept {n} e k =
+      elim (decided (eqb (input_number r) 0)) [
+        | inl i ↦
+            elim (decided (kept_within_bounds h)) [
+              | inl w ↦ absurd (k (e ∙ if_true _ _ i ∙ if_true _ _ w))
+              | inr w ↦ number_kept (eqb-true (input_number r) 0 i) w ∙ sym (e ∙ if_true _ _ i ∙ if_false _ _ w)
+            ]
+        | inr i ↦ number_input (eqb-false (input_number r) 0 i) ∙ sym (e ∙ if_false _ _ i)
+      ]
+
+  pub kept_checked : 0 ≡ cond (eqb (input_number r) 0) (cond (kept_within_bounds h) 0 10) (input_number r) → kept_within_bounds h ≡ true
+  kept_checked e =
+      elim (decided (kept_within_bounds h)) [
+        | inl w ↦ w
+        | inr w ↦
+            elim (decided (eqb (input_number r) 0)) [
+              | inl i ↦ let bad : 0 ≡ 10 = e ∙ if_true _ _ i ∙ if_false _ _ w in absurd (omega (arith, bad))
+              | inr i ↦ absurd (eqb-false (input_number r) 0 i (sym (e ∙ if_false _ _ i)))
+            ]
+      ]
 
   -- .. and where they do not: that of the field with its index
   pub number_now : kept_within_bounds h ≡ true → number_history h r ≡ number_indexed h.now r
@@ -128,3 +160,20 @@ module _ (h : History) (desk : ℕ) where
     pub number_0 : within_bounds_history h ≡ true → ltb 0 h.count ≡ true → number_back h desk ≡ 0
     unfolding number_back
     number_0 w k = if_true _ _ d ∙ if_true _ _ w ∙ if_true _ _ k
+
+  -- one that is not refused has a last kept field
+  pub some_kept : number_back h desk ≡ 0 → Between 1 8 h.count
+  unfolding number_back
+  some_kept e =
+      elim (decided (within 1 2 desk)) [
+        | inr d ↦ let bad : 31 ≡ 0 = sym (if_false _ _ d) ∙ e in absurd (omega (arith, bad))
+        | inl d ↦
+            elim (decided (within_bounds_history h)) [
+              | inr w ↦ let bad : 10 ≡ 0 = sym (if_true _ _ d ∙ if_false _ _ w) ∙ e in absurd (omega (arith, bad))
+              | inl w ↦
+                  elim (decided (ltb 0 h.count)) [
+                    | inr k ↦ let bad : 27 ≡ 0 = sym (if_true _ _ d ∙ if_true _ _ w ∙ if_false _ _ k) ∙ e in absurd (omega (arith, bad))
+                    | inl k ↦ let some = ltb-true 0 h.count k in let few = few_kept h w in record { least = omega (arith, some); most = few }
+                  ]
+            ]
+      ]

@@ -1,16 +1,19 @@
 // A field with the eight fields before the last accepted requests, and one step back (specs/History.antt).
 #![tactic(auto)]
 
-ghost use Rattle.std.specs.Prelude.{◌≡◌};
+ghost use Rattle.std.specs.Prelude.{◌≡◌, cond, eqb};
+ghost use Rattle.refusals.specs.Refusals.{outcome_number};
+ghost use Rattle.request.specs.Input.{input_number};
 ghost use Rattle.rules.specs.Step.{number_and_zeros};
-ghost use Rattle.history.specs.History.{start_with, start_of, kept_within_bounds, within_bounds_history, keeping, step_history, step_back};
+ghost use Rattle.history.specs.History.{start_with, start_of, kept_within_bounds, within_bounds_history, keeping, number_back, step_history, step_back};
 
 use field::Legs;
 use field::airspace::empty_field;
 use finder::{Indexed, within_bounds_indexed};
 use indexed::{step_indexed, with_index};
-use limits::MOST_KEPT;
-use request::{Request, input_number};
+use limits::{DESKS, MOST_KEPT};
+use refusals::{Refusal, require};
+use request::{Range, Request, check_input, in_range};
 use rules::Answer;
 use step::number_and_zeros;
 
@@ -33,8 +36,7 @@ pub struct SteppedHistory {
 pub fn start_with(x: Indexed) -> History
     ensures { result ≡ start_with x }
 {
-    let f = x.field;
-    let empty = with_index(empty_field(f.legs));
+    let empty = with_index(empty_field(x.field.legs));
     History {
         now: x,
         kept: [empty; 8],
@@ -53,17 +55,10 @@ pub fn start(legs: Legs) -> History
 fn kept_within_bounds(h: History) -> bool
     ensures { result ≡ kept_within_bounds h }
 {
-    let count = h.count;
-    if count > MOST_KEPT {
+    if h.count > MOST_KEPT {
         return false;
     }
-    for i in 0..count {
-        let x = h.kept[i];
-        if !within_bounds_indexed(x) {
-            return false;
-        }
-    }
-    true
+    h.kept[..h.count].iter().all(|x| within_bounds_indexed(*x))
 }
 
 // Whether the kept fields and the field are within the bounds.
@@ -81,24 +76,21 @@ fn keep(h: History, next: Indexed) -> History
     ensures { result ≡ keeping h next }
 {
     let before = h.now;
-    let count = h.count;
     let mut kept = h.kept;
-    if count < MOST_KEPT {
-        kept[count] = before;
+    if h.count < MOST_KEPT {
+        kept[h.count] = before;
         return History {
             now: next,
-            kept: kept,
-            count: count + 1,
+            kept,
+            count: h.count + 1,
         };
     }
-    for i in 0..7 {
-        kept[i] = kept[i + 1];
-    }
+    kept.copy_within(1.., 0);
     kept[7] = before;
     History {
         now: next,
-        kept: kept,
-        count: count,
+        kept,
+        count: h.count,
     }
 }
 
@@ -112,16 +104,20 @@ pub fn turned_away(h: History, number: u16) -> SteppedHistory
     }
 }
 
+// Why a request is refused before it comes to the field: by itself, or by the bounds of the kept fields.
+fn check_kept(h: History, r: Request) -> Result<(), Refusal>
+    ensures { outcome_number result ≡ cond (eqb (input_number r) 0) (cond (kept_within_bounds h) 0 10) (input_number r) }
+{
+    check_input(r)?;
+    require(kept_within_bounds(h), Refusal::BoundBroken)
+}
+
 // The step of a request: its answer, and the field with its kept ones after it.
 pub fn step_history(h: History, r: Request) -> SteppedHistory
     ensures { result ≡ step_history h r }
 {
-    let input = input_number(r);
-    if input != 0 {
-        return turned_away(h, input);
-    }
-    if !kept_within_bounds(h) {
-        return turned_away(h, 10);
+    if let Err(refusal) = check_kept(h, r) {
+        return turned_away(h, refusal.number());
     }
     let stepped = step_indexed(h.now, r);
     let answer = stepped.answer;
@@ -130,29 +126,31 @@ pub fn step_history(h: History, r: Request) -> SteppedHistory
         return turned_away(h, number);
     }
     SteppedHistory {
-        answer: answer,
+        answer,
         after: keep(h, stepped.after),
     }
+}
+
+// Why a step back by a desk is refused.
+fn check_back(h: History, desk: u8) -> Result<(), Refusal>
+    ensures { outcome_number result ≡ number_back h desk }
+{
+    require(
+        in_range(Range(1, DESKS), desk as usize),
+        Refusal::NoSuchDesk,
+    )?;
+    require(within_bounds_history(h), Refusal::BoundBroken)?;
+    require(h.count != 0, Refusal::NothingToTakeBack)
 }
 
 // One step back by a desk: zeros, and the last kept field.
 pub fn step_back(h: History, desk: u8) -> SteppedHistory
     ensures { result ≡ step_back h desk }
 {
-    if desk < 1 {
-        return turned_away(h, 31);
+    if let Err(refusal) = check_back(h, desk) {
+        return turned_away(h, refusal.number());
     }
-    if desk > 2 {
-        return turned_away(h, 31);
-    }
-    if !within_bounds_history(h) {
-        return turned_away(h, 10);
-    }
-    let count = h.count;
-    if count == 0 {
-        return turned_away(h, 27);
-    }
-    let last = count - 1;
+    let last = h.count - 1;
     let x = h.kept[last];
     SteppedHistory {
         answer: number_and_zeros(0),

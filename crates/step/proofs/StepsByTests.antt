@@ -5,7 +5,7 @@ use mathlib.Core.List.{[], ◌∷◌}
 use mathlib.Core.Bool.{Bool, true, false, cond}
 use Prim.Native.Nat.{ℕ}
 use lib.Dec.{eqb}
-use borrow.Author.Tests.{eq-eqb, ne_eqb}
+use borrow.Author.Tests.{eq-eqb, ne_eqb, eqb-true, eqb-false}
 use Rattle.std.specs.Prelude.{Result}
 use Rattle.std.specs.Result.{IsErrAnd}
 use Rattle.std.proofs.lemmas.Result.{err_from_is_err_and}
@@ -89,6 +89,22 @@ module _ (f : Field) (r : Request) where
           | inl e ↦ e
           | inr e ↦ absurd (not_25 (number_after w m e))
         ]
+
+  -- what the request does to a field where its bounds are left out: the first need that is not met refuses it, else it takes effect
+  abbrev pub unjudged_step : Stepped
+  unjudged_step =
+      cond (eqb (first_refused (checks_of f r)) 0) (record { answer = answer_of f r; field = effect_of f r })
+      (record { answer = number_and_zeros (first_refused (checks_of f r)); field = f })
+
+  -- it is the step, of a request that keeps the input rules, where the number is neither 10 nor 25
+  pub neither_is_step : input_number r ≡ 0 → (number_of f r ≡ 10 → ⊥) → (number_of f r ≡ 25 → ⊥) → unjudged_step ≡ step_of f r
+  neither_is_step i not_10 not_25 =
+      let n = first_refused (checks_of f r) in
+      let w = within_before i not_10 in
+      elim (decided (eqb n 0)) [
+        | inl e ↦ let m = eqb-true n 0 e in if_true _ _ e ∙ let_through (number_after i w m (within_after i not_25 w m))
+        | inr e ↦ let some = eqb-false n 0 e in if_false _ _ e ∙ turned_away (number_need i w refl some) some
+      ]
 
   -- the step of a refusal that a `?` hands on
   pub refused : (p : Result Stepped Refusal) (e : Refusal) → IsErrAnd p (λ y. y ≡ e) → number_of f r ≡ refusal_number e → step_by f p ≡ step_of f r

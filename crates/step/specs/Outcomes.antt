@@ -1,5 +1,5 @@
 -- What the outcome of a request on a field stands for, and what is asked of those who judge the field. Definitions only.
-use Rattle.std.specs.Prelude.{◌≡◌, Bool, true, ℕ, Result, Ok, Err}
+use Rattle.std.specs.Prelude.{◌≡◌, Bool, true, Result, Ok, Err}
 use Rattle.refusals.specs.declared.Refusal.{Refusal}
 use Rattle.refusals.specs.Refusals.{number_of}
 use Rattle.request.specs.Input.{first_refused, input_number}
