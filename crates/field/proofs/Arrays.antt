@@ -19,19 +19,6 @@ module _ {ℓ} {A : Type ℓ} where
   four (a ∷ b ∷ c ∷ e ∷ []) d h = refl
   four (a ∷ b ∷ c ∷ e ∷ f ∷ fs) d h = absurd (omega arith)
 
-  -- the part of an array of m places before place n has n of them
-  pub part_length : (l : List A) (n : ℕ) {m : ℕ} → length l ≡ m → n ≤ m → n ≡ length (take n l)
-  part_length l n e h = sym (length-take-le n l (omega arith))
-
-  -- a part is as many from the front as it has
-  pub part_of : (n : ℕ) (l : List A) → take (length (take n l)) l ≡ take n l
-  part_of zero l = refl
-  part_of (suc n) [] = refl
-  part_of (suc n) (x ∷ l) = ap (λ (r : List A). x ∷ r) (part_of n l)
-
-  pub part_fits : (n : ℕ) (l : List A) → length (take n l) ≤ length l
-  part_fits n l = omega (arith, length-take n l)
-
   -- a loop over a list from place s on, for what a function t says of it: what t says of all from there it says of the rest from place
   -- i on
   pub record Walked {R : Type 0} (t : List A → R) (l : List A) (s i : ℕ) : Type ℓ where

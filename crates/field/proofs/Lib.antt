@@ -4,4 +4,5 @@ pub mod Arrays
 pub mod TestParts
 pub mod FieldKnown
 pub mod Shapes
+pub mod Chains
 pub mod ArrivalLaws

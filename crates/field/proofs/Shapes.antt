@@ -78,3 +78,8 @@ at_most_four {f} known z = queue_fits (zone_of f z) (known.places z)
 pub zone_read : (f : Field) (z : ℕ) (d : Zone) → length f.zones ≡ 13 → 1 ≤ z → z ≤ 13 → get_or f.zones (z - 1) d ≡ zone_of f z
 unfolding zone_of
 zone_read f z d n low high = read f.zones (z - 1) d empty_zone (omega arith) ∙ sym (from_one empty_zone f.zones z empty_zone low)
+
+-- the zone at index i of the array is the one that is counted from 1
+pub zone_at : (f : Field) (i : ℕ) (d : Zone) → i < length f.zones → get_or f.zones i d ≡ zone_of f (i + 1)
+unfolding zone_of
+zone_at f i d h = rw add-one (read f.zones i d empty_zone h)

@@ -61,28 +61,6 @@ module _ {A : Type 0} (p : A → Bool) (l : List A) (s : ℕ) where
   pub each_not : (i : ℕ) {x : A} → Walked (every p) l s i → drop i l ≡ x ∷ drop (i + 1) l → p x ≡ false → every p (drop s l) ≡ false
   each_not i w e g = walked_stop (every p) l s i w e (and_cut _ g)
 
-  -- the same of an array of four whose length is s
-  pub record Kept (i : ℕ) : Type 0 where
-    pub long : length l ≡ 4
-    pub fits : s ≤ 4
-    pub walked : Walked (every p) l s i
-
-  pub kept_none : length l ≡ 4 → s ≤ 4 → Kept s
-  kept_none e h = record { long = e; fits = h; walked = walked_none (every p) l s (omega arith) }
-
-  pub kept_more : (i : ℕ) (d : A) → Kept i → i < 4 → p (get_or l i d) ≡ true → Kept (i + 1)
-  kept_more i d k h g =
-      let below : i < length l = omega arith in
-      record { long = k.long; fits = k.fits; walked = each_more i k.walked below (next_of l i d below) g }
-
-  pub kept_not : (i : ℕ) (d : A) → Kept i → i < 4 → p (get_or l i d) ≡ false → (leb s 4 && every p (drop s l)) ≡ false
-  kept_not i d k h g =
-      let below : i < length l = omega arith in
-      and_then (le-leb s 4 k.fits) (each_not i k.walked (next_of l i d below) g)
-
-  pub kept_all : (i : ℕ) → Kept i → 4 ≤ i → (leb s 4 && every p (drop s l)) ≡ true
-  kept_all i k h = and_then (le-leb s 4 k.fits) (walked_all (every p) l s i k.walked (omega arith))
-
 -- a loop to whose zone z each zone from `first` has passed the test p
 pub record Passed (p : ℕ → Bool) (first last z : ℕ) : Type 0 where
   pub low : first ≤ z

@@ -11,19 +11,17 @@ use leg::{Progress, flown_out, leg_after_miss};
 pub fn is_side(side: u8) -> bool
     ensures { result ≡ is_side side }
 {
-    if side == 1 { true } else { side == 2 }
+    side == 1 || side == 2
 }
 
 // The opposite side; 0 of what is no side.
 pub fn opposite(side: u8) -> u8
     ensures { result ≡ opposite side }
 {
-    if side == 1 {
-        2
-    } else if side == 2 {
-        1
-    } else {
-        0
+    match side {
+        1 => 2,
+        2 => 1,
+        _ => 0,
     }
 }
 
@@ -38,11 +36,7 @@ pub fn side_of(zone: usize) -> u8
 pub fn is_flying_zone(zone: usize) -> bool
     ensures { result ≡ is_flying_zone zone }
 {
-    if FIRST_FLOWN <= zone {
-        zone <= FINAL
-    } else {
-        false
-    }
+    (FIRST_FLOWN..=FINAL).contains(&zone)
 }
 
 // A place that is all zero and waiting.
@@ -64,10 +58,8 @@ pub fn nobody() -> Aircraft
 pub fn empty_zone() -> Zone
     ensures { result ≡ empty_zone }
 {
-    let a = nobody();
-    let aircraft = [a; 4];
     Zone {
-        aircraft: aircraft,
+        aircraft: [nobody(); 4],
         length: 0,
     }
 }
@@ -76,13 +68,9 @@ pub fn empty_zone() -> Zone
 pub fn zone_of(f: Field, zone: usize) -> Zone
     ensures { result ≡ zone_of f zone }
 {
-    if zone == 0 {
-        return empty_zone();
-    }
-    if zone <= RUNWAY {
-        f.zones[zone - 1]
-    } else {
-        empty_zone()
+    match zone {
+        1..=RUNWAY => f.zones[zone - 1],
+        _ => empty_zone(),
     }
 }
 
@@ -90,14 +78,14 @@ pub fn zone_of(f: Field, zone: usize) -> Zone
 pub fn queue_length(q: Zone) -> usize
     ensures { result ≡ queue_length q }
 {
-    if q.length < 4 { q.length } else { 4 }
+    q.queue().len()
 }
 
 // How many stand in the landing sequence: its length, but no more than its four places.
 pub fn order_length(s: Sequence) -> usize
     ensures { result ≡ order_length s }
 {
-    if s.length < 4 { s.length } else { 4 }
+    s.order().len()
 }
 
 // The leg that belongs to a zone; 0 where no leg is flown.
@@ -130,13 +118,11 @@ pub fn entering(number: u16, fix: u8, speed: u16, desk: u8) -> Aircraft
     ensures { result ≡ entering number fix speed desk }
 {
     Aircraft {
-        number: number,
-        fix: fix,
-        speed: speed,
-        progress: Progress::Waiting,
-        waited: 0.0,
-        leg: 0.0,
-        desk: desk,
+        number,
+        fix,
+        speed,
+        desk,
+        ..nobody()
     }
 }
 
@@ -145,13 +131,9 @@ pub fn on_leg(a: Aircraft, p: Progress, leg: f64) -> Aircraft
     ensures { result ≡ on_leg a p leg }
 {
     Aircraft {
-        number: a.number,
-        fix: a.fix,
-        speed: a.speed,
         progress: p,
-        waited: a.waited,
-        leg: leg,
-        desk: a.desk,
+        leg,
+        ..a
     }
 }
 
@@ -166,53 +148,35 @@ pub fn arrived(legs: Legs, zone: usize, a: Aircraft) -> Aircraft
 pub fn arrived_by_miss(legs: Legs, zone: usize, a: Aircraft) -> Aircraft
     ensures { result ≡ arrived_by_miss legs zone a }
 {
-    let p = a.progress;
-    on_leg(
-        a,
-        progress_into(zone),
-        leg_after_miss(legs.missed, p, a.leg),
-    )
+    let leg = leg_after_miss(legs.missed, a.progress, a.leg);
+    on_leg(a, progress_into(zone), leg)
 }
 
 // An aircraft with another fix, and all else as it was.
 pub fn with_fix(a: Aircraft, fix: u8) -> Aircraft
     ensures { result ≡ given_fix a fix }
 {
-    let p = a.progress;
-    Aircraft {
-        number: a.number,
-        fix: fix,
-        speed: a.speed,
-        progress: p,
-        waited: a.waited,
-        leg: a.leg,
-        desk: a.desk,
-    }
+    Aircraft { fix, ..a }
 }
 
 // Whether an aircraft has flown its own leg out.
 pub fn leg_flown_out(a: Aircraft) -> bool
     ensures { result ≡ leg_flown_out a }
 {
-    let p = a.progress;
-    flown_out(p, a.leg)
+    flown_out(a.progress, a.leg)
 }
 
 // The field with nobody on it, the next fix right, and these legs.
 pub fn empty_field(legs: Legs) -> Field
     ensures { result ≡ empty_field legs }
 {
-    let q = empty_zone();
-    let zones = [q; 13];
-    let numbers = [0u16; 4];
-    let sequence = Sequence {
-        numbers: numbers,
-        length: 0,
-    };
     Field {
-        zones: zones,
-        sequence: sequence,
+        zones: [empty_zone(); 13],
+        sequence: Sequence {
+            numbers: [0; 4],
+            length: 0,
+        },
         next: 1,
-        legs: legs,
+        legs,
     }
 }

@@ -1,1 +1,1 @@
-pub mod NumbersKnown
+pub mod NumbersOf

@@ -1,139 +1,97 @@
-// The numbers of those on the field in a row, and what bound e asks of them (specs/Numbers.antt).
+// The numbers of those on the field, and what bound e asks of them (specs/Numbers.antt).
 #![tactic(auto)]
 
-ghost use Rattle.std.specs.Prelude.{◌≡◌, not, ◌++◌, map, ◌+◌, ◌≤◌, eqb, take};
-ghost use Rattle.field.specs.Airspace.{zones_from, queue_of};
+ghost use Rattle.std.specs.Prelude.{◌≡◌, map};
+ghost use Rattle.field.specs.Airspace.{queue_of};
 ghost use Rattle.field.specs.Lists.{is_in, every, all_different};
-ghost use Rattle.questions.specs.Find.{numbers_in};
-ghost use Rattle.numbers.specs.Numbers.{numbers_differ, sequence_exact};
+ghost use Rattle.numbers.specs.Numbers.{numbers_of, apart, numbers_differ, sequence_exact};
 
-use field::airspace::{order_length, queue_length};
-use field::zones::{FINAL, RUNWAY};
-use field::{Field, Zone};
+use field::zones::FINAL;
+use field::{Aircraft, Field, Zone};
 
-// Whether a number is one of the listed ones.
-fn is_in(numbers: &[u16], number: u16) -> bool
-    ensures { result ≡ is_in number numbers.now }
+// Whether somebody in a queue has a number.
+fn has(queue: &[Aircraft], number: u16) -> bool
+    ensures { result ≡ is_in number (map (λ a. a.number) queue.now) }
 {
-    for i in 0..numbers.len() {
-        if numbers[i] == number {
-            return true;
-        }
-    }
-    false
+    queue.iter().any(|a| a.number == number)
 }
 
-// Whether no number is listed twice.
-fn all_different(numbers: &[u16]) -> bool
-    ensures { result ≡ all_different numbers.now }
+// Whether somebody in some zones has a number.
+fn has_in(zones: &[Zone], number: u16) -> bool
+    ensures { result ≡ is_in number (numbers_of zones.now) }
 {
-    for i in 0..numbers.len() {
-        if is_in(&numbers[i + 1..], numbers[i]) {
+    zones.iter().any(|q| has(q.queue(), number))
+}
+
+// Whether the numbers of a queue are nonzero, and different from one another and from those in the zones behind it.
+fn apart(queue: &[Aircraft], behind: &[Zone]) -> bool
+    ensures { result ≡ apart (map (λ a. a.number) queue.now) (numbers_of behind.now) }
+{
+    for (i, a) in queue.iter().enumerate() {
+        if a.number == 0 || has(&queue[i + 1..], a.number) || has_in(behind, a.number) {
             return false;
         }
     }
     true
-}
-
-// Whether no listed number is 0.
-fn all_nonzero(numbers: &[u16]) -> bool
-    ensures { result ≡ every (λ n. not (eqb n 0)) numbers.now }
-{
-    for i in 0..numbers.len() {
-        if numbers[i] == 0 {
-            return false;
-        }
-    }
-    true
-}
-
-// Whether each listed number is among the others.
-fn each_in(numbers: &[u16], others: &[u16]) -> bool
-    ensures { result ≡ every (λ n. is_in n others.now) numbers.now }
-{
-    for i in 0..numbers.len() {
-        if !is_in(others, numbers[i]) {
-            return false;
-        }
-    }
-    true
-}
-
-// Numbers in a row: those within the length.
-#[derive(Clone, Copy)]
-struct Numbers {
-    list: [u16; 52],
-    length: usize,
-}
-
-// The numbers with those of a queue behind them.
-fn followed_by(n: Numbers, q: Zone) -> Numbers
-    requires { n.length ≤ 48 }
-    ensures { (result.length ≤ n.length + 4) × (take result.length result.list ≡ take n.length n.list ++ map (λ a. a.number) (queue_of q)) }
-{
-    let end = queue_length(q);
-    let start = n.length;
-    let mut list = n.list;
-    for i in 0..end {
-        let a = q.aircraft[i];
-        list[start + i] = a.number;
-    }
-    Numbers {
-        list: list,
-        length: start + end,
-    }
-}
-
-// The numbers of those in zones 1 to `last`.
-fn numbers_to(f: Field, last: usize) -> Numbers
-    requires { last ≤ 13 }
-    ensures { (result.length ≤ 52) × (take result.length result.list ≡ numbers_in f (zones_from 1 last)) }
-{
-    let list = [0u16; 52];
-    let mut n = Numbers {
-        list: list,
-        length: 0,
-    };
-    let mut zone = 0;
-    while zone < last {
-        let q = f.zones[zone];
-        zone += 1;
-        n = followed_by(n, q);
-    }
-    n
 }
 
 // Whether the numbers of those on the field are nonzero and all different.
 pub fn numbers_differ(f: Field) -> bool
     ensures { result ≡ numbers_differ f }
 {
-    let all = numbers_to(f, RUNWAY);
-    let n = all.length;
-    let list = all.list;
-    let numbers = &list[..n];
-    if !all_nonzero(numbers) {
-        return false;
+    for (i, q) in f.zones.iter().enumerate() {
+        if !apart(q.queue(), &f.zones[i + 1..]) {
+            return false;
+        }
     }
-    all_different(numbers)
+    true
+}
+
+// Whether a number is one of the listed ones.
+fn is_in(numbers: &[u16], number: u16) -> bool
+    ensures { result ≡ is_in number numbers.now }
+{
+    numbers.contains(&number)
+}
+
+// Whether no number is listed twice.
+fn all_different(numbers: &[u16]) -> bool
+    ensures { result ≡ all_different numbers.now }
+{
+    for (i, n) in numbers.iter().enumerate() {
+        if is_in(&numbers[i + 1..], *n) {
+            return false;
+        }
+    }
+    true
+}
+
+// Whether each listed number is somebody's in some zones.
+fn each_present(numbers: &[u16], zones: &[Zone]) -> bool
+    ensures { result ≡ every (λ n. is_in n (numbers_of zones.now)) numbers.now }
+{
+    numbers.iter().all(|n| has_in(zones, *n))
+}
+
+// Whether everyone in a zone has one of the listed numbers.
+fn listed(q: &Zone, numbers: &[u16]) -> bool
+    ensures { result ≡ every (λ n. is_in n numbers.now) (map (λ a. a.number) (queue_of q.now)) }
+{
+    q.queue().iter().all(|a| is_in(numbers, a.number))
+}
+
+// Whether everyone in some zones has one of the listed numbers.
+fn each_listed(zones: &[Zone], numbers: &[u16]) -> bool
+    ensures { result ≡ every (λ n. is_in n numbers.now) (numbers_of zones.now) }
+{
+    zones.iter().all(|q| listed(q, numbers))
 }
 
 // Whether the sequence names exactly those in the operation area, once each.
 pub fn sequence_exact(f: Field) -> bool
     ensures { result ≡ sequence_exact f }
 {
-    let all = numbers_to(f, FINAL);
-    let n = all.length;
-    let list = all.list;
-    let there = &list[..n];
-    let s = f.sequence;
-    let end = order_length(s);
-    let numbers = s.numbers;
-    let order = &numbers[..end];
-    if !all_different(order) {
-        return false;
-    }
-    if !each_in(order, there) {
-        return false;
-    }
-    each_in(there, order)
+    let order = f.sequence.order();
+    let zones = &f.zones[..FINAL];
+    all_different(order) && each_present(order, zones) && each_listed(zones, order)
 }

@@ -1,20 +1,34 @@
 -- One law for every count over zones: a number added up for each zone from `first` to `last`, one zone a turn, and that the numbers
 -- that are added up are at most four. Assumes nothing.
-use mathlib.Core.Path.{◌≡◌, ap}
+use mathlib.Core.Path.{◌≡◌, refl, ap, ◌∙◌}
 use mathlib.Core.Bool.{Bool, true, false, cond}
 use mathlib.Core.List.{List, [], ◌∷◌}
+use Rattle.std.specs.List.{sum_by, count_by}
+use Rattle.std.proofs.lemmas.List.Sums.{sum_by-cons}
+use Rattle.std.proofs.lemmas.List.Recursion.{is_sum_by}
 use Prim.Native.Nat.{ℕ, zero, suc, ◌+◌, ◌-◌, ◌*◌, ◌≤◌, ◌<◌}
 use native.Mathlib.Omega.{arith}
 use native.Mathlib.Numerals.{add-one}
 use lib.Dec.{eqb}
-use lib.ListN.{length}
+use lib.ListN.{length, get_or, take, drop}
+use lib.Seq.{drop-cons}
 use Rattle.field.specs.declared.Aircraft.{Aircraft}
+use Rattle.field.specs.declared.Zone.{Zone}
 use Rattle.field.specs.declared.Field.{Field}
-use Rattle.field.specs.Airspace.{zones_from, in_zone, area}
+use Rattle.field.specs.Airspace.{zones_from, empty_zone, zone_of, in_zone, area}
 use Rattle.questions.specs.Counts.{total, have_fix, how_many, how_many_with_fix, counted_for}
 use Rattle.field.specs.Lists.{is_in}
 use Rattle.field.proofs.FieldKnown.{FieldKnown}
 use Rattle.field.proofs.Shapes.{at_most_four}
+
+-- a number for each of n zones from index k of the field's array, added up along the array, is that of the zones by their numbers
+pub along_zones : (f : Field) (g : Zone → ℕ) (k n : ℕ) → k + n ≤ length f.zones → sum_by g (take n (drop k f.zones)) ≡ total (λ z. g (zone_of f z)) (zones_from (suc k) n)
+unfolding zone_of
+along_zones f g k zero h = refl
+along_zones f g k (suc n) h =
+    let first : k < length f.zones = omega arith in
+    let e = ap (λ (l : List Zone). sum_by g (take (suc n) l)) (drop-cons f.zones k empty_zone first) in
+    e ∙ sum_by-cons g (get_or f.zones k empty_zone) (take n (drop (suc k) f.zones)) ∙ ap (λ (m : ℕ). g (get_or f.zones k empty_zone) + m) (along_zones f g (suc k) n (omega arith))
 
 -- a loop that has added up n before zone z, no more than four for each zone
 pub record Added (g : ℕ → ℕ) (first last n z : ℕ) : Type 0 where
@@ -24,9 +38,6 @@ pub record Added (g : ℕ → ℕ) (first last n z : ℕ) : Type 0 where
   pub sum : n + total g (zones_from z (last + 1 - z)) ≡ total g (zones_from first (last + 1 - first))
 
 module _ (g : ℕ → ℕ) (first last : ℕ) where
-  pub added_none : first ≤ last + 1 → Added g first last 0 first
-  added_none h = record { low = omega arith; high = h; small = omega arith; sum = omega arith }
-
   pub added_more : (n z m : ℕ) → Added g first last n z → z ≤ last → m ≡ g z → g z ≤ 4 → Added g first last (n + m) (z + 1)
   added_more n z m a h e small =
       record { low = omega arith; high = omega arith; small = omega arith; sum = omega (arith, next) }
@@ -49,6 +60,10 @@ module _ (g : ℕ → ℕ) (first last : ℕ) where
 either_fits : (b : Bool) {m n k : ℕ} → m ≤ k → n ≤ k → cond b m n ≤ k
 either_fits true h l = h
 either_fits false h l = l
+
+-- those that have a fix are those that pass the test of it
+pub have_fix_counted : (fix : ℕ) (l : List Aircraft) → have_fix fix l ≡ count_by (λ a. eqb a.fix fix) l
+have_fix_counted fix = is_sum_by (have_fix fix) (λ a. cond (eqb a.fix fix) 1 0) refl (λ _ _. refl)
 
 -- no more have a fix than there are
 pub have_fix_fits : (fix : ℕ) (l : List Aircraft) → have_fix fix l ≤ length l

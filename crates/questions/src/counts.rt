@@ -9,18 +9,10 @@ use field::zones::{AT_2000, FINAL, FIRST_BASE, LATERAL, MISSED, RUNWAY};
 use field::{Field, Zone};
 
 // How many of a queue have a fix.
-fn have_fix(q: Zone, fix: u8) -> usize
-    ensures { result ≡ have_fix fix (queue_of q) }
+fn have_fix(q: &Zone, fix: u8) -> usize
+    ensures { result ≡ have_fix fix (queue_of q.now) }
 {
-    let end = queue_length(q);
-    let mut n: usize = 0;
-    for i in 0..end {
-        let a = q.aircraft[i];
-        if a.fix == fix {
-            n += 1;
-        }
-    }
-    n
+    q.queue().iter().filter(|a| a.fix == fix).count()
 }
 
 // How many are in a zone.
@@ -41,12 +33,7 @@ pub fn is_empty(f: Field, zone: usize) -> bool
 pub fn in_operation(f: Field) -> usize
     ensures { result ≡ in_operation f }
 {
-    let mut n: usize = 0;
-    for zone in 1..=FINAL {
-        let q = f.zones[zone - 1];
-        n += queue_length(q);
-    }
-    n
+    f.zones[..FINAL].iter().map(|q| q.queue().len()).sum()
 }
 
 // How many are in all thirteen zones: those in the operation area, and those on the runway.
@@ -70,12 +57,10 @@ fn with_fix_from(f: Field, side: u8, first: usize) -> usize
     requires first_bound { first ≤ 12 }
     ensures { result ≡ total (how_many_with_fix f side) (zones_from first (13 - first)) }
 {
-    let mut n: usize = 0;
-    for zone in first..=FINAL {
-        let q = f.zones[zone - 1];
-        n += have_fix(q, side);
-    }
-    n
+    f.zones[first - 1..FINAL]
+        .iter()
+        .map(|q| have_fix(q, side))
+        .sum()
 }
 
 // How many in the operation area have a side as fix.
@@ -97,24 +82,15 @@ fn is_in_area(side: u8, zone: usize) -> bool
     ensures { result ≡ is_in zone (area side) }
 {
     let s = side as usize;
-    if s == zone {
-        return true;
-    }
-    if AT_2000 + s == zone {
-        return true;
-    }
-    if LATERAL + s == zone {
-        return true;
-    }
-    MISSED + s == zone
+    [s, AT_2000 + s, LATERAL + s, MISSED + s].contains(&zone)
 }
 
 // How many of a zone's queue count for a side: all of them in the side's area, and elsewhere those with the side as fix.
-fn counted_in(q: Zone, side: u8, zone: usize) -> usize
-    ensures { result ≡ cond (is_in zone (area side)) (queue_length q) (have_fix side (queue_of q)) }
+fn counted_in(q: &Zone, side: u8, zone: usize) -> usize
+    ensures { result ≡ cond (is_in zone (area side)) (queue_length q.now) (have_fix side (queue_of q.now)) }
 {
     if is_in_area(side, zone) {
-        queue_length(q)
+        q.queue().len()
     } else {
         have_fix(q, side)
     }
@@ -124,10 +100,9 @@ fn counted_in(q: Zone, side: u8, zone: usize) -> usize
 pub fn potential_of(f: Field, side: u8) -> usize
     ensures { result ≡ potential_of f side }
 {
-    let mut n: usize = 0;
-    for zone in 1..=FINAL {
-        let q = f.zones[zone - 1];
-        n += counted_in(q, side, zone);
+    let mut n = 0;
+    for (i, q) in f.zones[..FINAL].iter().enumerate() {
+        n += counted_in(q, side, i + 1);
     }
     n
 }

@@ -4,8 +4,7 @@ ghost use Rattle.field.specs.Airspace as airspace;
 ghost use Rattle.questions.specs.Find.{place_of, aircraft_at, fix_of, is_first, leader_of, leader_zone};
 
 use crate::Place;
-use field::airspace::{nobody, order_length, queue_length, zone_of};
-use field::zones::RUNWAY;
+use field::airspace::{nobody, zone_of};
 use field::{Aircraft, Field, Sequence, Zone};
 
 // Where a number is on the field: the first zone that has it, and its first place there from 1; 0 and 0 where it is absent.
@@ -13,15 +12,12 @@ pub fn place_of(f: Field, number: u16) -> Place
     ensures { result ≡ place_of f number }
 {
     let mut found = Place { zone: 0, place: 0 };
-    'zones: for zone in 1..=RUNWAY {
-        let q = f.zones[zone - 1];
-        let end = queue_length(q);
-        for i in 0..end {
-            let a = q.aircraft[i];
+    'zones: for (i, q) in f.zones.iter().enumerate() {
+        for (k, a) in q.queue().iter().enumerate() {
             if a.number == number {
                 found = Place {
-                    zone: zone as u8,
-                    place: i + 1,
+                    zone: i as u8 + 1,
+                    place: k + 1,
                 };
                 break 'zones;
             }
@@ -37,10 +33,9 @@ pub fn aircraft_in(q: Zone, place: usize) -> Aircraft
     if place == 0 {
         return nobody();
     }
-    if place <= queue_length(q) {
-        q.aircraft[place - 1]
-    } else {
-        nobody()
+    match q.queue().get(place - 1) {
+        Some(a) => *a,
+        None => nobody(),
     }
 }
 
@@ -69,24 +64,19 @@ pub fn fix_of(f: Field, number: u16) -> u8
 pub fn is_first(s: Sequence, number: u16) -> bool
     ensures { result ≡ is_first s number }
 {
-    if s.length == 0 {
-        return false;
-    }
-    s.numbers[0] == number
+    s.order().first() == Some(&number)
 }
 
 // The number just ahead of a number in the sequence; 0 for the first, and for one that is not in it.
 pub fn leader_of(s: Sequence, number: u16) -> u16
     ensures { result ≡ leader_of s number }
 {
-    let end = order_length(s);
-    let mut ahead: u16 = 0;
-    for i in 0..end {
-        let n = s.numbers[i];
-        if n == number {
+    let mut ahead = 0;
+    for n in s.order() {
+        if *n == number {
             return ahead;
         }
-        ahead = n;
+        ahead = *n;
     }
     0
 }

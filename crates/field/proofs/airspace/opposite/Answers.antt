@@ -1,16 +1,16 @@
--- `field::airspace::opposite` meets its contract: each arm returns what the definition gives where the tests are as the arm found them. Assumes nothing.
-use borrow.Author.Tests.{eq-eqb, ne_eqb}
+-- `field::airspace::opposite` meets its contract: each arm returns what the definition gives at its side. Assumes nothing.
+use Rattle.std.proofs.Common.{rules}
 use Rattle.field.specs.Airspace.{opposite}
 use Rattle.field.proofs.airspace.opposite.Goals as goal
 
-pub returns-then-side-eq1 : goal.returns-then-side-eq1
+pub returns-in-1 : goal.returns-in-1
 unfolding opposite
-returns-then-side-eq1 c = simp (eq-eqb _ _ c.if-side-eq1.true)
+returns-in-1 c = search rules
 
-pub returns-then-side-eq2 : goal.returns-then-side-eq2
+pub returns-in-2 : goal.returns-in-2
 unfolding opposite
-returns-then-side-eq2 c = simp (ne_eqb _ _ c.if-side-eq1.false, eq-eqb _ _ c.if-side-eq2.true)
+returns-in-2 c = search rules
 
-pub returns-else-side-eq2 : goal.returns-else-side-eq2
+pub returns-in_default : goal.returns-in_default
 unfolding opposite
-returns-else-side-eq2 c = simp (ne_eqb _ _ c.if-side-eq1.false, ne_eqb _ _ c.if-side-eq2.false)
+returns-in_default c = search rules
