@@ -22,6 +22,7 @@ pub fn closed_up<T: Copy, const N: usize>(row: [T; N], k: usize, last: T) -> [T;
 }
 
 // The zone with its head taken off; an empty one as it is.
+#[tactic(auto, unfolding(crate::specs::Edits::without_head, crate::specs::Edits::closed_up))]
 pub fn without_head(q: Zone) -> Zone
     ensures { result ≡ without_head q }
 {
@@ -35,6 +36,7 @@ pub fn without_head(q: Zone) -> Zone
 }
 
 // The zone with an aircraft put at its tail; a full one as it is.
+#[tactic(auto, unfolding(crate::specs::Edits::with_tail))]
 pub fn with_tail(q: Zone, a: Aircraft) -> Zone
     ensures { result ≡ with_tail q a }
 {
@@ -47,6 +49,7 @@ pub fn with_tail(q: Zone, a: Aircraft) -> Zone
 }
 
 // The sequence with a number appended; a full one as it is.
+#[tactic(auto, unfolding(crate::specs::Edits::appended))]
 pub fn appended(s: Sequence, number: u16) -> Sequence
     ensures { result ≡ appended s number }
 {
@@ -83,6 +86,7 @@ pub fn with_zone(f: Field, zone: usize, q: Zone) -> Field
 }
 
 // The field with another sequence and next fix.
+#[tactic(auto, unfolding(crate::specs::Edits::with_sequence))]
 pub fn with_sequence(f: Field, s: Sequence, next: u8) -> Field
     ensures { result ≡ with_sequence f s next }
 {
