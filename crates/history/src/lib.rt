@@ -18,6 +18,7 @@ use rules::Answer;
 use step::number_and_zeros;
 
 // A field with its index, the kept fields before the last accepted requests, oldest first, and how many of them count.
+// The eight places and the count stand side by side, since a host's bytes have them so (crates/layout).
 #[derive(Clone, Copy)]
 pub struct History {
     pub now: Indexed,
@@ -119,6 +120,7 @@ pub fn step_history(h: History, r: Request) -> SteppedHistory
     if let Err(refusal) = check_kept(h, r) {
         return turned_away(h, refusal.number());
     }
+    // The contract of step_indexed, by which every list of requests is played, says its refusal as a number.
     let stepped = step_indexed(h.now, r);
     let answer = stepped.answer;
     let number = answer.number;
