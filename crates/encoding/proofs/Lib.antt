@@ -1,2 +1,1 @@
 pub mod EachPut
-pub mod StoredAfter
