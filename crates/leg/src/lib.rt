@@ -23,7 +23,7 @@ pub struct Advanced {
     pub past: f64,
 }
 
-// The miles x, but no more than the limit.
+// The miles x, but no more than the limit. `f64::min` differs where the limit is a NaN.
 fn up_to(limit: f64, x: f64) -> f64
     ensures { result ≡ up_to limit x }
 {
@@ -60,11 +60,7 @@ pub fn waited_after(waited: f64, past: f64) -> f64
 pub fn waited_within(waited: f64) -> bool
     ensures { result ≡ waited_within waited }
 {
-    if 0.0 <= waited {
-        waited <= MOST_WAITED
-    } else {
-        false
-    }
+    0.0 <= waited && waited <= MOST_WAITED
 }
 
 // Whether the leg is flown out: the miles equal its length.
@@ -100,7 +96,7 @@ pub fn within(p: Progress, leg: f64) -> bool
 {
     match p {
         Progress::Waiting => true,
-        Progress::Flying(miles) => { if 0.0 <= miles { miles <= leg } else { false } }
+        Progress::Flying(miles) => 0.0 <= miles && miles <= leg,
     }
 }
 
@@ -108,7 +104,7 @@ pub fn within(p: Progress, leg: f64) -> bool
 fn leg_up_to(most: f64, leg: f64) -> bool
     ensures { result ≡ (le (sixty_fourths 1) leg && le leg most) }
 {
-    if 0.015625 <= leg { leg <= most } else { false }
+    0.015625 <= leg && leg <= most
 }
 
 // Whether a leg's length is from 1/64 of a mile to the longest.

@@ -1,5 +1,5 @@
--- `leg::leg_up_to` meets its contract: each arm returns what the contract gives where the first test is as the arm found it. Assumes nothing.
-use mathlib.Core.Path.{◌≡◌, sym, ap}
+-- `leg::leg_up_to` meets its contract: where the first test is as it was found the contract gives what is returned. Assumes nothing.
+use mathlib.Core.Path.{◌≡◌, sym, ap, ◌∙◌}
 use mathlib.Core.Bool.{Bool, ◌&&◌}
 use lib.Ieee.{Float, binary64, le, div, of_bits, of_int}
 use Rattle.leg.specs.Progress.{sixty_fourths}
@@ -14,4 +14,4 @@ pub returns-then-leg : goal.returns-then-leg
 returns-then-leg c = sym (known c.args.most c.args.leg c.if-leg.true)
 
 pub returns-else-leg : goal.returns-else-leg
-returns-else-leg c = sym (known c.args.most c.args.leg c.if-leg.false)
+returns-else-leg c = c.if-leg.false ∙ sym (known c.args.most c.args.leg c.if-leg.false)

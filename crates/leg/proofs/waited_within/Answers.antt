@@ -1,5 +1,5 @@
--- `leg::waited_within` meets its contract: each arm returns what the definition gives where the first test is as the arm found it. Assumes nothing.
-use mathlib.Core.Path.{◌≡◌, sym, ap}
+-- `leg::waited_within` meets its contract: where the first test is as it was found the definition gives what is returned. Assumes nothing.
+use mathlib.Core.Path.{◌≡◌, sym, ap, ◌∙◌}
 use mathlib.Core.Bool.{Bool, ◌&&◌}
 use lib.Ieee.{Float, binary64, le, of_bits, of_int}
 use Rattle.limits.specs.Limits.{most_waited}
@@ -15,4 +15,4 @@ pub returns-then-waited : goal.returns-then-waited
 returns-then-waited c = sym (known c.args.waited c.if-waited.true)
 
 pub returns-else-waited : goal.returns-else-waited
-returns-else-waited c = sym (known c.args.waited c.if-waited.false)
+returns-else-waited c = c.if-waited.false ∙ sym (known c.args.waited c.if-waited.false)

@@ -16,4 +16,4 @@ pub returns-then-miles : goal.returns-then-miles
 returns-then-miles c = sym (known c.args.p c.in-Flying.miles c.args.leg c.in-Flying.is c.if-miles.true)
 
 pub returns-else-miles : goal.returns-else-miles
-returns-else-miles c = sym (known c.args.p c.in-Flying.miles c.args.leg c.in-Flying.is c.if-miles.false)
+returns-else-miles c = c.if-miles.false ∙ sym (known c.args.p c.in-Flying.miles c.args.leg c.in-Flying.is c.if-miles.false)
