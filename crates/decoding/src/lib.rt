@@ -2,7 +2,6 @@
 #![tactic(auto)]
 
 ghost use Rattle.std.specs.Prelude.{◌≡◌, ◌+◌, ◌≤◌, length};
-ghost use Rattle.practice.specs.File.{number16, number32};
 ghost use Rattle.words.specs.Words.{number64};
 ghost use Rattle.layout.specs.Read.{progress_of, read_aircraft, read_zone, read_sequence, read_legs, read_field, read_entry, read_indexed, read_history};
 
@@ -11,25 +10,9 @@ use finder::{Entry, Index, Indexed};
 use history::History;
 use layout::State;
 use leg::Progress;
-use request::word;
+use practice::{number16, number32};
 use std::array::from_fn;
 use words::miles_of;
-
-// The number of 16 bits at a place of the bytes.
-fn number16(bytes: &[u8], at: usize) -> u16
-    requires { at + 2 ≤ length bytes.now }
-    ensures { result ≡ number16 bytes.now at }
-{
-    word(bytes[at], bytes[at + 1])
-}
-
-// The number of 32 bits at a place of the bytes.
-fn number32(bytes: &[u8], at: usize) -> u32
-    requires { at + 4 ≤ length bytes.now }
-    ensures { result ≡ number32 bytes.now at }
-{
-    number16(bytes, at) as u32 + 65536 * (number16(bytes, at + 2) as u32)
-}
 
 // The number of 64 bits at a place of the bytes.
 fn number64(bytes: &[u8], at: usize) -> u64
