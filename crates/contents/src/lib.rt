@@ -54,13 +54,6 @@ pub fn check_binder(binder: &[u8]) -> Result<(), Refusal>
     )
 }
 
-// The number that refuses the binder; 0 where it is accepted.
-pub fn binder_number(binder: &[u8]) -> u16
-    ensures { result ≡ binder_number binder.now }
-{
-    refusals::outcome_number(check_binder(binder))
-}
-
 // How many files the binder holds; 0 where it is refused.
 pub fn file_count(binder: &[u8]) -> usize
     ensures { result ≡ file_count binder.now }
