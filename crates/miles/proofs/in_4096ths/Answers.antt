@@ -21,8 +21,8 @@ returns-then-n-2 c = c.truncating_f64_to_u64.ensures ∙ sym (known c.args.miles
 pub returns : goal.returns
 returns c =
     elim c.else-n.branch [
-      else-n-via-then-n+else-n-2 w ↦ sym (known c.args.miles w.if-n.true w.if-n-2.false)
-    | else-n-via-else-n w ↦ sym (known c.args.miles w.if-n.false refl)
+      | else-n-via-then-n+else-n-2 w ↦ sym (known c.args.miles w.if-n.true w.if-n-2.false)
+      | else-n-via-else-n w ↦ sym (known c.args.miles w.if-n.false refl)
     ]
 
 pub truncating_f64_to_u64-requires-clause-lower_bound : goal.truncating_f64_to_u64-requires-clause-lower_bound
