@@ -22,6 +22,7 @@ fn counts_of(binder: &[u8]) -> Counts
 {
     let mut log = [0u16; 28672];
     let mut c = empty_counts();
+    // A file is looked up by its number, which the loop counts.
     for i in 0..file_count(binder) {
         let p = play(file_at(binder, i), &mut log);
         c.add_number(p.number);

@@ -33,6 +33,7 @@ fn files_placed(binder: &[u8]) -> bool
 {
     let count = entry_count(binder);
     let mut end = 2 + 8 * count;
+    // An entry of the table stands where its number says, which the loop counts.
     for i in 0..count {
         let at = 2 + 8 * i;
         if number32(binder, at) as usize != end {

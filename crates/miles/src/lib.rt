@@ -27,6 +27,7 @@ fn put_decimals(out: &mut [u8], at: usize, part: usize) -> usize
 {
     let mut end = at;
     let mut rest = part;
+    // Twelve places are enough for a fraction of 4096ths.
     for _place in 0..12usize {
         if rest == 0 {
             return end;

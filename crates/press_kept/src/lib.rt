@@ -54,6 +54,7 @@ pub fn hold_kept(h: History) -> HeldKept
 {
     let mut last = h;
     let mut played = 0;
+    // Presses are counted, and no index.
     for i in 0..MOST_PRESSES {
         let Proposal::Play(r) = propose_kept(last) else {
             break;

@@ -43,6 +43,7 @@ fn file_fits(n: usize, room: usize) -> bool
 pub fn check_requests(requests: &[u8]) -> Result<(), Refusal>
     ensures { outcome_number result ≡ first_offence (requests_of requests.now) }
 {
+    // A request is read by its number, which the loop counts.
     for i in 0..requests.len() / 6 {
         if let Some(r) = request_at(requests, i) {
             check_input(r)?;
