@@ -6,19 +6,18 @@ ghost use Rattle.text.specs.Buffer.{Put};
 ghost use Rattle.authored.specs.Authored.{file_room, refused_line, authored_of};
 
 use practice::legs_of;
-use text::{put_line, put_text};
+use text::put_named;
 use writer::write;
 
 // The caller's buffer, long enough for every practice file.
 pub type FileBuffer = [u8; 24610];
 
 // A refusal, from the buffer's first byte on.
+#[tactic(auto, unfolding(crate::specs::Authored::refused_line))]
 pub fn put_refused(out: &mut [u8], number: u16) -> usize
     ensures { Put out.old 0 (refused_line number) out.new result }
 {
-    let next = put_text(out, 0, b"refused ");
-    let numbers = [number as usize];
-    put_line(out, next, &numbers)
+    put_named(out, 0, b"refused ", number as usize)
 }
 
 // Writes the practice file of the input's legs and requests into the buffer, or the line that refuses them, and yields its length.

@@ -5,7 +5,7 @@ mod lines;
 
 ghost use Rattle.std.specs.Prelude.{◌≡◌, ◌++◌, ◌+◌, ◌/◌, ◌≤◌, length, drop};
 ghost use Rattle.limits.specs.Limits.{most_requests};
-ghost use Rattle.practice.specs.File.{number16, legs_of};
+ghost use Rattle.refusals.specs.Refusals.{outcome_number};
 ghost use Rattle.text.specs.Buffer.{Put, room};
 ghost use Rattle.history.specs.History.{start_of};
 ghost use Rattle.taken_back.specs.Calls.{called};
@@ -17,49 +17,21 @@ use field::Legs;
 use history::{History, SteppedHistory, start, step_back, step_history};
 use limits::MOST_REQUESTS;
 use playing::legs_in_miles;
-use practice::{FileLegs, legs_allowed};
-use request::{Request, word};
+use practice::{legs_allowed, legs_of, number16};
+use refusals::{Refusal, require};
+use request::Request;
 use text::Buffer;
 
-// The number of 16 bits at a place of the input.
-fn number16(input: &[u8], at: usize) -> u16
-    requires { at + 2 ≤ length input.now }
-    ensures { result ≡ number16 input.now at }
-{
-    word(input[at], input[at + 1])
-}
-
-// The legs of the first eight bytes.
-fn legs_in(input: &[u8]) -> FileLegs
-    requires { 8 ≤ length input.now }
-    ensures { result ≡ legs_of input.now }
-{
-    FileLegs {
-        base: number16(input, 0),
-        intermediate: number16(input, 2),
-        final_approach: number16(input, 4),
-        missed: number16(input, 6),
-    }
-}
-
-// The number that refuses the input; 0 where it is accepted.
-fn input_number(input: &[u8]) -> u16
-    ensures { result ≡ desks_number input.now }
+// Whether the input is accepted, or why it is refused.
+#[tactic(auto, using(refusals::proofs::Outcomes::number_some), unfolding(refusals::specs::Refusals::number_of, crate::specs::CallsReport::desks_number))]
+fn check_input(input: &[u8]) -> Result<(), Refusal>
+    ensures { outcome_number result ≡ desks_number input.now }
 {
     let n = input.len();
-    if n < 8 {
-        return 7;
-    }
-    if !legs_allowed(legs_in(input)) {
-        return 7;
-    }
-    if (n - 8) % 8 != 0 {
-        return 5;
-    }
-    if MOST_REQUESTS < (n - 8) / 8 {
-        return 5;
-    }
-    0
+    require(8 <= n, Refusal::LegOutOfRange)?;
+    require(legs_allowed(legs_of(input)), Refusal::LegOutOfRange)?;
+    require((n - 8) % 8 == 0, Refusal::WrongSizeOrLetters)?;
+    require((n - 8) / 8 <= MOST_REQUESTS, Refusal::WrongSizeOrLetters)
 }
 
 // The answer to the call at a place of the input, and the field with its kept ones after it.
@@ -76,7 +48,7 @@ fn call_at(h: History, input: &[u8], at: usize) -> SteppedHistory
         side: input[at + 3],
         number: number16(input, at + 4),
         amount: number16(input, at + 6),
-        desk: desk,
+        desk,
     };
     step_history(h, r)
 }
@@ -90,12 +62,10 @@ fn put_calls(out: &mut [u8], input: &[u8], legs: Legs) -> usize
     let calls = (input.len() - 8) / 8;
     let mut h = start(legs);
     let mut next = 0;
-    let mut i = 0;
-    while i < calls {
+    for i in 0..calls {
         let s = call_at(h, input, 8 + 8 * i);
         next = put_answer(out, next, i, s.answer);
         h = s.after;
-        i += 1;
     }
     put_last(out, next, h)
 }
@@ -107,9 +77,8 @@ pub fn desks(input: &[u8], out: &mut Buffer) -> usize
     ensures upper_bound { result ≤ room }
 {
     let bytes: &mut [u8] = out;
-    let number = input_number(input);
-    if number != 0 {
-        return put_refused(bytes, number);
+    if let Err(refusal) = check_input(input) {
+        return put_refused(bytes, refusal.number());
     }
-    put_calls(bytes, input, legs_in_miles(legs_in(input)))
+    put_calls(bytes, input, legs_in_miles(legs_of(input)))
 }

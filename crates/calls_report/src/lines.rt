@@ -10,6 +10,7 @@ use rules::Answer;
 use text::{put_line, put_text};
 
 // The line of a call: its index and its answer.
+#[tactic(auto, unfolding(session::specs::Report::answer_line))]
 pub(crate) fn put_answer(out: &mut [u8], at: usize, index: usize, a: Answer) -> usize
     ensures { Put out.old at (answer_line index a) out.new result }
 {
@@ -33,6 +34,5 @@ pub(crate) fn put_last(out: &mut [u8], at: usize, h: History) -> usize
     let x = h.now;
     let present = present_on(x.field);
     let next = put_text(out, at, b"end ");
-    let numbers = [present, h.count];
-    put_line(out, next, &numbers)
+    put_line(out, next, &[present, h.count])
 }

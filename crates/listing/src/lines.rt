@@ -6,37 +6,39 @@ ghost use Rattle.listing.specs.Report.{entry_line, refusal, list_report, next_li
 use dialect::going::list_of;
 use dialect::{ListEntry, Listing};
 use dialect_field::Built;
-use text::{put_line, put_text};
+use text::{put_line, put_named};
 
 // The line of an entry.
+#[tactic(auto, unfolding(crate::specs::Report::entry_line))]
 fn put_entry(out: &mut [u8], at: usize, e: ListEntry) -> usize
     ensures { Put out.old at (entry_line e) out.new result }
 {
-    let numbers = [
-        e.number as usize,
-        e.location as usize,
-        e.place as usize,
-        e.fix as usize,
-    ];
-    put_line(out, at, &numbers)
+    put_line(
+        out,
+        at,
+        &[
+            e.number as usize,
+            e.location as usize,
+            e.place as usize,
+            e.fix as usize,
+        ],
+    )
 }
 
 // The line of a refusal.
+#[tactic(auto, unfolding(crate::specs::Report::refusal))]
 pub(crate) fn put_refusal(out: &mut [u8], at: usize, number: u16) -> usize
     ensures { Put out.old at (refusal number) out.new result }
 {
-    let next = put_text(out, at, b"refused ");
-    let numbers = [number as usize];
-    put_line(out, next, &numbers)
+    put_named(out, at, b"refused ", number as usize)
 }
 
 // The line of the next fix.
+#[tactic(auto, unfolding(crate::specs::Report::next_line))]
 fn put_next(out: &mut [u8], at: usize, fix: u8) -> usize
     ensures { Put out.old at (next_line fix) out.new result }
 {
-    let next = put_text(out, at, b"next ");
-    let numbers = [fix as usize];
-    put_line(out, next, &numbers)
+    put_named(out, at, b"next ", fix as usize)
 }
 
 // The report of a list: a refusal, or a line for each entry.
@@ -46,16 +48,9 @@ pub(crate) fn put_list(out: &mut [u8], at: usize, l: Listing) -> usize
     if l.number != 0 {
         return put_refusal(out, at, l.number);
     }
-    let count = l.count;
     let mut next = at;
-    let mut i = 0;
-    while i < 5 {
-        if count <= i {
-            return next;
-        }
-        let e = l.entries[i];
-        next = put_entry(out, next, e);
-        i += 1;
+    for e in &l.entries[..l.count.min(5)] {
+        next = put_entry(out, next, *e);
     }
     next
 }

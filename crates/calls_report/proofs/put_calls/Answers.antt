@@ -4,32 +4,18 @@ use Prim.Native.Nat.{◌≤◌}
 use native.Mathlib.Omega.{arith}
 use lib.ListN.{length}
 use Rattle.text.specs.Buffer.{Put, room}
-use Rattle.text.proofs.Texts.{put_same}
 use Rattle.history.specs.declared.History.{History}
 use Rattle.calls_report.specs.CallsReport.{calls_in, report_from}
 use Rattle.calls_report.proofs.CallLines.{answered_none, answered_more, answered_all, answered_fits}
 use Rattle.calls_report.proofs.put_calls.Goals as goal
 
-pub overflow_sub-calls : goal.overflow_sub-calls
-overflow_sub-calls c = c.requires.0
-
 pub loop-i-init : goal.loop-i-init
 loop-i-init c = answered_none _ _ _
-
-pub call_at-s-requires : goal.call_at-s-requires
-call_at-s-requires c = omega (arith, c.loop-i-test.true, c.requires.0)
-
-pub loop-i-smaller : goal.loop-i-smaller
-loop-i-smaller c = let h = c.loop-i-test.true in omega arith
 
 pub loop-i-preserved : goal.loop-i-preserved
 loop-i-preserved c =
     answered_more _ c.call_at-s.result c.loop-i.invariant c.loop-i-test.true c.requires.1 c.call_at-s.ensures
     (omega (arith, c.call_at-s.type_inv)) (omega (arith, c.call_at-s.type_inv)) (omega (arith, c.call_at-s.type_inv)) c.put_answer-next.ensures
-
-pub shape_of-out : goal.shape_of-out
-shape_of-out c =
-    put_same (answered_all _ c.loop-i.invariant c.loop-i-test.false c.put_last.ensures.put)
 
 pub returns : goal.returns
 returns c =

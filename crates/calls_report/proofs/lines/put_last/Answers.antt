@@ -5,14 +5,10 @@ use Prim.Native.Nat.{ℕ}
 use native.Mathlib.Omega.{arith}
 use Rattle.text.specs.Text.{space, line_of}
 use Rattle.text.specs.Buffer.{Put}
-use Rattle.text.proofs.Texts.{put_more, put_same}
+use Rattle.text.proofs.Texts.{put_more}
 use Rattle.calls_report.specs.CallsReport.{last_line}
 use Rattle.calls_report.proofs.CallLineSizes.{last_length, count_known}
 use Rattle.calls_report.proofs.lines.put_last.Goals as goal
-
-pub shape_of-out : goal.shape_of-out
-shape_of-out c =
-    put_same (put_more c.put_text-next.ensures c.put_line.ensures)
 
 pub returns : goal.returns
 unfolding last_line

@@ -5,7 +5,7 @@ use Prim.Native.Nat.{ℕ}
 use native.Mathlib.Omega.{arith}
 use lib.ListN.{length}
 use Rattle.text.specs.Buffer.{Put}
-use Rattle.text.proofs.Texts.{put_more, put_same}
+use Rattle.text.proofs.Texts.{put_more}
 use Rattle.dialect.specs.declared.Listing.{Listing}
 use Rattle.listing.specs.Report.{list_report, next_line}
 use Rattle.listing.proofs.ListingKnown.{listing_known}
@@ -13,19 +13,12 @@ use Rattle.listing.proofs.EntryLines.{built_refused, built_listed}
 use Rattle.listing.proofs.ListReportSizes.{refusal_short, both_short}
 use Rattle.listing.proofs.lines.put_built.Goals as goal
 
-pub shape_of-out-then-b-ne0 : goal.shape_of-out-then-b-ne0
-shape_of-out-then-b-ne0 c = put_same c.put_refusal.ensures
-
 pub returns-then-b-ne0 : goal.returns-then-b-ne0
 returns-then-b-ne0 c =
     let b = c.args.b in
     let e = built_refused b c.if-b-ne0.true in
     let size = refusal_short b.number (omega (arith, c.well_formed.1.0)) in
     let long = ap length e in record { put = subst⁻¹ (λ (bytes : List ℕ). Put c.args.out.now 0 bytes c.put_refusal.new.out c.put_refusal.result) e c.put_refusal.ensures; b_len_bound = omega arith }
-
-pub shape_of-out : goal.shape_of-out
-shape_of-out c =
-    put_same (put_more c.put_next-next.ensures c.put_list.ensures)
 
 pub returns : goal.returns
 returns c =
