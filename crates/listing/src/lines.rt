@@ -13,16 +13,8 @@ use text::{put_line, put_named};
 fn put_entry(out: &mut [u8], at: usize, e: ListEntry) -> usize
     ensures { Put out.old at (entry_line e) out.new result }
 {
-    put_line(
-        out,
-        at,
-        &[
-            e.number as usize,
-            e.location as usize,
-            e.place as usize,
-            e.fix as usize,
-        ],
-    )
+    let numbers = [e.number, e.location, e.place, e.fix].map(usize::from);
+    put_line(out, at, &numbers)
 }
 
 // The line of a refusal.
