@@ -1,29 +1,55 @@
--- An array whose parts are read one after the other, from bytes with parts of one size behind each other. Assumes nothing.
-use mathlib.Core.Path.{◌≡◌, ap, subst, ◌∙◌}
-use mathlib.Core.List.{List, ◌∷◌}
-use Prim.Native.Nat.{ℕ, zero, suc, ◌+◌, ◌*◌}
+-- An array that is read part by part, from bytes with parts of one size behind each other. Assumes nothing.
+use mathlib.Core.Path.{◌≡◌, refl, sym, ap, ◌∙◌}
+use mathlib.Core.List.{List, ◌∷◌, ◌++◌}
+use Prim.Native.Nat.{ℕ, zero, suc, ◌+◌, ◌*◌, ◌≤◌, ◌<◌}
 use native.Mathlib.Nat.{mul-suc}
 use native.Mathlib.Omega.{arith}
-use lib.ListN.{length, drop, drop_of_length-le}
-use lib.Seq.{drop-cons}
-use denote.Param.Members.{Mut, Called}
-use Rattle.std.specs.Array.{IsFromFnResult, IsFromFnResultFrom}
+use lib.ListN.{length, get_or, take, drop, set}
+use Rattle.field.proofs.Arrays.{filled_more, filled_all}
 use Rattle.layout.specs.Read.{several}
 
-module _ {F A : Type 0} (g : Mut F (ℕ × Unit {0}) A) (f : F) (ys : List A) (read : ℕ → A) (size at : ℕ) (reads : (i : ℕ) (y : A) (q : F) → Called g f (i, tt) y q → (q ≡ f) × (y ≡ read (at + size * i))) where
-  -- those from the i-th on
-  read_from : (n i : ℕ) → length ys ≡ i + n → IsFromFnResultFrom g f ys i n → drop i ys ≡ several read size n (at + size * i)
-  read_from zero i long each = drop_of_length-le ys {i = i} (omega arith)
-  read_from (suc n) i long each =
-      let y = each.1 in
-      let one = reads i y each.0 each.3 in
-      let rest = read_from n (i + 1) (omega arith) (subst (λ (p : F). IsFromFnResultFrom g p ys (i + 1) n) one.0 each.4) in
-      let next : at + size * (i + 1) ≡ at + size * i + size = let e = mul-suc size i in omega (arith, e) in
-      drop-cons ys i y (omega arith)
-      ∙ ap (λ (x : A). x ∷ drop (suc i) ys) (each.2.1 y ∙ one.1)
-      ∙ ap (λ (k : ℕ). read (at + size * i) ∷ drop k ys) {x = suc i} {y = i + 1} (omega arith)
-      ∙ ap (λ (l : List A). read (at + size * i) ∷ l) (rest ∙ ap (several read size n) next)
+module _ {A : Type 0} (read : ℕ → A) (size : ℕ) where
+  pub several_length : (n at : ℕ) → length (several read size n at) ≡ n
+  several_length zero at = refl
+  several_length (suc n) at = ap suc (several_length n (at + size))
 
-  -- all of them
-  pub read_all : (n : ℕ) → IsFromFnResult g f ys n → ys ≡ several read size n at
-  read_all n all = read_from n 0 (omega (arith, all.long)) all.each ∙ ap (several read size n) {x = at + size * 0} {y = at} (omega arith)
+  -- part i of n
+  pub several_at : (n at i : ℕ) (d : A) → i < n → get_or (several read size n at) i d ≡ read (at + size * i)
+  several_at zero at i d h = absurd (omega arith)
+  several_at (suc n) at zero d h = ap read (omega arith)
+  several_at (suc n) at (suc i) d h = several_at n (at + size) i d (omega arith) ∙ ap read (let e = mul-suc size i in omega (arith, e))
+
+  -- an array zs of n places, read before place i
+  pub record Reading (n at : ℕ) (zs : List A) (i : ℕ) : Type 0 where
+    pub within : i ≤ n
+    pub old : List A
+    pub long : length old ≡ n
+    pub made : zs ≡ take i (several read size n at) ++ drop i old
+
+  -- the first place is read, ..
+  pub reading_one : (n at : ℕ) (x : A) (xs : List A) → length xs ≡ n → x ≡ read at → Reading (suc n) at (x ∷ xs) 1
+  reading_one n at x xs long e = record {
+    within = omega arith;
+    old = x ∷ xs;
+    long = ap suc long;
+    made = ap (λ (y : A). y ∷ xs) e;
+  }
+
+  module _ (n at : ℕ) (zs : List A) (i : ℕ) (p : Reading n at zs i) where
+    -- .. one place more, ..
+    pub reading_more : (y : A) → i < n → y ≡ read (at + size * i) → Reading n at (set zs i y) (i + 1)
+    reading_more y h e =
+        let long = p.long in
+        let wide = several_length n at in
+        record {
+          within = omega arith;
+          old = p.old;
+          long = long;
+          made = filled_more zs (several read size n at) p.old i y y (omega (arith, long, h)) (wide ∙ sym long) p.made (e ∙ sym (several_at n at i y h));
+        }
+
+    -- .. and all of them
+    pub reading_all : n ≤ i → zs ≡ several read size n at
+    reading_all h =
+        let long = p.long in
+        filled_all zs (several read size n at) p.old i (omega (arith, long, h)) (several_length n at ∙ sym long) p.made
