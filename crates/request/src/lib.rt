@@ -2,7 +2,7 @@
 #![tactic(auto)]
 
 ghost use Rattle.std.specs.Prelude.{◌≡◌, true, cond, not, eqb};
-ghost use Rattle.request.specs.Input.{word, request_of, range, in_range, rule_of, input_number};
+ghost use Rattle.request.specs.Input.{word, request_of, range, in_range, asked_of, rule_of, input_number};
 ghost use Rattle.refusals.specs.Refusals.{outcome_number};
 
 use limits::{DESKS, FASTEST, LONGEST_TICK};
@@ -99,6 +99,13 @@ pub fn rule_of(kind: u8) -> Option<KindRule>
         }),
         _ => None,
     }
+}
+
+// What a kind asks, as its rule says; what is no kind asks the side and the amount 0 and an aircraft's number, and starts from no zone.
+pub fn asked_of(kind: u8) -> KindRule
+    ensures { result ≡ asked_of kind }
+{
+    rule_of(kind).unwrap_or(move_rule(1, 0))
 }
 
 // Whether a number is not 0 just where the rule's kind means an aircraft.

@@ -106,11 +106,15 @@ module _ (f : Field) (r : Request) where
         | inr e ↦ let some = eqb-false n 0 e in if_false _ _ e ∙ turned_away (number_need i w refl some) some
       ]
 
-  -- the step of a refusal that a `?` hands on
-  pub refused : (p : Result Stepped Refusal) (e : Refusal) → IsErrAnd p (λ y. y ≡ e) → number_of f r ≡ refusal_number e → step_by f p ≡ step_of f r
-  refused p e h k =
+  -- the step of a refusal that a `?` hands on, by its number, ..
+  pub handed_on : (p : Result Stepped Refusal) (e : Refusal) {n : ℕ} → IsErrAnd p (λ y. y ≡ e) → refusal_number e ≡ n → step_by f p ≡ record { answer = number_and_zeros n; field = f }
+  handed_on p e h k =
       let q = err_from_is_err_and p h in
-      ap (step_by f) q.1 ∙ ap (λ (d : Refusal). record { answer = number_and_zeros (refusal_number d); field = f }) q.2 ∙ turned_away k (number_some e)
+      ap (step_by f) q.1 ∙ ap (λ (d : Refusal). record { answer = number_and_zeros (refusal_number d); field = f }) q.2 ∙ ap (λ (m : ℕ). record { answer = number_and_zeros m; field = f }) k
+
+  -- .. which is the step, where it is the number of the request
+  pub refused : (p : Result Stepped Refusal) (e : Refusal) → IsErrAnd p (λ y. y ≡ e) → number_of f r ≡ refusal_number e → step_by f p ≡ step_of f r
+  refused p e h k = handed_on p e h refl ∙ turned_away k (number_some e)
 
 -- a test that was asked, and refuses with the number n where it fails
 pub not_met : (b : Bool) {n : ℕ} (e : Refusal) → refusal_number e ≡ cond b 0 n → (b ≡ false) × (refusal_number e ≡ n)

@@ -2,10 +2,11 @@
 #![tactic(auto)]
 
 ghost use Rattle.std.specs.Prelude.{◌≡◌, cond, T, eqb};
-ghost use Rattle.request.specs.Input.{within};
+ghost use Rattle.refusals.specs.Refusals.{outcome_number};
+ghost use Rattle.request.specs.Input.{within, first_refused};
 ghost use Rattle.bounds.specs.Bounds.{within_bounds};
 ghost use Rattle.rules.specs.Kinds.{zone_ahead};
-ghost use Rattle.rules.specs.Step.{number_of, number_and_zeros, acceptance, acceptance_on, along_for, step_of};
+ghost use Rattle.rules.specs.Step.{checks_of, effect_of, number_of, number_and_zeros, acceptance, acceptance_on, along_for, answer_of, step_of};
 ghost use Rattle.step.specs.Outcomes.{JudgesBefore, JudgesAfter, step_by};
 
 use bounds::within_bounds;
@@ -92,6 +93,24 @@ pub fn turned_away(f: Field, number: u16) -> Stepped
     }
 }
 
+// What a request that keeps the input rules does to a field where its bounds are left out, or the reason that refuses it: the first need that is not met
+// refuses it, else it takes effect.
+fn unjudged(f: Field, r: Request) -> Result<Stepped, Refusal>
+    ensures number { outcome_number result ≡ first_refused (checks_of f r) }
+    ensures value { step_by f result ≡ cond (eqb (first_refused (checks_of f r)) 0) (record { answer = answer_of f r; field = effect_of f r })
+        (record { answer = number_and_zeros (first_refused (checks_of f r)); field = f }) }
+{
+    let at = place_of(f, r.number);
+    let ahead = zone_ahead(f, r);
+    check_needs(f, r, at, ahead)?;
+    let along = along_of(f, r, at.zone);
+    let g = effect(f, r, at.zone, ahead);
+    Ok(Stepped {
+        answer: answer(g, r, along),
+        field: g,
+    })
+}
+
 // The step of a request, or the reason that refuses it. Whether the field is within the bounds is asked of one judge, and whether the field after it is
 // of another: a caller who has shown the answer gives it.
 fn course<B: Fn(Field) -> bool, A: Fn(Field) -> bool>(
@@ -107,16 +126,9 @@ fn course<B: Fn(Field) -> bool, A: Fn(Field) -> bool>(
 {
     check_input(r)?;
     require(judge_before(f), Refusal::BoundBroken)?;
-    let at = place_of(f, r.number);
-    let ahead = zone_ahead(f, r);
-    check_needs(f, r, at, ahead)?;
-    let along = along_of(f, r, at.zone);
-    let g = effect(f, r, at.zone, ahead);
-    require(judge_after(g), Refusal::BoundWouldBreak)?;
-    Ok(Stepped {
-        answer: answer(g, r, along),
-        field: g,
-    })
+    let s = unjudged(f, r)?;
+    require(judge_after(s.field), Refusal::BoundWouldBreak)?;
+    Ok(s)
 }
 
 // The step that an outcome stands for.
@@ -149,5 +161,8 @@ pub fn step_unjudged(f: Field, r: Request) -> Stepped
     requires { (number_of f r ≡ 10 → ⊥) × (number_of f r ≡ 25 → ⊥) }
     ensures { result ≡ step_of f r }
 {
-    stepped(f, course(f, r, |_| true, |_| true))
+    if let Err(refusal) = check_input(r) {
+        return turned_away(f, refusal.number());
+    }
+    stepped(f, unjudged(f, r))
 }

@@ -1,17 +1,18 @@
 -- `step::step_unjudged` meets its contract: a number that is neither 10 nor 25 says that the bounds hold before and after. Assumes nothing.
 use mathlib.Core.Path.{◌≡◌, sym, ap, ◌∙◌}
-use mathlib.Core.Bool.{true}
-use borrow.Author.Rules.{rules}
-use Rattle.bounds.specs.Bounds.{within_bounds}
-use Rattle.step.proofs.StepsByTests.{within_before, within_after}
+use Prim.Native.Nat.{ℕ}
+use Rattle.refusals.proofs.Outcomes.{number_some}
+use Rattle.rules.specs.Step.{number_and_zeros}
+use Rattle.step.proofs.StepsByTests.{turned_away, number_input, neither_is_step}
 use Rattle.step.proofs.step_unjudged.Goals as goal
 
-pub course-requires-clause-before : goal.course-requires-clause-before
-course-requires-clause-before c =
+pub returns-in-Err : goal.returns-in-Err
+returns-in-Err c =
     let a = c.args in
-    λ i b said. let yes : b ≡ true = search rules in yes ∙ sym (within_before a.f a.r i c.requires.0)
+    let some = number_some c.in-Err.refusal in
+    c.turned_away.ensures
+    ∙ ap (λ (n : ℕ). record { answer = number_and_zeros n; field = a.f }) c.number.ensures
+    ∙ turned_away a.f a.r (number_input a.f a.r c.in-Err.ensures some) some
 
-pub course-requires-clause-after : goal.course-requires-clause-after
-course-requires-clause-after c =
-    let a = c.args in
-    λ i w m g e b said. let yes : b ≡ true = search rules in yes ∙ sym (ap within_bounds e ∙ within_after a.f a.r i c.requires.1 w m)
+pub returns : goal.returns
+returns c = let a = c.args in c.stepped.ensures ∙ c.unjudged.ensures.value ∙ neither_is_step a.f a.r (sym c.in_default.ensures) c.requires.0 c.requires.1
