@@ -14,9 +14,9 @@ pub fn closed_up<T: Copy, const N: usize>(row: [T; N], k: usize, last: T) -> [T;
 {
     let mut closed = row;
     if k < N {
-        closed[k] = last;
-        let whole = &mut closed[..];
-        whole[k..].rotate_left(1);
+        closed[N - 1] = last;
+        let (before, after) = (&row[..], &mut closed[..]);
+        after[k..N - 1].copy_from_slice(&before[k + 1..]);
     }
     closed
 }

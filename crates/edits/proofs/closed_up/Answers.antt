@@ -1,24 +1,37 @@
--- `edits::closed_up` meets its contract: what stands at index k gives way to the last, which is then turned to the end. Assumes nothing.
-use Rattle.std.proofs.Common.{◌≡◌, ℕ, suc, List, [], ◌∷◌, ◌++◌, length, ◌≤◌, ◌<◌, ◌∙◌, arith, rules}
-use Rattle.std.proofs.Math.ListN.{get_or, set, length-set}
-use Rattle.std.proofs.lemmas.List.{take-set-le, drop-set-lt, get_or-set_same}
-use Rattle.std.proofs.lemmas.Slice.{put_mid-rotated}
-use Rattle.std.specs.List.{remove}
+-- `edits::closed_up` meets its contract: those behind index k are copied one place up, before the last. Assumes nothing.
+use Rattle.std.proofs.Common.{◌≡◌, ℕ, ◌+◌, ◌-◌, suc, List, [], ◌∷◌, ◌++◌, cond, Bool, true, ltb, length, ◌≤◌, ◌<◌, ◌∙◌, sym, ap, arith, rules}
+use Rattle.std.proofs.Math.ListN.{take, drop, set}
+use Rattle.std.proofs.lemmas.List.{take-set-le, take_all, drop-drop, drop-set, drop_all, length-drop}
+use Rattle.std.proofs.lemmas.List.{append_assoc}
+use borrow.Rule.Slice.PartMut.{put_mid}
 use borrow.Author.Tests.{lt-ltb, le-ltb}
 use Rattle.edits.specs.Edits.{closed_up}
 use Rattle.edits.proofs.closed_up.Goals as goal
 
-taken_out : {A : Type 0} (row : List A) (k : ℕ) (last : A) → k < length row → remove (set row k last) k ++ get_or (set row k last) k last ∷ [] ≡ closed_up row k last
+copied : {A : Type 0} (row : List A) (k n : ℕ) (last : A) {behind : List A} → n < length row → length row ≤ suc n → k ≤ n → behind ≡ take (length row - (k + 1)) (drop (k + 1) row)
+    → put_mid k (n - k) (set row n last) behind ≡ closed_up row k last
 unfolding closed_up
-taken_out row k last h =
-    simp (take-set-le k row k last (omega arith), drop-set-lt (suc k) row k last (omega arith), get_or-set_same row k last last h, lt-ltb k (length row) h)
+copied {A = A} row k n last {behind} there short before e =
+    let next : k + 1 ≡ suc k = omega arith in
+    let whole : k + (n - k) ≡ n = omega arith in
+    let many : length (drop (k + 1) row) ≤ length row - (k + 1) = omega (arith, length-drop (k + 1) row) in
+    let rest : behind ≡ drop (suc k) row = e ∙ take_all _ (drop (k + 1) row) many ∙ ap (λ (m : ℕ). drop m row) next in
+    let front = take-set-le k row n last before in
+    let none : drop (n + 1) row ≡ [] = drop_all (n + 1) row (omega arith) in
+    let end : drop (n - k) (drop k (set row n last)) ≡ last ∷ [] =
+    drop-drop (n - k) k (set row n last) ∙ ap (λ (m : ℕ). drop m (set row n last)) whole ∙ drop-set row n last there ∙ ap (λ (l : List A). last ∷ l) none in
+    let within : ltb k (length row) ≡ true = lt-ltb k (length row) (omega arith) in
+    ap (λ (l : List A). take k (set row n last) ++ l) (λ i. rest i ++ end i)
+    ∙ sym (append_assoc (take k (set row n last)) (drop (suc k) row) (last ∷ []))
+    ∙ ap (λ (l : List A). l ++ drop (suc k) row ++ (last ∷ [])) front
+    ∙ sym (ap (λ (t : Bool). cond t (take k row ++ drop (suc k) row ++ (last ∷ [])) row) within)
 
 pub returns-then-k : goal.returns-then-k
 returns-then-k g c =
     let a = c.args in
+    let long : length a.row ≡ g.row.N = search rules in
     let h : a.k < length a.row = search rules in
-    let long = length-set a.row a.k a.last in
-    put_mid-rotated a.k _ (set a.row a.k a.last) _ a.last (omega arith) (omega arith) c.rotate_left.ensures.after ∙ taken_out a.row a.k a.last h
+    copied a.row a.k _ a.last (omega arith) (omega arith) (omega arith) c.copy_from_slice.ensures.after
 
 pub returns-else-k : goal.returns-else-k
 unfolding closed_up
