@@ -1,3 +1,4 @@
+pub mod CountReads
 pub mod Totals
 pub mod NumbersListed
 pub mod FindLaws
