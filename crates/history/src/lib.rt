@@ -56,10 +56,18 @@ pub fn start(legs: Legs) -> History
 fn kept_within_bounds(h: History) -> bool
     ensures { result ≡ kept_within_bounds h }
 {
-    if h.count > MOST_KEPT {
+    let count = h.count;
+    if count > MOST_KEPT {
         return false;
     }
-    h.kept[..h.count].iter().all(|x| within_bounds_indexed(*x))
+    // Each is read by its index: where the array is lent, all eight are copied to the stack first.
+    for i in 0..count {
+        let x = h.kept[i];
+        if !within_bounds_indexed(x) {
+            return false;
+        }
+    }
+    true
 }
 
 // Whether the kept fields and the field are within the bounds.

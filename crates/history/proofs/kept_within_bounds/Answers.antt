@@ -1,30 +1,40 @@
--- `history::kept_within_bounds` meets its contract: at most eight count, and all that count are within the bounds. Assumes nothing.
-use mathlib.Core.Path.{◌≡◌, refl, sym, ap, ◌∙◌}
-use mathlib.Core.Bool.{Bool, ◌&&◌}
-use mathlib.Core.List.{List, [], ◌∷◌}
-use borrow.Author.Rules.{rules}
-use borrow.Author.Tests.{tests, le-leb, lt-leb}
-use Rattle.std.specs.List.{list_all}
-use Rattle.std.proofs.lemmas.Iterator.{YieldsList-from_slice}
-use Rattle.std.proofs.lemmas.Iterator.Search.{all_from_yields_List}
-use Rattle.field.specs.Lists.{every}
-use Rattle.field.proofs.TestParts.{and_then, and_cut}
+-- `history::kept_within_bounds` meets its contract: the kept fields that the loop has passed are within the bounds. Assumes nothing.
+use mathlib.Core.Path.{sym}
+use native.Mathlib.Omega.{arith}
+use borrow.Author.Tests.{le-leb, lt-leb}
+use Rattle.field.proofs.TestParts.{and_then, and_cut, holds, fails}
 use Rattle.finder.specs.Finder.{within_bounds_indexed}
-use Rattle.history.specs.History.{counted, kept_within_bounds}
+use Rattle.history.specs.History.{kept_within_bounds}
+use Rattle.history.proofs.HistoryKnown.{history_known}
+use Rattle.history.proofs.KeptTested.{tested_none, tested_more, tested_not, tested_all}
 use Rattle.history.proofs.kept_within_bounds.Goals as goal
 
-all_every : {A : Type 0} (p : A → Bool) (xs : List A) → list_all p xs ≡ every p xs
-all_every p [] = refl
-all_every p (x ∷ xs) = ap (λ (b : Bool). p x && b) (all_every p xs)
-
-pub returns-then-h-gt-MOST_KEPT : goal.returns-then-h-gt-MOST_KEPT
+pub returns-then-count-gt-MOST_KEPT : goal.returns-then-count-gt-MOST_KEPT
 unfolding kept_within_bounds
-returns-then-h-gt-MOST_KEPT c = sym (and_cut _ (lt-leb _ _ c.if-h-gt-MOST_KEPT.true))
+returns-then-count-gt-MOST_KEPT c = sym (and_cut _ (lt-leb _ _ c.if-count-gt-MOST_KEPT.true))
+
+pub loop-i-init : goal.loop-i-init
+loop-i-init c =
+    let long = (history_known c.args.h c.well_formed.0).places in
+    let few = c.if-count-gt-MOST_KEPT.false in
+    (tested_none within_bounds_indexed c.args.h.kept c.args.h.count (omega (arith, long, few)), few)
+
+pub returns-then-not-within_bounds_indexed : goal.returns-then-not-within_bounds_indexed
+unfolding kept_within_bounds
+returns-then-not-within_bounds_indexed c =
+    let h = c.args.h in
+    let l = c.loop-i in
+    sym (and_then (le-leb _ _ l.invariant.1) (tested_not within_bounds_indexed h.kept h.count l.i _ l.invariant.0 (omega arith) (fails c.within_bounds_indexed.ensures c.if-not-within_bounds_indexed.true-raw)))
+
+pub loop-i-preserved : goal.loop-i-preserved
+loop-i-preserved c =
+    let h = c.args.h in
+    let l = c.loop-i in
+    (tested_more within_bounds_indexed h.kept h.count l.i _ l.invariant.0 (omega arith) (holds c.within_bounds_indexed.ensures c.if-not-within_bounds_indexed.false-raw), l.invariant.1)
 
 pub returns : goal.returns
 unfolding kept_within_bounds
 returns c =
     let h = c.args.h in
-    all_from_yields_List within_bounds_indexed _ _ c.all.result c.all.ensures.ran (YieldsList-from_slice (counted h) cc) (λ x b q k. search (rules, tests))
-    ∙ all_every within_bounds_indexed (counted h)
-    ∙ sym (and_then (le-leb _ _ c.if-h-gt-MOST_KEPT.false) refl)
+    let l = c.loop-i in
+    sym (and_then (le-leb _ _ l.invariant.1) (tested_all within_bounds_indexed h.kept h.count l.i l.invariant.0 (omega arith)))
