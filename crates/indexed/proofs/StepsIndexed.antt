@@ -5,9 +5,6 @@ use Prim.Native.Nat.{ℕ}
 use lib.Dec.{T, eqb}
 use lib.Ieee.Fits.{and_l, and_r}
 use borrow.Author.Tests.{eq-eqb, ne_eqb}
-use Rattle.std.specs.Prelude.{Result}
-use Rattle.std.specs.Result.{IsErrAnd}
-use Rattle.std.proofs.lemmas.Result.{err_from_is_err_and}
 use Rattle.refusals.specs.declared.Refusal.{Refusal}
 use Rattle.refusals.specs.Refusals.{number_of as refusal_number}
 use Rattle.refusals.proofs.Outcomes.{number_some}
@@ -28,7 +25,6 @@ use Rattle.rules.proofs.Ticking.{tick_effect}
 use Rattle.step.proofs.StepsByTests.{asked}
 use Rattle.indexed.specs.declared.SteppedIndexed.{SteppedIndexed}
 use Rattle.indexed.specs.Indexed.{with_index, number_indexed, step_indexed}
-use Rattle.indexed.specs.Outcomes.{step_by}
 
 module _ (x : Indexed) (r : Request) where
   -- the step of a request that is turned away by the number n
@@ -47,11 +43,10 @@ module _ (x : Indexed) (r : Request) where
       ∙ ap (λ (g : Field). record { answer = (step_of x.field r).answer; after = with_index g }) (sym (field_accepted x.field r h))
       ∙ sym (if_true _ _ (eq-eqb (number_indexed x r) 0 e))
 
-  -- the step of a refusal that a `?` hands on
-  pub refused : (p : Result SteppedIndexed Refusal) (e : Refusal) → IsErrAnd p (λ y. y ≡ e) → number_indexed x r ≡ refusal_number e → step_by x p ≡ step_indexed x r
-  refused p e h k =
-      let q = err_from_is_err_and p h in
-      ap (step_by x) q.1 ∙ ap (λ (d : Refusal). record { answer = number_and_zeros (refusal_number d); after = x }) q.2 ∙ turned_away k (number_some e)
+  -- the step of a request that is turned away by the number of a reason
+  pub turned_by : {s : SteppedIndexed} {n : ℕ} (e : Refusal) → s ≡ record { answer = number_and_zeros n; after = x } → n ≡ refusal_number e → number_indexed x r ≡ refusal_number e
+      → s ≡ step_indexed x r
+  turned_by e h p k = h ∙ ap (λ (m : ℕ). record { answer = number_and_zeros m; after = x }) p ∙ turned_away k (number_some e)
 
   -- the number where the input rules are broken, ..
   pub number_input : (input_number r ≡ 0 → ⊥) → number_indexed x r ≡ input_number r

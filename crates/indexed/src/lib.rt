@@ -10,7 +10,6 @@ ghost use Rattle.kept_up.specs.KeptUp.{kept_up};
 ghost use Rattle.rules.specs.Step.{number_and_zeros, acceptance_on};
 ghost use Rattle.step.specs.Outcomes.{JudgesBefore, JudgesAfter};
 ghost use Rattle.indexed.specs.Indexed.{with_index, number_indexed, step_indexed};
-ghost use Rattle.indexed.specs.Outcomes.{step_by};
 
 use bounds::within_bounds;
 use effects::effect;
@@ -103,26 +102,32 @@ fn accepted(a: AnswerAndIndex, g: Field) -> SteppedIndexed
     }
 }
 
-// The step of a request, or the reason that refuses it. Whether the field with its index is within the bounds is asked of one judge, and whether the field
-// after it is of another: a caller who has shown the answer gives it.
+// The step of a request. Whether the field with its index is within the bounds is asked of one judge, and whether the field after it is of another: a
+// caller who has shown the answer gives it. What refuses it is asked on the way, and the field stands in no `Result`: that would be one copy more.
 fn step_by_index<B: Fn(Indexed) -> bool, A: Fn(Field) -> bool>(
     x: Indexed,
     r: Request,
     judge_before: B,
     judge_after: A,
-) -> Result<SteppedIndexed, Refusal>
+) -> SteppedIndexed
     requires callable { B.IsAlwaysCallable judge_before × A.IsAlwaysCallable judge_after }
     requires before { JudgesBefore (B.post judge_before) within_bounds_indexed x r }
     requires after { JudgesAfter (A.post judge_after) x.field r }
-    ensures { step_by x result ≡ step_indexed x r }
+    ensures { result ≡ step_indexed x r }
 {
-    check_input(r)?;
-    require(judge_before(x), Refusal::BoundBroken)?;
+    if let Err(refusal) = check_input(r) {
+        return turned_away(x, refusal.number());
+    }
+    if let Err(refusal) = require(judge_before(x), Refusal::BoundBroken) {
+        return turned_away(x, refusal.number());
+    }
     let f = x.field;
     let index = x.index;
     let at = find(index, r.number);
     let ahead = zone_ahead(index, f.sequence, r);
-    check_needs(f, r, at, ahead)?;
+    if let Err(refusal) = check_needs(f, r, at, ahead) {
+        return turned_away(x, refusal.number());
+    }
     let zone = at.zone;
     let along = along_of(f, r, zone);
     let final_zone = f.zones[FINAL - 1];
@@ -139,26 +144,18 @@ fn step_by_index<B: Fn(Indexed) -> bool, A: Fn(Field) -> bool>(
     let to = situation.leads_to(r, f.sequence);
     let there = f.zones[to - 1].length;
     let g = effect(f, r, zone, ahead);
-    require(judge_after(g), Refusal::BoundWouldBreak)?;
-    let led = led_to(r.kind, r.number, to as u8, (there + 1) as u8);
-    Ok(accepted(answered(index, g, r, along, zone, led), g))
-}
-
-// The step that an outcome stands for.
-fn stepped(x: Indexed, outcome: Result<SteppedIndexed, Refusal>) -> SteppedIndexed
-    ensures { result ≡ step_by x outcome }
-{
-    match outcome {
-        Ok(s) => s,
-        Err(refusal) => turned_away(x, refusal.number()),
+    if let Err(refusal) = require(judge_after(g), Refusal::BoundWouldBreak) {
+        return turned_away(x, refusal.number());
     }
+    let led = led_to(r.kind, r.number, to as u8, (there + 1) as u8);
+    accepted(answered(index, g, r, along, zone, led), g)
 }
 
 // The step: the answer to a request, and the field with its index after it. Both are judged before, and the field after.
 pub fn step_indexed(x: Indexed, r: Request) -> SteppedIndexed
     ensures { result ≡ step_indexed x r }
 {
-    stepped(x, step_by_index(x, r, within_bounds_indexed, within_bounds))
+    step_by_index(x, r, within_bounds_indexed, within_bounds)
 }
 
 // The same step, for a caller who has shown that neither 10 nor 25 is its number: nothing is judged, and the index is not compared with the queues.
@@ -166,5 +163,5 @@ pub fn step_indexed_unjudged(x: Indexed, r: Request) -> SteppedIndexed
     requires { (number_indexed x r ≡ 10 → ⊥) × (number_indexed x r ≡ 25 → ⊥) }
     ensures { result ≡ step_indexed x r }
 {
-    stepped(x, step_by_index(x, r, |_| true, |_| true))
+    step_by_index(x, r, |_| true, |_| true)
 }

@@ -27,12 +27,12 @@ use borrow.Author.Rules.{rules}
 use Rattle.indexed.specs.declared.AnswerAndIndex.{AnswerAndIndex}
 use Rattle.indexed.specs.declared.SteppedIndexed.{SteppedIndexed}
 use Rattle.indexed.specs.Indexed.{with_index}
-use Rattle.indexed.proofs.StepsIndexed.{let_through, refused, number_input, number_10, number_within, field_within, asked_found, tick_leaves}
+use Rattle.indexed.proofs.StepsIndexed.{turned_by, let_through, number_input, number_10, number_within, field_within, asked_found, tick_leaves}
 use Rattle.kept_up.specs.KeptUp.{kept_up}
 use Rattle.kept_up.proofs.Leads.{of_side, leads_within}
 use Rattle.indexed.proofs.IndexAfter.{IndexedKnown, indexed_known, length_there, length_at, few_there, fix_there, kept_up_after}
 use Rattle.indexed.proofs.step_by_index.Given.{Over}
-use Rattle.indexed.proofs.step_by_index.Goals.{In_ok-check_input, In_ok-require, In_ok-check_needs, In_ok-require-2, After-zone_ahead-ahead, After-side_of-side, After-leads_to-to, After-effect-g, After-judge_after}
+use Rattle.indexed.proofs.step_by_index.Goals.{In_default, In_default-require, In_default-check_needs, In_default-require-2, After-zone_ahead-ahead, After-side_of-side, After-leads_to-to, After-effect-g, After-judge_after}
 use Rattle.indexed.proofs.step_by_index.Goals as goal
 
 -- the step by the answer and the index, and the field after it
@@ -49,27 +49,27 @@ made f r {at} {along} {g} {a} p el eg ea =
     stepped h n = record { answer = cond (eqb r.kind 12) (number_and_zeros 0) (acceptance_on h r n); after = record { field = h; index = index_of h } }
 
 -- ---- what is known where a test is passed
-allowed : (g : Over) (c : In_ok-check_input g) → input_number c.args.r ≡ 0
-allowed g c = sym c.in_ok-check_input.ensures
+allowed : (g : Over) (c : In_default g) → input_number c.args.r ≡ 0
+allowed g c = sym c.in_default.ensures
 
-bounded : (g : Over) (c : In_ok-require g) → within_bounds_indexed c.args.x ≡ true
+bounded : (g : Over) (c : In_default-require g) → within_bounds_indexed c.args.x ≡ true
 unfolding number_of
-bounded g c = sym (c.requires.before (sym c.in_ok-check_input.ensures) _ c.judge_before.ensures) ∙ was_met _ c.in_ok-require.ensures (λ e. omega arith)
+bounded g c = sym (c.requires.before (sym c.in_default.ensures) _ c.judge_before.ensures) ∙ was_met _ c.in_default-require.ensures (λ e. omega arith)
 
-known : (g : Over) (c : In_ok-require g) → IndexedKnown c.args.x
+known : (g : Over) (c : In_default-require g) → IndexedKnown c.args.x
 known g c = indexed_known c.args.x c.well_formed.0 (pass (bounded g c))
 
 -- what the index finds
 found : (g : Over) (c : After-zone_ahead-ahead g) → c.find-at.result ≡ place_before c.args.x.field c.args.r
-found g c = c.find-at.ensures ∙ indexed_as_looked c.args.x (pass (bounded g (goal.at.After-zone_ahead-ahead g c).In_ok-require)) c.args.r.number
+found g c = c.find-at.ensures ∙ indexed_as_looked c.args.x (pass (bounded g (goal.at.After-zone_ahead-ahead g c).In_default-require)) c.args.r.number
 
 leader : (g : Over) (c : After-zone_ahead-ahead g) → c.zone_ahead-ahead.result ≡ asked c.args.x.field c.args.r
-leader g c = asked_found c.args.x (pass (bounded g (goal.at.After-zone_ahead-ahead g c).In_ok-require)) c.args.r c.zone_ahead-ahead.ensures
+leader g c = asked_found c.args.x (pass (bounded g (goal.at.After-zone_ahead-ahead g c).In_default-require)) c.args.r c.zone_ahead-ahead.ensures
 
-met : (g : Over) (c : In_ok-check_needs g) → first_refused (checks_of c.args.x.field c.args.r) ≡ 0
+met : (g : Over) (c : In_default-check_needs g) → first_refused (checks_of c.args.x.field c.args.r) ≡ 0
 met g c =
-    let at = (goal.at.In_ok-check_needs g c).After-zone_ahead-ahead in
-    sym (checked c.args.x.field c.args.r (found g at) (leader g at) c.in_ok-check_needs.ensures)
+    let at = (goal.at.In_default-check_needs g c).After-zone_ahead-ahead in
+    sym (checked c.args.x.field c.args.r (found g at) (leader g at) c.in_default-check_needs.ensures)
 
 -- what is read of the field for where the request leads
 side-within : (g : Over) (c : After-side_of-side g) → Between 1 2 c.side_of-side.result
@@ -99,7 +99,7 @@ led-within : (g : Over) (c : After-leads_to-to g) → Between 1 13 c.leads_to-to
 led-within g c = subst⁻¹ (Between 1 13) c.leads_to-to.ensures (leads_within _ _ _ _ _ _ _ _ _)
 
 there-few : (g : Over) (c : After-leads_to-to g) → (get_or c.args.x.field.zones (c.leads_to-to.result - 1) (record { aircraft = []; length = 0 })).length ≤ 4
-there-few g c = few_there (known g (goal.at.After-leads_to-to g c).In_ok-require) _ (led-within g c)
+there-few g c = few_there (known g (goal.at.After-leads_to-to g c).In_default-require) _ (led-within g c)
 
 -- the field after the step
 after : (g : Over) (c : After-effect-g g) → c.effect-g.result ≡ effect_of c.args.x.field c.args.r
@@ -111,12 +111,12 @@ judged : (g : Over) (c : After-judge_after g) → c.judge_after.result ≡ withi
 judged g c =
     let at = goal.at.After-judge_after g c in
     let is = after g at.After-effect-g in
-    c.requires.after (allowed g at.In_ok-check_input) (field_within c.args.x (pass (bounded g at.In_ok-require))) (met g at.In_ok-check_needs) _ is _ c.judge_after.ensures
+    c.requires.after (allowed g at.In_default) (field_within c.args.x (pass (bounded g at.In_default-require))) (met g at.In_default-check_needs) _ is _ c.judge_after.ensures
     ∙ ap within_bounds is
 
-stays : (g : Over) (c : In_ok-require-2 g) → within_bounds (effect_of c.args.x.field c.args.r) ≡ true
+stays : (g : Over) (c : In_default-require-2 g) → within_bounds (effect_of c.args.x.field c.args.r) ≡ true
 unfolding number_of
-stays g c = sym (judged g (goal.at.In_ok-require-2 g c).After-judge_after) ∙ was_met _ c.in_ok-require-2.ensures (λ e. omega arith)
+stays g c = sym (judged g (goal.at.In_default-require-2 g c).After-judge_after) ∙ was_met _ c.in_default-require-2.ensures (λ e. omega arith)
 
 -- ---- each bound on the way
 pub overflow_sub-situation : goal.overflow_sub-situation
@@ -154,70 +154,70 @@ answered-requires g c =
     let x = c.args.x in
     let f = x.field in
     let at = goal.at.answered-requires g c in
-    let own = pass (bounded g at.In_ok-require) in
+    let own = pass (bounded g at.In_default-require) in
     let is = after g at.After-effect-g in
     let side = side_is g at.After-side_of-side in
-    let zero = number_after f c.args.r (allowed g at.In_ok-check_input) (field_within x own) (met g at.In_ok-check_needs) (stays g at.In_ok-require-2) in (
-      subst⁻¹ (λ (h : Field). T (within_bounds h)) is (pass (stays g at.In_ok-require-2)),
+    let zero = number_after f c.args.r (allowed g at.In_default) (field_within x own) (met g at.In_default-check_needs) (stays g at.In_default-require-2) in (
+      subst⁻¹ (λ (h : Field). T (within_bounds h)) is (pass (stays g at.In_default-require-2)),
       (λ k. tick_leaves x own c.args.r k ∙ sym (ap index_of is)),
       λ t. ap (λ (to : Entry). kept_up c.find-at.result.zone to x.index) c.led_to-led.ensures
-          ∙ kept_up_after (known g at.In_ok-require) zero
+          ∙ kept_up_after (known g at.In_default-require) zero
           (record {
             zone_is = ap (λ (p : Place). p.zone) (found g at.After-zone_ahead-ahead);
             ahead_is = leader g at.After-zone_ahead-ahead;
-            across_is = length_at (known g at.In_ok-require) _ (across-at g at.After-side_of-side) (across-within g at.After-side_of-side) ∙ ap (λ (v : ℕ). how_many f (base (opposite v))) side;
-            above_is = length_there (known g at.In_ok-require) _ (above_within g at.After-side_of-side) ∙ ap (how_many f) side;
-            below_is = length_there (known g at.In_ok-require) _ (below-within g at.After-side_of-side) ∙ ap (λ (v : ℕ). how_many f (2 + v)) side;
-            fix_is = fix_there (known g at.In_ok-require) _ _;
+            across_is = length_at (known g at.In_default-require) _ (across-at g at.After-side_of-side) (across-within g at.After-side_of-side) ∙ ap (λ (v : ℕ). how_many f (base (opposite v))) side;
+            above_is = length_there (known g at.In_default-require) _ (above_within g at.After-side_of-side) ∙ ap (how_many f) side;
+            below_is = length_there (known g at.In_default-require) _ (below-within g at.After-side_of-side) ∙ ap (λ (v : ℕ). how_many f (2 + v)) side;
+            fix_is = fix_there (known g at.In_default-require) _ _;
           })
-          c.leads_to-to.ensures (length_there (known g at.In_ok-require) _ (led-within g at.After-leads_to-to)) is t,
+          c.leads_to-to.ensures (length_there (known g at.In_default-require) _ (led-within g at.After-leads_to-to)) is t,
     )
 
 -- ---- each return
-pub returns-in_err-check_input : goal.returns-in_err-check_input
-returns-in_err-check_input g c =
+pub returns-in-Err : goal.returns-in-Err
+returns-in-Err g c =
     let a = c.args in
-    let input = c.in_err-check_input.ensures in
-    refused a.x a.r _ _ c.from_residual.ensures.1 (number_input a.x a.r (λ z. number_some _ (input ∙ z)) ∙ sym input)
+    let input = c.in-Err.ensures in
+    turned_by a.x a.r _ c.turned_away.ensures c.number.ensures (number_input a.x a.r (λ z. number_some _ (input ∙ z)) ∙ sym input)
 
-pub returns-in_err-require : goal.returns-in_err-require
+pub returns-in-Err-require : goal.returns-in-Err-require
 unfolding number_of
-returns-in_err-require g c =
+returns-in-Err-require g c =
     let a = c.args in
-    let i = allowed g (goal.at.returns-in_err-require g c).In_ok-check_input in
-    let broken = not_met _ _ c.in_err-require.ensures in
-    refused a.x a.r _ _ c.from_residual-in_err-require.ensures.1 (number_10 a.x a.r i (sym (c.requires.before i _ c.judge_before.ensures) ∙ broken.0) ∙ sym broken.1)
+    let i = allowed g (goal.at.returns-in-Err-require g c).In_default in
+    let broken = not_met _ _ c.in-Err-require.ensures in
+    turned_by a.x a.r _ c.turned_away-in-Err-require.ensures c.number-in-Err-require.ensures (number_10 a.x a.r i (sym (c.requires.before i _ c.judge_before.ensures) ∙ broken.0) ∙ sym broken.1)
 
-pub returns-in_err-check_needs : goal.returns-in_err-check_needs
-returns-in_err-check_needs g c =
+pub returns-in-Err-check_needs : goal.returns-in-Err-check_needs
+returns-in-Err-check_needs g c =
     let a = c.args in
-    let at = goal.at.returns-in_err-check_needs g c in
-    let i = allowed g at.In_ok-check_input in
-    let w = bounded g at.In_ok-require in
-    let need = checked a.x.field a.r (found g at.After-zone_ahead-ahead) (leader g at.After-zone_ahead-ahead) c.in_err-check_needs.ensures in
-    refused a.x a.r _ _ c.from_residual-in_err-check_needs.ensures.1
+    let at = goal.at.returns-in-Err-check_needs g c in
+    let i = allowed g at.In_default in
+    let w = bounded g at.In_default-require in
+    let need = checked a.x.field a.r (found g at.After-zone_ahead-ahead) (leader g at.After-zone_ahead-ahead) c.in-Err-check_needs.ensures in
+    turned_by a.x a.r _ c.turned_away-in-Err-check_needs.ensures c.number-in-Err-check_needs.ensures
     (number_within a.x a.r i w ∙ number_need a.x.field a.r i (field_within a.x (pass w)) need (number_some _))
 
-pub returns-in_err-require-2 : goal.returns-in_err-require-2
+pub returns-in-Err-require-2 : goal.returns-in-Err-require-2
 unfolding number_of
-returns-in_err-require-2 g c =
+returns-in-Err-require-2 g c =
     let a = c.args in
-    let at = goal.at.returns-in_err-require-2 g c in
-    let i = allowed g at.In_ok-check_input in
-    let w = bounded g at.In_ok-require in
-    let broken = not_met _ _ c.in_err-require-2.ensures in
-    refused a.x a.r _ _ c.from_residual-in_err-require-2.ensures.1
+    let at = goal.at.returns-in-Err-require-2 g c in
+    let i = allowed g at.In_default in
+    let w = bounded g at.In_default-require in
+    let broken = not_met _ _ c.in-Err-require-2.ensures in
+    turned_by a.x a.r _ c.turned_away-in-Err-require-2.ensures c.number-in-Err-require-2.ensures
     (number_within a.x a.r i w
-    ∙ number_after a.x.field a.r i (field_within a.x (pass w)) (met g at.In_ok-check_needs) (sym (judged g at.After-judge_after) ∙ broken.0)
+    ∙ number_after a.x.field a.r i (field_within a.x (pass w)) (met g at.In_default-check_needs) (sym (judged g at.After-judge_after) ∙ broken.0)
     ∙ sym broken.1)
 
 pub returns : goal.returns
 returns g c =
     let a = c.args in
     let at = goal.at.returns g c in
-    let i = allowed g at.In_ok-check_input in
-    let w = bounded g at.In_ok-require in
-    let zero = number_after a.x.field a.r i (field_within a.x (pass w)) (met g at.In_ok-check_needs) (stays g at.In_ok-require-2) in
+    let i = allowed g at.In_default in
+    let w = bounded g at.In_default-require in
+    let zero = number_after a.x.field a.r i (field_within a.x (pass w)) (met g at.In_default-check_needs) (stays g at.In_default-require-2) in
     c.accepted.ensures
     ∙ made a.x.field a.r (found g at.After-zone_ahead-ahead) c.along_of-along.ensures (after g at.After-effect-g) c.answered.ensures
     ∙ let_through a.x a.r (number_within a.x a.r i w ∙ zero) zero
