@@ -8,7 +8,7 @@ ghost use Rattle.questions.specs.Find.{fix_of};
 ghost use Rattle.field.specs.Lists.{every};
 ghost use Rattle.bounds.specs.Bounds.{bound_a, bound_b, lateral_rule, bound_c, bound_d, final_first, is_nobody, zone_kept, sequence_kept, bound_e, bound_f, within_bounds};
 
-use field::airspace::{opposite, order_length};
+use field::airspace::opposite;
 use field::zones::{AT_2000, FINAL, LAST_LATERAL, LATERAL, MISSED, RUNWAY};
 use field::{Aircraft, Field, Sequence, Zone};
 use fits::{bound_g, is_waiting};
@@ -98,14 +98,7 @@ pub fn zone_kept(q: Zone) -> bool
 fn zones_kept(f: Field) -> bool
     ensures { result ≡ every (λ z. zone_kept (zone_of f z)) everywhere }
 {
-    // Each zone is read by its number: where the array is lent, the whole field is copied first.
-    for zone in 1..=RUNWAY {
-        let q = f.zones[zone - 1];
-        if !zone_kept(q) {
-            return false;
-        }
-    }
-    true
+    f.zones.iter().all(|q| zone_kept(*q))
 }
 
 // Whether the sequence's length fits its array, and the places past it are zero.
@@ -128,33 +121,23 @@ pub fn bound_e(f: Field) -> bool
         && sequence_kept(f.sequence)
 }
 
-// The fix of the one at an index of the sequence; past its end the next fix.
-fn fix_at(f: Field, i: usize) -> u8
-    ensures { result ≡ get_or (map (fix_of f) (order_of f.sequence)) i f.next }
-{
-    let s = f.sequence;
-    if i < order_length(s) {
-        return fix_of(f, s.numbers[i]);
-    }
-    f.next
-}
-
 // Bound f: each fix in the sequence, and the next fix after them, is the opposite of the one before.
+#[tactic(auto, unfolding(crate::specs::Bounds::bound_f))]
 pub fn bound_f(f: Field) -> bool
     ensures { result ≡ bound_f f }
 {
-    // A number of the sequence is read by its index: where the sequence is lent, the whole field is copied first.
-    let s = f.sequence;
-    let end = order_length(s);
-    let mut fix = fix_at(f, 0);
-    for i in 0..end {
+    let [first, rest @ ..] = f.sequence.order() else {
+        return true;
+    };
+    let mut fix = fix_of(f, *first);
+    for number in rest {
         let other = opposite(fix);
-        fix = fix_at(f, i + 1);
+        fix = fix_of(f, *number);
         if fix != other {
             return false;
         }
     }
-    true
+    f.next == opposite(fix)
 }
 
 // All seven bounds.

@@ -1,4 +1,3 @@
-pub mod CountReads
 pub mod Totals
 pub mod NumbersListed
 pub mod FindLaws

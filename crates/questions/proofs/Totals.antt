@@ -38,9 +38,6 @@ pub record Added (g : ℕ → ℕ) (first last n z : ℕ) : Type 0 where
   pub sum : n + total g (zones_from z (last + 1 - z)) ≡ total g (zones_from first (last + 1 - first))
 
 module _ (g : ℕ → ℕ) (first last : ℕ) where
-  pub added_none : first ≤ last + 1 → Added g first last 0 first
-  added_none h = record { low = omega arith; high = h; small = omega arith; sum = omega arith }
-
   pub added_more : (n z m : ℕ) → Added g first last n z → z ≤ last → m ≡ g z → g z ≤ 4 → Added g first last (n + m) (z + 1)
   added_more n z m a h e small =
       record { low = omega arith; high = omega arith; small = omega arith; sum = omega (arith, next) }

@@ -4,8 +4,7 @@ ghost use Rattle.field.specs.Airspace as airspace;
 ghost use Rattle.questions.specs.Find.{place_of, aircraft_at, fix_of, is_first, leader_of, leader_zone};
 
 use crate::Place;
-use field::airspace::{nobody, queue_length, zone_of};
-use field::zones::RUNWAY;
+use field::airspace::{nobody, zone_of};
 use field::{Aircraft, Field, Sequence, Zone};
 
 // Where a number is on the field: the first zone that has it, and its first place there from 1; 0 and 0 where it is absent.
@@ -13,16 +12,12 @@ pub fn place_of(f: Field, number: u16) -> Place
     ensures { result ≡ place_of f number }
 {
     let mut found = Place { zone: 0, place: 0 };
-    // Each zone is read by its number: where the array is lent, the whole field is copied first.
-    'zones: for zone in 1..=RUNWAY {
-        let q = f.zones[zone - 1];
-        let end = queue_length(q);
-        for i in 0..end {
-            let a = q.aircraft[i];
+    'zones: for (i, q) in f.zones.iter().enumerate() {
+        for (k, a) in q.queue().iter().enumerate() {
             if a.number == number {
                 found = Place {
-                    zone: zone as u8,
-                    place: i + 1,
+                    zone: i as u8 + 1,
+                    place: k + 1,
                 };
                 break 'zones;
             }

@@ -1,33 +1,33 @@
--- `questions::counts::with_fix_from` meets its contract. The loop's invariant: what is added up before a zone. Assumes nothing.
-use mathlib.Core.Path.{◌≡◌, ◌∙◌}
-use Prim.Native.Nat.{◌≤◌}
-use native.Mathlib.Omega.{arith}
-use Rattle.questions.specs.Counts.{how_many_with_fix}
-use Rattle.field.proofs.FieldKnown.{field_known}
-use Rattle.questions.proofs.CountReads.{fixes_read}
-use Rattle.questions.proofs.Totals.{added_none, added_more, added_all, with_fix_fits}
-use Rattle.questions.proofs.counts.with_fix_from.Goals.{After-have_fix-n}
+-- `questions::counts::with_fix_from` meets its contract: the sum along the array is that over the zones, of at most four each. Assumes nothing.
+use Rattle.std.proofs.Common.{rules, arith, ◌≡◌, ◌≤◌, ◌-◌, ◌∙◌, ℕ, suc, ap, sum_by, take, drop}
+use Rattle.field.specs.declared.Field.{Field}
+use Rattle.field.specs.Airspace.{zones_from, queue_of, in_zone}
+use Rattle.field.proofs.FieldKnown.{FieldKnown, field_known}
+use Rattle.questions.specs.Counts.{total, have_fix, how_many_with_fix}
+use Rattle.questions.proofs.Totals.{along_zones, with_fix_fits, total_fits}
 use Rattle.questions.proofs.counts.with_fix_from.Goals as goal
 
-same : (c : After-have_fix-n) → c.have_fix-n.result ≡ how_many_with_fix c.args.f
-    c.args.side c.loop-zone.zone
-same c =
-    let f = c.args.f in
-    let thirteen = (field_known f c.well_formed.0).zones in
-    c.have_fix-n.ensures ∙ fixes_read f c.args.side c.loop-zone.zone _ thirteen (omega arith) (omega arith)
+along : {f : Field} → FieldKnown f → (side first : ℕ) → 1 ≤ first → first ≤ 12
+    → sum_by (λ q. have_fix side (queue_of q)) (take (12 - (first - 1)) (drop (first - 1) f.zones)) ≡ total (how_many_with_fix f side) (zones_from first (13 - first))
+unfolding in_zone how_many_with_fix
+along {f} known side first low high =
+    let e : suc (first - 1) ≡ first = omega arith in
+    let m : 12 - (first - 1) ≡ 13 - first = omega arith in
+    along_zones f (λ q. have_fix side (queue_of q)) (first - 1) (12 - (first - 1)) (omega (arith, known.zones))
+    ∙ ap (λ (z : ℕ). total (how_many_with_fix f side) (zones_from z (12 - (first - 1)))) e
+    ∙ ap (λ (n : ℕ). total (how_many_with_fix f side) (zones_from first n)) m
 
-few : (c : After-have_fix-n) → how_many_with_fix c.args.f c.args.side c.loop-zone.zone ≤ 4
-few c =
-    with_fix_fits (field_known c.args.f c.well_formed.0) _ _
-
-pub loop-zone-init : goal.loop-zone-init
-loop-zone-init c = added_none _ c.args.first 12 (omega arith)
-
-pub overflow_add-n : goal.overflow_add-n
-overflow_add-n c = record { fits = omega (arith, same (goal.at.overflow_add-n c).After-have_fix-n, few (goal.at.overflow_add-n c).After-have_fix-n) }
-
-pub loop-zone-preserved : goal.loop-zone-preserved
-loop-zone-preserved c = added_more _ c.args.first 12 _ _ _ c.loop-zone.invariant (omega arith) (same (goal.at.loop-zone-preserved c).After-have_fix-n) (few (goal.at.loop-zone-preserved c).After-have_fix-n)
+pub sum-requires-clause-fits : goal.sum-requires-clause-fits
+sum-requires-clause-fits c =
+    let a = c.args in
+    let known = field_known a.f c.well_formed.0 in
+    let all = along known a.side a.first (omega arith) (omega arith) in
+    let most = total_fits (how_many_with_fix a.f a.side) (with_fix_fits known a.side) a.first (13 - a.first) in
+    let small : sum_by (λ q. have_fix a.side (queue_of q)) (take (12 - (a.first - 1)) (drop (a.first - 1) a.f.zones)) ≤ 52 = omega arith in
+    search rules
 
 pub returns : goal.returns
-returns c = added_all _ c.args.first 12 _ _ c.loop-zone.invariant (omega arith)
+returns c =
+    let a = c.args in
+    let counted : c.sum.result ≡ sum_by (λ q. have_fix a.side (queue_of q)) (take (12 - (a.first - 1)) (drop (a.first - 1) a.f.zones)) = search rules in
+    counted ∙ along (field_known a.f c.well_formed.0) a.side a.first (omega arith) (omega arith)
