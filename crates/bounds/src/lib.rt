@@ -109,8 +109,10 @@ pub fn sequence_kept(s: Sequence) -> bool
     s.length <= 4 && s.numbers[s.length..].iter().all(|n| *n == 0)
 }
 
-// Bound e: numbers, the sequence, the head of final, lengths and the places past them.
+// Bound e: numbers, the sequence, the head of final, lengths and the places past them. It is not laid into `within_bounds`: there its copies of the
+// field, where the zones are lent, would fall apart into one of each zone.
 #[tactic(auto, unfolding(crate::specs::Bounds::bound_e))]
+#[inline(never)]
 pub fn bound_e(f: Field) -> bool
     ensures { result ≡ bound_e f }
 {
@@ -126,7 +128,9 @@ pub fn bound_e(f: Field) -> bool
 pub fn bound_f(f: Field) -> bool
     ensures { result ≡ bound_f f }
 {
-    let [first, rest @ ..] = f.sequence.order() else {
+    // A local of its own: the whole field would be copied where the sequence is lent.
+    let s = f.sequence;
+    let [first, rest @ ..] = s.order() else {
         return true;
     };
     let mut fix = fix_of(f, *first);

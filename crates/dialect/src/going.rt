@@ -47,7 +47,9 @@ fn everyone(f: Field) -> Listing
     ensures { result ≡ entries_listed (entries_of f) }
 {
     let mut entries = [no_entry(); 5];
-    let order = f.sequence.order();
+    // The sequence is a local of its own: the whole field would be copied where it is lent.
+    let s = f.sequence;
+    let order = s.order();
     for (i, number) in order.iter().enumerate() {
         entries[i] = entry_of(f, *number, (i + 1) as u16);
     }

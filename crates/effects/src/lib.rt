@@ -40,12 +40,13 @@ fn moved(f: Field, from: usize, to: usize) -> Field
     ensures { result ≡ moved f from to }
 {
     let a = arrived(f.legs, to, aircraft_at(f, from, 1));
-    if !in_range(Range(1, 13), from) || !in_range(Range(1, 13), to) {
-        return tail_put(head_gone(f, from), to, a);
-    }
     let mut after = f;
-    after.zones[from - 1] = without_head(after.zones[from - 1]);
-    after.zones[to - 1] = with_tail(after.zones[to - 1], a);
+    if in_range(Range(1, 13), from) {
+        after.zones[from - 1] = without_head(after.zones[from - 1]);
+    }
+    if in_range(Range(1, 13), to) {
+        after.zones[to - 1] = with_tail(after.zones[to - 1], a);
+    }
     after
 }
 
@@ -78,13 +79,15 @@ fn fix_taken(f: Field, side: u8) -> u8
 }
 
 // Kinds 1 and 2: the field with the request's aircraft entered into a zone.
-#[tactic(auto, unfolding(rules::specs::Kinds::entered))]
+#[tactic(auto, unfolding(rules::specs::Kinds::entered, edits::specs::Edits::with_sequence))]
 fn entered(f: Field, r: Request, zone: usize) -> Field
     ensures { result ≡ entered f r zone }
 {
     let fix = fix_taken(f, r.side);
-    let g = tail_put(f, zone, entering(r.number, fix, r.amount, r.desk));
-    with_sequence(g, appended(f.sequence, r.number), opposite(fix))
+    let mut after = tail_put(f, zone, entering(r.number, fix, r.amount, r.desk));
+    after.sequence = appended(f.sequence, r.number);
+    after.next = opposite(fix);
+    after
 }
 
 // Kind 1: the field with 3000 of a side empty: whoever was there has descended.

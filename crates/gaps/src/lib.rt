@@ -141,7 +141,9 @@ fn pairs_listed(f: Field, spacing: u16) -> Spacings
 {
     let mut pairs = [no_pair(); 3];
     let mut count = 0;
-    for neighbours in f.sequence.order().windows(2) {
+    // The sequence is a local of its own: the whole field would be copied where it is lent.
+    let s = f.sequence;
+    for neighbours in s.order().windows(2) {
         let leader = neighbours[0];
         let follower = neighbours[1];
         if both_on_approach(f, leader, follower) {

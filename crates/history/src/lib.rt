@@ -153,7 +153,8 @@ fn check_back(h: History, desk: u8) -> Result<(), Refusal>
     require(h.count != 0, Refusal::NothingToTakeBack)
 }
 
-// One step back by a desk: zeros, and the last kept field.
+// One step back by a desk: zeros, and the last kept field. It is not laid into its callers: their stack would hold its eight fields once more.
+#[inline(never)]
 pub fn step_back(h: History, desk: u8) -> SteppedHistory
     ensures { result ≡ step_back h desk }
 {

@@ -7,7 +7,9 @@ use crate::Place;
 use field::airspace::{nobody, zone_of};
 use field::{Aircraft, Field, Sequence, Zone};
 
-// Where a number is on the field: the first zone that has it, and its first place there from 1; 0 and 0 where it is absent.
+// Where a number is on the field: the first zone that has it, and its first place there from 1; 0 and 0 where it is absent. It is laid into each
+// caller: called, it would be handed a copy of the field.
+#[inline(always)]
 pub fn place_of(f: Field, number: u16) -> Place
     ensures { result ≡ place_of f number }
 {
@@ -46,7 +48,8 @@ pub fn aircraft_at(f: Field, zone: usize, place: usize) -> Aircraft
     aircraft_in(zone_of(f, zone), place)
 }
 
-// The fix of the aircraft with a number; 0 where it is absent.
+// The fix of the aircraft with a number; 0 where it is absent. It is not laid into its callers: their stack would hold the field once more.
+#[inline(never)]
 pub fn fix_of(f: Field, number: u16) -> u8
     ensures { result ≡ fix_of f number }
 {

@@ -6,9 +6,6 @@ use mathlib.Core.Bool.{Bool, true, false, cond}
 use Prim.Native.Nat.{ℕ}
 use lib.Dec.{eqb}
 use borrow.Author.Tests.{eq-eqb, ne_eqb, eqb-true, eqb-false}
-use Rattle.std.specs.Prelude.{Result}
-use Rattle.std.specs.Result.{IsErrAnd}
-use Rattle.std.proofs.lemmas.Result.{err_from_is_err_and}
 use Rattle.refusals.specs.declared.Refusal.{Refusal}
 use Rattle.refusals.specs.Refusals.{number_of as refusal_number}
 use Rattle.refusals.proofs.Outcomes.{number_some}
@@ -19,11 +16,11 @@ use Rattle.bounds.specs.Bounds.{within_bounds}
 use Rattle.questions.specs.declared.Place.{Place}
 use Rattle.rules.specs.Kinds.{place_before, zone_before, zone_ahead}
 use Rattle.rules.specs.Step.{checks_for, effect_for, checks_of, effect_of, number_of, number_and_zeros, answer_of, step_of}
-use Rattle.field.proofs.TestLaws.{decided, if_true, if_false}
+use Rattle.field.proofs.TestLaws.{decided, if_true, if_false, either_way}
 use Rattle.field.proofs.TestParts.{is_not}
 use Rattle.rules.specs.declared.Stepped.{Stepped}
 use Rattle.rules.proofs.Checks.{refused_append, checks_refuse, checks_ahead, effect_ahead}
-use Rattle.step.specs.Outcomes.{step_by}
+use Rattle.rules.proofs.StepLaws.{answer_number}
 
 module _ (f : Field) (r : Request) where
   -- the number, test by test
@@ -96,6 +93,25 @@ module _ (f : Field) (r : Request) where
       cond (eqb (first_refused (checks_of f r)) 0) (record { answer = answer_of f r; field = effect_of f r })
       (record { answer = number_and_zeros (first_refused (checks_of f r)); field = f })
 
+  -- its number is that of the first need that is not met, ..
+  pub unjudged_number : unjudged_step.answer.number ≡ first_refused (checks_of f r)
+  unfolding number_and_zeros
+  unjudged_number =
+      either_way (λ (s : Stepped). s.answer.number ≡ first_refused (checks_of f r)) (eqb (first_refused (checks_of f r)) 0) _ _
+      (λ e. answer_number f r ∙ sym (eqb-true (first_refused (checks_of f r)) 0 e))
+      (λ e. refl)
+
+  -- .. and where all are met its answer and its field are those of the effect
+  pub unjudged_met : first_refused (checks_of f r) ≡ 0 → unjudged_step ≡ record { answer = answer_of f r; field = effect_of f r }
+  unjudged_met e = if_true _ _ (eq-eqb (first_refused (checks_of f r)) 0 e)
+
+  pub unjudged_field : first_refused (checks_of f r) ≡ 0 → unjudged_step.field ≡ effect_of f r
+  unjudged_field e = ap (λ (s : Stepped). s.field) (unjudged_met e)
+
+  -- .. where one is not met it is the step of a request that is turned away by its number
+  pub unjudged_turned : (first_refused (checks_of f r) ≡ 0 → ⊥) → unjudged_step ≡ record { answer = number_and_zeros (first_refused (checks_of f r)); field = f }
+  unjudged_turned h = if_false _ _ (ne_eqb (first_refused (checks_of f r)) 0 h)
+
   -- it is the step, of a request that keeps the input rules, where the number is neither 10 nor 25
   pub neither_is_step : input_number r ≡ 0 → (number_of f r ≡ 10 → ⊥) → (number_of f r ≡ 25 → ⊥) → unjudged_step ≡ step_of f r
   neither_is_step i not_10 not_25 =
@@ -106,15 +122,9 @@ module _ (f : Field) (r : Request) where
         | inr e ↦ let some = eqb-false n 0 e in if_false _ _ e ∙ turned_away (number_need i w refl some) some
       ]
 
-  -- the step of a refusal that a `?` hands on, by its number, ..
-  pub handed_on : (p : Result Stepped Refusal) (e : Refusal) {n : ℕ} → IsErrAnd p (λ y. y ≡ e) → refusal_number e ≡ n → step_by f p ≡ record { answer = number_and_zeros n; field = f }
-  handed_on p e h k =
-      let q = err_from_is_err_and p h in
-      ap (step_by f) q.1 ∙ ap (λ (d : Refusal). record { answer = number_and_zeros (refusal_number d); field = f }) q.2 ∙ ap (λ (m : ℕ). record { answer = number_and_zeros m; field = f }) k
-
-  -- .. which is the step, where it is the number of the request
-  pub refused : (p : Result Stepped Refusal) (e : Refusal) → IsErrAnd p (λ y. y ≡ e) → number_of f r ≡ refusal_number e → step_by f p ≡ step_of f r
-  refused p e h k = handed_on p e h refl ∙ turned_away k (number_some e)
+  -- the step of a request that is turned away by the number of a reason
+  pub turned_by : {s : Stepped} {n : ℕ} (e : Refusal) → s ≡ record { answer = number_and_zeros n; field = f } → n ≡ refusal_number e → number_of f r ≡ refusal_number e → s ≡ step_of f r
+  turned_by e h p k = h ∙ ap (λ (m : ℕ). record { answer = number_and_zeros m; field = f }) p ∙ turned_away k (number_some e)
 
 -- a test that was asked, and refuses with the number n where it fails
 pub not_met : (b : Bool) {n : ℕ} (e : Refusal) → refusal_number e ≡ cond b 0 n → (b ≡ false) × (refusal_number e ≡ n)

@@ -1,18 +1,10 @@
--- What the outcome of a request on a field stands for, and what is asked of those who judge the field. Definitions only.
-use Rattle.std.specs.Prelude.{◌≡◌, Bool, true, Result, Ok, Err}
-use Rattle.refusals.specs.declared.Refusal.{Refusal}
-use Rattle.refusals.specs.Refusals.{number_of}
+-- What is asked of those who judge the field, before a step and after it. Definitions only.
+use Rattle.std.specs.Prelude.{◌≡◌, Bool, true}
 use Rattle.request.specs.Input.{first_refused, input_number}
 use Rattle.request.specs.declared.Request.{Request}
 use Rattle.field.specs.declared.Field.{Field}
 use Rattle.bounds.specs.Bounds.{within_bounds}
-use Rattle.rules.specs.declared.Stepped.{Stepped}
-use Rattle.rules.specs.Step.{checks_of, effect_of, number_and_zeros}
-
--- the step that was made, or that of a request that is turned away: the number and zeros, and the field as it was
-abbrev pub step_by : Field → Result Stepped Refusal → Stepped
-step_by f (Ok s) = s
-step_by f (Err e) = record { answer = number_and_zeros (number_of e); field = f }
+use Rattle.rules.specs.Step.{checks_of, effect_of}
 
 -- whoever says whether what is handed in is within the bounds, by the answers that he may give, is right of it where he is asked, ..
 abbrev pub JudgesBefore : {X : Type 0} → (X → Bool → Type 0) → (X → Bool) → X → Request → Type 0

@@ -2,12 +2,11 @@
 #![tactic(auto)]
 
 ghost use Rattle.std.specs.Prelude.{◌≡◌, cond, T, eqb};
-ghost use Rattle.refusals.specs.Refusals.{outcome_number};
 ghost use Rattle.request.specs.Input.{within, first_refused};
 ghost use Rattle.bounds.specs.Bounds.{within_bounds};
 ghost use Rattle.rules.specs.Kinds.{zone_ahead};
 ghost use Rattle.rules.specs.Step.{checks_of, effect_of, number_of, number_and_zeros, acceptance, acceptance_on, along_for, answer_of, step_of};
-ghost use Rattle.step.specs.Outcomes.{JudgesBefore, JudgesAfter, step_by};
+ghost use Rattle.step.specs.Outcomes.{JudgesBefore, JudgesAfter};
 
 use bounds::within_bounds;
 use effects::{effect, shown_at_3000, shown_to};
@@ -93,59 +92,61 @@ pub fn turned_away(f: Field, number: u16) -> Stepped
     }
 }
 
-// What a request that keeps the input rules does to a field where its bounds are left out, or the reason that refuses it: the first need that is not met
-// refuses it, else it takes effect.
-fn unjudged(f: Field, r: Request) -> Result<Stepped, Refusal>
-    ensures number { outcome_number result ≡ first_refused (checks_of f r) }
-    ensures value { step_by f result ≡ cond (eqb (first_refused (checks_of f r)) 0) (record { answer = answer_of f r; field = effect_of f r })
+// What a request that keeps the input rules does to a field where its bounds are left out: the first need that is not met refuses it, else it takes
+// effect. It is not laid into `course`: a request that is refused before it would copy the field's parts all the same.
+#[inline(never)]
+fn unjudged(f: Field, r: Request) -> Stepped
+    ensures { result ≡ cond (eqb (first_refused (checks_of f r)) 0) (record { answer = answer_of f r; field = effect_of f r })
         (record { answer = number_and_zeros (first_refused (checks_of f r)); field = f }) }
 {
     let at = place_of(f, r.number);
     let ahead = zone_ahead(f, r);
-    check_needs(f, r, at, ahead)?;
+    if let Err(refusal) = check_needs(f, r, at, ahead) {
+        return turned_away(f, refusal.number());
+    }
     let along = along_of(f, r, at.zone);
     let g = effect(f, r, at.zone, ahead);
-    Ok(Stepped {
+    Stepped {
         answer: answer(g, r, along),
         field: g,
-    })
+    }
 }
 
-// The step of a request, or the reason that refuses it. Whether the field is within the bounds is asked of one judge, and whether the field after it is
-// of another: a caller who has shown the answer gives it.
+// The step of a request. Whether the field is within the bounds is asked of one judge, and whether the field after it is of another: a caller who has
+// shown the answer gives it. The step itself is handed on, and no outcome with a field in it, which would be copied once more.
 fn course<B: Fn(Field) -> bool, A: Fn(Field) -> bool>(
     f: Field,
     r: Request,
     judge_before: B,
     judge_after: A,
-) -> Result<Stepped, Refusal>
+) -> Stepped
     requires callable { B.IsAlwaysCallable judge_before × A.IsAlwaysCallable judge_after }
     requires before { JudgesBefore (B.post judge_before) within_bounds f r }
     requires after { JudgesAfter (A.post judge_after) f r }
-    ensures { step_by f result ≡ step_of f r }
+    ensures { result ≡ step_of f r }
 {
-    check_input(r)?;
-    require(judge_before(f), Refusal::BoundBroken)?;
-    let s = unjudged(f, r)?;
-    require(judge_after(s.field), Refusal::BoundWouldBreak)?;
-    Ok(s)
-}
-
-// The step that an outcome stands for.
-fn stepped(f: Field, outcome: Result<Stepped, Refusal>) -> Stepped
-    ensures { result ≡ step_by f outcome }
-{
-    match outcome {
-        Ok(s) => s,
-        Err(refusal) => turned_away(f, refusal.number()),
+    if let Err(refusal) = check_input(r) {
+        return turned_away(f, refusal.number());
     }
+    if let Err(refusal) = require(judge_before(f), Refusal::BoundBroken) {
+        return turned_away(f, refusal.number());
+    }
+    let s = unjudged(f, r);
+    let a = s.answer;
+    if a.number != 0 {
+        return s;
+    }
+    if let Err(refusal) = require(judge_after(s.field), Refusal::BoundWouldBreak) {
+        return turned_away(f, refusal.number());
+    }
+    s
 }
 
 // The step: the answer to a request and the field after it. The field is judged before and after.
 pub fn step(f: Field, r: Request) -> Stepped
     ensures { result ≡ step_of f r }
 {
-    stepped(f, course(f, r, within_bounds, within_bounds))
+    course(f, r, within_bounds, within_bounds)
 }
 
 // The same step, for a caller who has shown that the field is within the bounds: only the field after it is judged.
@@ -153,7 +154,7 @@ pub fn step_within(f: Field, r: Request) -> Stepped
     requires { T (within_bounds f) }
     ensures { result ≡ step_of f r }
 {
-    stepped(f, course(f, r, |_| true, within_bounds))
+    course(f, r, |_| true, within_bounds)
 }
 
 // The same step, for a caller who has shown that neither 10 nor 25 is its number: the field is not judged.
@@ -164,5 +165,5 @@ pub fn step_unjudged(f: Field, r: Request) -> Stepped
     if let Err(refusal) = check_input(r) {
         return turned_away(f, refusal.number());
     }
-    stepped(f, unjudged(f, r))
+    unjudged(f, r)
 }
