@@ -151,11 +151,23 @@ fn step_by_index<B: Fn(Indexed) -> bool, A: Fn(Field) -> bool>(
     accepted(answered(index, g, r, along, zone, led), g)
 }
 
-// The step: the answer to a request, and the field with its index after it. Both are judged before, and the field after.
-pub fn step_indexed(x: Indexed, r: Request) -> SteppedIndexed
+// The step with both judged. It is not laid into `step_indexed`, which would make room for it and copy the field where the request is refused by itself.
+#[inline(never)]
+fn judged(x: Indexed, r: Request) -> SteppedIndexed
     ensures { result ≡ step_indexed x r }
 {
     step_by_index(x, r, within_bounds_indexed, within_bounds)
+}
+
+// The step: the answer to a request, and the field with its index after it. Both are judged before, and the field after. The input rules, which
+// `step_by_index` asks as well, are asked before a field is handed on.
+pub fn step_indexed(x: Indexed, r: Request) -> SteppedIndexed
+    ensures { result ≡ step_indexed x r }
+{
+    if let Err(refusal) = check_input(r) {
+        return turned_away(x, refusal.number());
+    }
+    judged(x, r)
 }
 
 // The same step, for a caller who has shown that neither 10 nor 25 is its number: nothing is judged, and the index is not compared with the queues.
